@@ -1,0 +1,120 @@
+// The vocabulary of direction blocking (document 01): settings, steps, the state of a section, answers.
+mod fresh_section;
+mod post_record;
+mod settings_range;
+mod state_range;
+mod step_bytes;
+
+pub use settings_range::is_signalled;
+pub use settings_range::settings_right;
+
+pub const LEAST_POSTS: u8 = 2;
+pub const MOST_POSTS: u8 = 16;
+pub const LARGEST_LINE: u16 = 999;
+pub const LARGEST_TRAIN: u16 = 9999;
+pub const MOST_SEALS: u16 = 999;
+pub const STEP_LENGTH: usize = 8;
+
+// What a line is: n posts, the form (0 telephone, 1 materialised), the mask of signalled posts, the line number.
+pub struct Settings {
+    pub posts: u8,
+    pub form: u8,
+    pub mask: u16,
+    pub line: u16,
+}
+
+// One: the section control reads occupied. Two: the device stays locked. Three: the CIRCULATION lamp is dark.
+pub enum Fault {
+    One,
+    Two,
+    Three,
+}
+
+// A step: one of thirteen kinds, each with only the fields it needs.
+pub enum Step {
+    Order { post: u8 },
+    Set { post: u8 },
+    Announce { post: u8 },
+    Acknowledge { post: u8 },
+    Start { post: u8, number: u16 },
+    Pass { post: u8, number: u16 },
+    Leave { post: u8, number: u16 },
+    MeasuresOn { post: u8 },
+    MeasuresOff { post: u8 },
+    FaultOn { post: u8, fault: Fault },
+    FaultOff { post: u8, fault: Fault },
+    Release { post: u8, number: u16 },
+    Key { post: u8 },
+}
+
+// A step with its track: B, or else A.
+pub struct TrackStep {
+    pub on_b: bool,
+    pub step: Step,
+}
+
+// What eight bytes say.
+pub enum Decoded {
+    Well(TrackStep),
+    Malformed,
+}
+
+// What a post keeps on one track. `cvt`: its device stands at CVT.
+pub struct Post {
+    pub cvt: bool,
+    pub permission: bool,
+    pub measures: bool,
+    pub fault1: bool,
+    pub fault2: bool,
+    pub fault3: bool,
+    pub mark: bool,
+    pub seals: u16,
+}
+
+// What the turn's post is to do next.
+pub enum Act {
+    Set,
+    Announce,
+    Acknowledge,
+}
+
+// No reversal is under way, or it is a post's turn for its act.
+pub enum Walk {
+    Settled,
+    Turn(u8, Act),
+}
+
+// A track. `cvt`: its running direction is CVT. Block section i lies between posts i and i + 1.
+pub struct Track {
+    pub posts: [Post; 16],
+    pub trains: [u16; 15],
+    pub last: [u16; 15],
+    pub cvt: bool,
+    pub walk: Walk,
+}
+
+pub struct Section {
+    pub settings: Settings,
+    pub a: Track,
+    pub b: Track,
+}
+
+// What a step says.
+pub enum Said {
+    Nothing,
+    Cvt,
+    Cvtz,
+    Vns,
+    Vnsz,
+}
+
+pub enum Verdict {
+    Accepted(Said),
+    Refused(u8),
+}
+
+// What the engine answers, and the section after the step.
+pub struct Answer {
+    pub verdict: Verdict,
+    pub section: Section,
+}

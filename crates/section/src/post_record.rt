@@ -1,0 +1,1 @@
+// A post's record: methods by value, one a field.

@@ -1,0 +1,1 @@
+// A step from its eight bytes, and back.
