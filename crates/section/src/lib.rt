@@ -47,9 +47,9 @@ pub enum Step {
     Key { post: u8 },
 }
 
-// A step with its track: B, or else A.
+// A step with its track: true for B, false for A.
 pub struct TrackStep {
-    pub on_b: bool,
+    pub track: bool,
     pub step: Step,
 }
 
@@ -117,4 +117,11 @@ pub enum Verdict {
 pub struct Answer {
     pub verdict: Verdict,
     pub section: Section,
+}
+
+// What a post shows on a track, in the paper's numbers.
+pub struct Indications {
+    pub circulation: u8,
+    pub troncon: u8,
+    pub permission: u8,
 }

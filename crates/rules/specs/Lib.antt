@@ -1,0 +1,4 @@
+pub mod Site
+pub mod Table
+pub mod Judge
+pub mod Indications
