@@ -2,3 +2,4 @@ pub mod Site
 pub mod Table
 pub mod Judge
 pub mod Indications
+pub mod Demand3
