@@ -5,8 +5,16 @@ mod settings_range;
 mod state_range;
 mod step_bytes;
 
+pub use fresh_section::fresh;
+pub use post_record::blank;
 pub use settings_range::is_signalled;
 pub use settings_range::settings_right;
+pub use state_range::block;
+pub use state_range::in_range;
+pub use state_range::is_first;
+pub use state_range::is_last;
+pub use state_range::is_upward;
+pub use state_range::rank;
 pub use step_bytes::decode;
 pub use step_bytes::encode;
 pub use step_bytes::is_well_formed;
