@@ -15,6 +15,9 @@ pub use state_range::is_first;
 pub use state_range::is_last;
 pub use state_range::is_upward;
 pub use state_range::rank;
+pub use step_bytes::decode;
+pub use step_bytes::encode;
+pub use step_bytes::is_well_formed;
 
 pub const LEAST_POSTS: u8 = 2;
 pub const MOST_POSTS: u8 = 16;
