@@ -1,13 +1,15 @@
 // Positions on a track, and the ranges of a state.
 ghost use mathlib.Core.Path.{_≡_};
-ghost use Prim.Native.Nat.{_+_, _<_, _≤_};
+ghost use mathlib.Core.Bool.{_&&_};
+ghost use Prim.Native.Nat.{_+_, _-_, _<_, _≤_};
+ghost use lib.Dec.{leb};
 ghost use Rattle.section.specs.Geometry.{upward, rank, block, isFirst, isLast};
+ghost use Rattle.section.specs.Numbers.{largestTrain, mostSeals};
 ghost use Rattle.section.specs.Range.{sealsFit, numbersFit, actFits, walkFits, trackFits, inRange};
 use crate::settings_right;
 use crate::Act;
 use crate::LARGEST_TRAIN;
 use crate::MOST_SEALS;
-use crate::Post;
 use crate::Section;
 use crate::Track;
 use crate::Walk;
@@ -51,30 +53,31 @@ pub fn is_last(n: u8, up: bool, p: u8) -> bool
     rank(n, up, p) + 1 == n
 }
 
-// The seal counts of the first m posts.
-pub fn seals_fit(posts: [Post; 16], m: u8) -> bool
-    requires { ⌜ m ≤ 16 ⌝ }
-    ensures { λ r. ⌜ r ≡ sealsFit m posts ⌝ }
+// A post's seal count, and the train and the last train of the block section beside it.
+pub fn post_and_block_fit(seals: u16, train: u16, last: u16) -> bool
+    ensures { λ r. ⌜ r ≡ (leb seals mostSeals && (leb train largestTrain && leb last largestTrain)) ⌝ }
 {
-    let mut i = m as usize;
-    while i > 0 {
-        i -= 1;
-        if posts[i].seals > MOST_SEALS {
-            return false;
-        }
+    if seals > MOST_SEALS {
+        return false;
     }
-    true
+    if train > LARGEST_TRAIN {
+        return false;
+    }
+    last <= LARGEST_TRAIN
 }
 
-// The trains, or the last trains, of the first m block sections.
-pub fn numbers_fit(cells: &[u16; 15], m: u8) -> bool
-    requires { ⌜ m ≤ 15 ⌝ }
-    ensures { λ r. ⌜ r ≡ numbersFit m (now (cells .entry)) ⌝ }
+// Every post and block section of a track, in one loop from the last post down.
+pub fn cells_fit(n: u8, t: Track) -> bool
+    requires { ⌜ (1 ≤ n) × (n ≤ 16) ⌝ }
+    ensures { λ r. ⌜ r ≡ (sealsFit n (t .posts) && (numbersFit (n - 1) (t .trains) && numbersFit (n - 1) (t .last))) ⌝ }
 {
-    let mut i = m as usize;
+    let mut i = (n - 1) as usize;
+    if t.posts[i].seals > MOST_SEALS {
+        return false;
+    }
     while i > 0 {
         i -= 1;
-        if cells[i] > LARGEST_TRAIN {
+        if !post_and_block_fit(t.posts[i].seals, t.trains[i], t.last[i]) {
             return false;
         }
     }
@@ -112,13 +115,7 @@ pub fn track_fits(n: u8, track: bool, t: Track) -> bool
     requires { ⌜ (1 ≤ n) × (n ≤ 16) ⌝ }
     ensures { λ r. ⌜ r ≡ trackFits n track t ⌝ }
 {
-    if !seals_fit(t.posts, n) {
-        return false;
-    }
-    if !numbers_fit(&t.trains, n - 1) {
-        return false;
-    }
-    if !numbers_fit(&t.last, n - 1) {
+    if !cells_fit(n, t) {
         return false;
     }
     walk_fits(n, is_upward(track, t.cvt), t.walk)
