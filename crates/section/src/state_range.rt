@@ -118,7 +118,8 @@ pub fn track_fits(n: u8, on_b: bool, t: Track) -> bool
     if !cells_fit(n, t) {
         return false;
     }
-    walk_fits(n, is_upward(on_b, t.cvt), t.walk)
+    let walk = t.walk;
+    walk_fits(n, is_upward(on_b, t.cvt), walk)
 }
 
 // What refusal 6 asks for.
