@@ -1,3 +1,4 @@
+-- The loop counts down: the whole test is the test of the cells below i.
 use Prim.Native.Nat.{_-_, _<_}
 use mathlib.Core.Bool.{_&&_}
 use mathlib.Core.Path.{_≡_, sym, _∙_}
@@ -7,12 +8,9 @@ use Rattle.section.proofs.Laws.{seals-stop, seals-go-on, cells, cells-s
 use Rattle.section.proofs.Told.{told-false, told-true}
 use Rattle.section.proofs.state_range.cells_fit.Statement.{statement}
 use Rattle.section.proofs.state_range.cells_fit.Tie as tie
-use Rattle.section.proofs.state_range.cells_fit.Reads as reads
-use Rattle.section.proofs.state_range.cells_fit.Lts as lts
-use Rattle.section.proofs.state_range.post_and_block_fit.Reads as post-and-block-fit-reads
 
 abbrev Inv-loop : tie.InvT-loop
-Inv-loop n t i₀ i = 
+Inv-loop n t i₀ i =
     (i < n) × ((sealsFit n (t .posts) && (numbersFit (n - 1) (t .trains) && numbersFit (n - 1) (t .last))) ≡ cells t i)
 
 abbrev μ-loop : tie.MeasureT-loop
@@ -31,12 +29,12 @@ element-copy-out-if1 : tie.Need-element-copy-out-if1 Inv-loop μ-loop
 element-copy-out-if1 c = omega arith
 
 returns : tie.Need-returns Inv-loop μ-loop
-returns c = 
+returns c =
     let a = c .before .args in
     rw (seals-stop (a .t2 .posts) (a .n) (omega arith) (c .if1 .taken))
 
 loop-holds : tie.Need-loop-holds Inv-loop μ-loop
-loop-holds c = 
+loop-holds c =
     let a = c .before .args in
     (omega arith, rw (seals-go-on (a .t2 .posts) (a .n) (omega arith) (c .if1 .left)))
 
@@ -67,7 +65,7 @@ post-and-block-fit-requires : tie.Need-post-and-block-fit-requires Inv-loop μ-l
 post-and-block-fit-requires c κs = tt
 
 returns-2 : tie.Need-returns-2 Inv-loop μ-loop
-returns-2 c = 
+returns-2 c =
     let b = c .before .before .before .before in
     sym
     (b .before .loop .inv .1
@@ -77,15 +75,16 @@ loop-less : tie.Need-loop-less Inv-loop μ-loop
 loop-less c = omega arith
 
 loop-again : tie.Need-loop-again Inv-loop μ-loop
-loop-again c = 
-    let b = c .before .before .before .before in
-    (omega arith,
-    b .before .loop .inv .1
-    ∙ cells-go-on (b .before .before .before .args .t2) (b .before .loop .i) (b .loop-test .taken) (told-true (c .before .post-and-block-fit .ensures) (c .if2 .left)))
+loop-again c =
+    let b = c .before .before .before .before in (
+      omega arith,
+      b .before .loop .inv .1
+          ∙ cells-go-on (b .before .before .before .args .t2) (b .before .loop .i) (b .loop-test .taken) (told-true (c .before .post-and-block-fit .ensures) (c .if2 .left)),
+    )
 
 returns-3 : tie.Need-returns-3 Inv-loop μ-loop
 unfolding sealsFit numbersFit
-returns-3 c = 
+returns-3 c =
     let e : c .before .loop .i ≡ 0 = omega arith in
     sym (c .before .loop .inv .1 ∙ rw e)
 

@@ -1,14 +1,9 @@
-use native.Mathlib.Omega.{arith}
+use borrow.Author.Needs.{needs}
 use Rattle.section.specs.Range.{inRange}
 use Rattle.section.proofs.Laws.{posts-right}
 use Rattle.section.proofs.Told.{told-false, told-true}
-use borrow.Author.Needs.{needs}
 use Rattle.section.proofs.state_range.in_range.Statement.{statement}
 use Rattle.section.proofs.state_range.in_range.Tie as tie
-use Rattle.section.proofs.state_range.in_range.Reads as reads
-use Rattle.section.proofs.state_range.in_range.Lts as lts
-use Rattle.section.proofs.settings_range.settings_right.Reads as settings-right-reads
-use Rattle.section.proofs.state_range.track_fits.Reads as track-fits-reads
 
 settings-right-requires : tie.Need-settings-right-requires
 settings-right-requires c κs = search needs
@@ -18,23 +13,22 @@ unfolding inRange
 returns c = rw (told-false (c .before .settings-right .ensures) (c .if1 .taken))
 
 track-fits-requires : tie.Need-track-fits-requires
-track-fits-requires c κs = let h = posts-right _ (told-true (c .before .settings-right .ensures) (c .if1 .left)) in (omega arith, h .1)
+track-fits-requires c κs = posts-right _ (told-true (c .before .settings-right .ensures) (c .if1 .left))
 
 returns-2 : tie.Need-returns-2
 unfolding inRange
-returns-2 c = 
+returns-2 c =
     let b = c .before .before in
     rw (told-true (b .before .settings-right .ensures) (b .if1 .left), told-false (c .before .track-fits .ensures) (c .if2 .taken))
 
 track-fits-requires-2 : tie.Need-track-fits-requires-2
-track-fits-requires-2 c κs = 
+track-fits-requires-2 c κs =
     let b = c .before .before in
-    let h = posts-right _ (told-true (b .before .settings-right .ensures) (b .if1 .left)) in
-    (omega arith, h .1)
+    posts-right _ (told-true (b .before .settings-right .ensures) (b .if1 .left))
 
 returns-3 : tie.Need-returns-3
 unfolding inRange
-returns-3 c = 
+returns-3 c =
     let d = c .before in
     let b = d .before .before in
     rw (told-true (b .before .settings-right .ensures) (b .if1 .left), told-true (d .before .track-fits .ensures) (d .if2 .left)) (c .track-fits2 .ensures)

@@ -1,8 +1,6 @@
 use borrow.Author.Tests.{le-leb, lt-leb}
 use Rattle.section.proofs.state_range.post_and_block_fit.Statement.{statement}
 use Rattle.section.proofs.state_range.post_and_block_fit.Tie as tie
-use Rattle.section.proofs.state_range.post_and_block_fit.Reads as reads
-use Rattle.section.proofs.state_range.post_and_block_fit.Lts as lts
 
 returns : tie.Need-returns
 returns c = rw (lt-leb _ _ (c .if1 .taken))

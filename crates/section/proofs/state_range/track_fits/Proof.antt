@@ -1,19 +1,14 @@
+use borrow.Author.Needs.{needs}
 use Rattle.section.proofs.Laws.{track-cells}
 use Rattle.section.proofs.Told.{told-false, told-true}
-use borrow.Author.Needs.{needs}
 use Rattle.section.proofs.state_range.track_fits.Statement.{statement}
 use Rattle.section.proofs.state_range.track_fits.Tie as tie
-use Rattle.section.proofs.state_range.track_fits.Reads as reads
-use Rattle.section.proofs.state_range.track_fits.Lts as lts
-use Rattle.section.proofs.state_range.cells_fit.Reads as cells-fit-reads
-use Rattle.section.proofs.state_range.is_upward.Reads as is-upward-reads
-use Rattle.section.proofs.state_range.walk_fits.Reads as walk-fits-reads
 
 cells-fit-requires : tie.Need-cells-fit-requires
 cells-fit-requires c κs = search needs
 
 returns : tie.Need-returns
-returns c = 
+returns c =
     let a = c .before .before .args in
     rw (track-cells (a .n) (a .on-b) (a .t), told-false (c .before .cells-fit .ensures) (c .if1 .taken))
 
@@ -24,13 +19,14 @@ walk-fits-requires : tie.Need-walk-fits-requires
 walk-fits-requires c κs = search needs
 
 returns-2 : tie.Need-returns-2
-returns-2 c = 
+returns-2 c =
     let b = c .before .before in
     let a = b .before .before .args in
-    rw
-    (track-cells (a .n) (a .on-b) (a .t),
-    told-true (b .before .cells-fit .ensures) (b .if1 .left),
-    ← c .before .is-upward .ensures)
+    rw (
+      track-cells (a .n) (a .on-b) (a .t),
+      told-true (b .before .cells-fit .ensures) (b .if1 .left),
+      ← c .before .is-upward .ensures,
+    )
     (c .walk-fits .ensures)
 
 pub track-fits-spec : {M : Type 1} → statement M
