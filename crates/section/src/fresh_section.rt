@@ -3,12 +3,12 @@ ghost use mathlib.Core.Path.{_≡_};
 ghost use mathlib.Core.Bool.{cond};
 ghost use Prim.Native.Nat.{_-_};
 ghost use Rattle.section.specs.Fresh.{freshTrack, freshSection};
-use crate::blank;
 use crate::MOST_POSTS;
 use crate::Section;
 use crate::Settings;
 use crate::Track;
 use crate::Walk;
+use crate::blank;
 
 // The post that may start trains on a fresh track.
 pub fn fresh_start(n: u8, track: bool) -> u8

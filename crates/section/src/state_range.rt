@@ -6,13 +6,13 @@ ghost use lib.Dec.{leb};
 ghost use Rattle.section.specs.Geometry.{upward, rank, block, isFirst, isLast};
 ghost use Rattle.section.specs.Numbers.{largestTrain, mostSeals};
 ghost use Rattle.section.specs.Range.{sealsFit, numbersFit, actFits, walkFits, trackFits, inRange};
-use crate::settings_right;
 use crate::Act;
 use crate::LARGEST_TRAIN;
 use crate::MOST_SEALS;
 use crate::Section;
 use crate::Track;
 use crate::Walk;
+use crate::settings_right;
 
 // Whether trains run upward: on A in VNS, on B in CVT.
 pub fn is_upward(track: bool, cvt: bool) -> bool
@@ -68,7 +68,7 @@ pub fn post_and_block_fit(seals: u16, train: u16, last: u16) -> bool
 
 // Every post and block section of a track, in one loop from the last post down.
 pub fn cells_fit(n: u8, t: Track) -> bool
-    requires { ⌜ (1 ≤ n) × (n ≤ 16) ⌝ }
+    requires { ⌜ (2 ≤ n) × (n ≤ 16) ⌝ }
     ensures { λ r. ⌜ r ≡ (sealsFit n (t .posts) && (numbersFit (n - 1) (t .trains) && numbersFit (n - 1) (t .last))) ⌝ }
 {
     let mut i = (n - 1) as usize;
@@ -112,13 +112,14 @@ pub fn walk_fits(n: u8, up: bool, walk: Walk) -> bool
 }
 
 pub fn track_fits(n: u8, track: bool, t: Track) -> bool
-    requires { ⌜ (1 ≤ n) × (n ≤ 16) ⌝ }
+    requires { ⌜ (2 ≤ n) × (n ≤ 16) ⌝ }
     ensures { λ r. ⌜ r ≡ trackFits n track t ⌝ }
 {
     if !cells_fit(n, t) {
         return false;
     }
-    walk_fits(n, is_upward(track, t.cvt), t.walk)
+    let walk = t.walk;
+    walk_fits(n, is_upward(track, t.cvt), walk)
 }
 
 // What refusal 6 asks for.

@@ -1,8 +1,6 @@
 use borrow.Author.Needs.{needs}
 use Rattle.section.proofs.Post.faulty.Statement.{statement}
 use Rattle.section.proofs.Post.faulty.Tie as tie
-use Rattle.section.proofs.Post.faulty.Reads as reads
-use Rattle.section.proofs.Post.faulty.Lts as lts
 
 enum-told : tie.Need-enum-told
 enum-told c = search needs

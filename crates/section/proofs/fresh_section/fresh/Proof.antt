@@ -1,10 +1,7 @@
-use Rattle.section.specs.Fresh.{freshSection}
 use borrow.Author.Needs.{needs}
+use Rattle.section.specs.Fresh.{freshSection}
 use Rattle.section.proofs.fresh_section.fresh.Statement.{statement}
 use Rattle.section.proofs.fresh_section.fresh.Tie as tie
-use Rattle.section.proofs.fresh_section.fresh.Reads as reads
-use Rattle.section.proofs.fresh_section.fresh.Lts as lts
-use Rattle.section.proofs.fresh_section.fresh_track.Reads as fresh-track-reads
 
 fresh-track-requires : tie.Need-fresh-track-requires
 fresh-track-requires c κs = search needs

@@ -1,10 +1,8 @@
-use borrow.Author.Tests.{not-true, not-false}
 use native.Mathlib.Omega.{arith}
 use borrow.Author.Needs.{needs}
+use borrow.Author.Tests.{not-true, not-false}
 use Rattle.section.proofs.fresh_section.fresh_start.Statement.{statement}
 use Rattle.section.proofs.fresh_section.fresh_start.Tie as tie
-use Rattle.section.proofs.fresh_section.fresh_start.Reads as reads
-use Rattle.section.proofs.fresh_section.fresh_start.Lts as lts
 
 returns : tie.Need-returns
 returns c = simp (not-true (c .before .args .track) (c .if1 .taken))

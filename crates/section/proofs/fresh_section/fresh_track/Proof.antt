@@ -14,11 +14,6 @@ use Rattle.section.specs.Numbers.{mostPosts, mostBlocks}
 use Rattle.section.specs.Post.{blank, permitted}
 use Rattle.section.proofs.fresh_section.fresh_track.Statement.{statement}
 use Rattle.section.proofs.fresh_section.fresh_track.Tie as tie
-use Rattle.section.proofs.fresh_section.fresh_track.Reads as reads
-use Rattle.section.proofs.fresh_section.fresh_track.Lts as lts
-use Rattle.section.proofs.Post.permitted.Reads as permitted-reads
-use Rattle.section.proofs.fresh_section.fresh_start.Reads as fresh-start-reads
-use Rattle.section.proofs.post_record.blank.Reads as blank-reads
 
 abbrev withPosts : List Post → Track
 withPosts l = record { posts = l; trains = replicate mostBlocks 0; last = replicate mostBlocks 0; cvt = false; walk = Settled }
@@ -57,7 +52,7 @@ array-set-from-posts : tie.Need-array-set-from-posts
 array-set-from-posts c = search needs
 
 returns : tie.Need-returns
-returns c = 
+returns c =
     let b = c .before .before .before in
     let x = b .before .before .args in
     in-place (x .n) (x .track) (b .before .blank .ensures) (b .fresh-start .ensures) (c .permitted .ensures ∙ ap (permitted true) (c .before .blank2 .ensures))

@@ -1,11 +1,7 @@
-use Rattle.section.specs.Range.{actFits}
 use borrow.Author.Needs.{needs}
+use Rattle.section.specs.Range.{actFits}
 use Rattle.section.proofs.state_range.act_fits.Statement.{statement}
 use Rattle.section.proofs.state_range.act_fits.Tie as tie
-use Rattle.section.proofs.state_range.act_fits.Reads as reads
-use Rattle.section.proofs.state_range.act_fits.Lts as lts
-use Rattle.section.proofs.state_range.is_first.Reads as is-first-reads
-use Rattle.section.proofs.state_range.is_last.Reads as is-last-reads
 
 enum-told : tie.Need-enum-told
 enum-told c = search needs

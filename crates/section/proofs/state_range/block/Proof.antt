@@ -1,10 +1,8 @@
 use native.Mathlib.Omega.{arith}
-use Rattle.section.specs.Geometry.{block}
 use borrow.Author.Needs.{needs}
+use Rattle.section.specs.Geometry.{block}
 use Rattle.section.proofs.state_range.block.Statement.{statement}
 use Rattle.section.proofs.state_range.block.Tie as tie
-use Rattle.section.proofs.state_range.block.Reads as reads
-use Rattle.section.proofs.state_range.block.Lts as lts
 
 sub-result : tie.Need-sub-result
 sub-result c = search needs

@@ -1,10 +1,7 @@
-use Rattle.section.specs.Geometry.{isFirst}
 use borrow.Author.Needs.{needs}
+use Rattle.section.specs.Geometry.{isFirst}
 use Rattle.section.proofs.state_range.is_first.Statement.{statement}
 use Rattle.section.proofs.state_range.is_first.Tie as tie
-use Rattle.section.proofs.state_range.is_first.Reads as reads
-use Rattle.section.proofs.state_range.is_first.Lts as lts
-use Rattle.section.proofs.state_range.rank.Reads as rank-reads
 
 rank-requires : tie.Need-rank-requires
 rank-requires c κs = search needs

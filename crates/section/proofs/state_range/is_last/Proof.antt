@@ -1,13 +1,10 @@
-use native.Mathlib.Omega.{arith}
 use native.Mathlib.Numerals.{add-one}
+use native.Mathlib.Omega.{arith}
+use borrow.Author.Needs.{needs}
 use Rattle.section.specs.Geometry.{isLast}
 use Rattle.section.proofs.Laws.{rank-lt}
-use borrow.Author.Needs.{needs}
 use Rattle.section.proofs.state_range.is_last.Statement.{statement}
 use Rattle.section.proofs.state_range.is_last.Tie as tie
-use Rattle.section.proofs.state_range.is_last.Reads as reads
-use Rattle.section.proofs.state_range.is_last.Lts as lts
-use Rattle.section.proofs.state_range.rank.Reads as rank-reads
 
 rank-requires : tie.Need-rank-requires
 rank-requires c κs = search needs

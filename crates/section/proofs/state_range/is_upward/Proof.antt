@@ -2,8 +2,6 @@ use mathlib.Core.Path.{refl}
 use Rattle.section.specs.Geometry.{upward}
 use Rattle.section.proofs.state_range.is_upward.Statement.{statement}
 use Rattle.section.proofs.state_range.is_upward.Tie as tie
-use Rattle.section.proofs.state_range.is_upward.Reads as reads
-use Rattle.section.proofs.state_range.is_upward.Lts as lts
 
 returns : tie.Need-returns
 unfolding upward

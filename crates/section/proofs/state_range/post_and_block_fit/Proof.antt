@@ -1,16 +1,15 @@
+use borrow.Author.Tests.{le-leb, lt-leb}
 use Rattle.section.proofs.state_range.post_and_block_fit.Statement.{statement}
 use Rattle.section.proofs.state_range.post_and_block_fit.Tie as tie
-use Rattle.section.proofs.state_range.post_and_block_fit.Reads as reads
-use Rattle.section.proofs.state_range.post_and_block_fit.Lts as lts
 
 returns : tie.Need-returns
-returns c = ?
+returns c = rw (lt-leb _ _ (c .if1 .taken))
 
 returns-2 : tie.Need-returns-2
-returns-2 c = ?
+returns-2 c = rw (le-leb _ _ (c .before .if1 .left), lt-leb _ _ (c .if2 .taken))
 
 returns-3 : tie.Need-returns-3
-returns-3 c = ?
+returns-3 c = rw (le-leb _ _ (c .before .if1 .left), le-leb _ _ (c .if2 .left))
 
 pub post-and-block-fit-spec : {M : Type 1} → statement M
 post-and-block-fit-spec = tie.close (tie.spec returns returns-2 returns-3)

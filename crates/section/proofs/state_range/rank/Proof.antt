@@ -1,10 +1,8 @@
 use native.Mathlib.Omega.{arith}
-use Rattle.section.specs.Geometry.{rank}
 use borrow.Author.Needs.{needs}
+use Rattle.section.specs.Geometry.{rank}
 use Rattle.section.proofs.state_range.rank.Statement.{statement}
 use Rattle.section.proofs.state_range.rank.Tie as tie
-use Rattle.section.proofs.state_range.rank.Reads as reads
-use Rattle.section.proofs.state_range.rank.Lts as lts
 
 sub-result : tie.Need-sub-result
 sub-result c = search needs

@@ -1,11 +1,8 @@
+use borrow.Author.Needs.{needs}
 use borrow.Author.Tests.{lt-ltb, le-ltb}
 use Rattle.section.specs.Range.{walkFits}
-use borrow.Author.Needs.{needs}
 use Rattle.section.proofs.state_range.walk_fits.Statement.{statement}
 use Rattle.section.proofs.state_range.walk_fits.Tie as tie
-use Rattle.section.proofs.state_range.walk_fits.Reads as reads
-use Rattle.section.proofs.state_range.walk_fits.Lts as lts
-use Rattle.section.proofs.state_range.act_fits.Reads as act-fits-reads
 
 enum-told : tie.Need-enum-told
 enum-told c = search needs
