@@ -125,6 +125,6 @@ module _ (c : Settings) where
     entered = getD last (blockAhead e) 0;
     anywhere = anyTrain (c .posts - 1) trains;
     stretch =
-      stretchHolds (stretchEnds (e .track) (e .cvt)) (trainAt (e .track) (e .cvt) trains) (c .posts - suc (rankAt e)) (rankAt e);
+        stretchHolds (stretchEnds (e .track) (e .cvt)) (trainAt (e .track) (e .cvt) trains) (c .posts - suc (rankAt e)) (rankAt e);
     known = hasNumber (c .posts - 1) number trains;
   }
