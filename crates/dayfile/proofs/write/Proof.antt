@@ -18,7 +18,7 @@ use Rattle.section.proofs.settings_right.Reads as settings-right-reads
 
 -- src/lib.rt:103:9
 settings-right-requires : tie.Need-settings-right-requires
-settings-right-requires c κs = ?
+settings-right-requires c κs = search needs
 
 -- src/lib.rt:104:9
 returns : tie.Need-returns

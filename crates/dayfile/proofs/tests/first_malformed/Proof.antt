@@ -42,7 +42,7 @@ part-is-well-formed-end : tie.Need-part-is-well-formed-end Inv-loop μ-loop
 part-is-well-formed-end c = omega arith
 
 is-well-formed-requires : tie.Need-is-well-formed-requires Inv-loop μ-loop
-is-well-formed-requires c κs = ?
+is-well-formed-requires c κs = search needs
 
 add-i : tie.Need-add-i Inv-loop μ-loop
 add-i c = omega arith

@@ -15,7 +15,7 @@ settings-of-requires c κs = search needs
 
 -- src/tests.rt:67:9
 settings-right-requires : tie.Need-settings-right-requires
-settings-right-requires c κs = ?
+settings-right-requires c κs = search needs
 
 -- src/tests.rt:68:9
 returns : tie.Need-returns
