@@ -57,7 +57,7 @@ stepOf kind post fault number =
     (Key post))))))))))))
 
 unfoldable pub trackStepOf : ℕ → ℕ → ℕ → ℕ → ℕ → TrackStep
-trackStepOf kind track post fault number = record { on_b = eqb track 1; step = stepOf kind post fault number }
+trackStepOf kind track post fault number = record { «on_b» = eqb track 1; step = stepOf kind post fault number }
 
 unfoldable pub fromFields : ℕ → ℕ → ℕ → ℕ → ℕ → ℕ → ℕ → Decoded
 fromFields n kind track post fault number zeros =
@@ -147,11 +147,12 @@ numberOf (Key p) = 0
 unfoldable pub trackNumber : Bool → ℕ
 trackNumber b = cond b 1 0
 
+unfoldable pub bytesOf : ℕ → ℕ → ℕ → ℕ → ℕ → List ℕ
+bytesOf kind track post fault number = kind ∷ track ∷ post ∷ fault ∷ number % 256 ∷ number / 256 ∷ 0 ∷ 0 ∷ []
+
 -- the eight bytes of a step
 unfoldable pub encoded : TrackStep → List ℕ
-encoded x =
-    kindOf (x .step) ∷ trackNumber (x .on_b) ∷ postOf (x .step) ∷ faultByte (x .step)
-    ∷ numberOf (x .step) % 256 ∷ numberOf (x .step) / 256 ∷ 0 ∷ 0 ∷ []
+encoded x = bytesOf (kindOf (x .step)) (trackNumber (x .«on_b»)) (postOf (x .step)) (faultByte (x .step)) (numberOf (x .step))
 
 -- a step whose post and number are in their ranges: one that some bytes say
 unfoldable pub stepFits : ℕ → Step → Bool

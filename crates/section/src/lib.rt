@@ -7,6 +7,9 @@ mod step_bytes;
 
 pub use settings_range::is_signalled;
 pub use settings_range::settings_right;
+pub use step_bytes::decode;
+pub use step_bytes::encode;
+pub use step_bytes::is_well_formed;
 
 pub const LEAST_POSTS: u8 = 2;
 pub const MOST_POSTS: u8 = 16;
