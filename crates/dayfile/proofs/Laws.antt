@@ -1,15 +1,17 @@
 -- Laws that several proofs cite: what a test said, and the first number that fails a test.
 use mathlib.Core.Path.{_≡_, refl, sym, _∙_, ap}
-use mathlib.Core.Bool.{Bool, true, false, not}
+use mathlib.Core.Bool.{Bool, true, false, not, cond, true≢false}
 use mathlib.Core.List.{List}
-use Prim.Native.Nat.{ℕ, zero, suc, _+_, _-_, _*_, _<_, _≤_}
-use native.Mathlib.Nat.{add-sub-cancel-left}
+use Prim.Native.Nat.{ℕ, zero, suc, _+_, _-_, _*_, _/_, _<_, _≤_}
+use native.Mathlib.Nat.{add-sub-cancel-left, not-suc-le-zero}
 use native.Mathlib.Omega.{arith}
 use lib.ListN.{length, take, drop, length-take, length-drop}
-use borrow.Author.Tests.{not-true, not-false, ne-eqb}
+use lib.Dec.{leb}
+use borrow.Author.Tests.{not-true, not-false, ltb-false, leb-true, leb-false, ne-eqb}
+use Rattle.section.specs.Numbers.{stepLength}
 use Rattle.section.specs.Step.{wellFormed, isWell, decoded}
-use Rattle.dayfile.specs.Layout.{stepAt}
-use Rattle.dayfile.specs.Tests.{leading, wellAt}
+use Rattle.dayfile.specs.Layout.{stepAt, stepCount}
+use Rattle.dayfile.specs.Tests.{leading, wellAt, firstMalformed, someMalformed}
 
 -- ## What a call said and a branch saw is so of the definition
 
@@ -35,6 +37,20 @@ leading-is t (suc m) (suc r) h below at =
     (ap suc
     (leading-is (λ (k : ℕ). t (suc k)) m r (omega arith) (λ k q. below (suc k) (omega arith)) (λ q. at (omega arith))))
 
+-- where none of the first m fails, all pass
+pub all-pass : (t : ℕ → Bool) (m : ℕ) → m ≤ leading t m → (k : ℕ) → k < m → t k ≡ true
+unfolding leading
+all-pass t zero h = λ k q. absurd (not-suc-le-zero q)
+all-pass t (suc m) h = go (t 0) refl h (all-pass (λ (j : ℕ). t (suc j)) m)
+  where
+    go :
+        (b : Bool) → t 0 ≡ b → suc m ≤ cond b (suc (leading (λ (j : ℕ). t (suc j)) m)) 0 →
+        (m ≤ leading (λ (j : ℕ). t (suc j)) m → (k : ℕ) → k < m → t (suc k) ≡ true) →
+        (k : ℕ) → k < suc m → t k ≡ true
+    go false e h later k q = absurd (not-suc-le-zero h)
+    go true e h later zero q = e
+    go true e h later (suc k) q = later (omega arith) k (omega arith)
+
 -- ## Steps
 
 -- what a test said of the part is said of the step
@@ -52,3 +68,17 @@ pub incomplete : (n : ℕ) (s : List ℕ) (i : ℕ) → length s < i * 8 + 8 →
 unfolding wellAt stepAt
 incomplete n s i h =
     not-eight n (take 8 (drop (i * 8) s)) (λ e. omega (arith, e, length-take 8 (drop (i * 8) s), length-drop (i * 8) s))
+
+-- with no malformed step there is no incomplete one
+pub all-whole : (n : ℕ) (s : List ℕ) → someMalformed n s ≡ false → length s ≡ stepLength * stepCount s
+unfolding someMalformed firstMalformed stepCount
+all-whole n s e = go (leb (8 * m) (length s)) refl
+  where
+    m : ℕ
+    m = (length s + 7) / 8
+    go : (b : Bool) → leb (8 * m) (length s) ≡ b → length s ≡ 8 * m
+    go true q = omega (arith, leb-true (8 * m) (length s) q)
+    go false q =
+        let h = leb-false (8 * m) (length s) q in
+        let p = all-pass (wellAt n s) m (ltb-false (leading (wellAt n s) m) m e) (m - 1) (omega arith) in
+        absurd (true≢false (sym p ∙ incomplete n s (m - 1) (omega arith)))

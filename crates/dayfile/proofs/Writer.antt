@@ -1,20 +1,21 @@
 -- The writer's answers with the buffer afterwards, each by the tests that lead to it; two parts of a buffer, written one after the other.
 use mathlib.Core.Path.{_≡_, refl, sym, _∙_, ap}
-use mathlib.Core.Bool.{Bool, true, false}
+use mathlib.Core.Bool.{Bool, true, false, not, _||_}
 use mathlib.Core.List.{List, [], _∷_, _++_, append-nil, append-assoc}
 use Prim.Native.Nat.{ℕ, _+_, _-_, _*_, _<_, _≤_}
 use native.Mathlib.Nat.{add-sub-cancel-left}
 use native.Mathlib.Omega.{arith}
 use lib.ListN.{length, take, drop, length-drop, length-append}
 use lib.Seq.{length-take-le, take-length, drop-length, take-append-seam, drop-append-seam, drop-drop}
-use lib.Dec.{eqb}
-use borrow.Author.Tests.{lt-ltb, le-ltb}
+use lib.Dec.{eqb, ltb}
+use borrow.Author.Tests.{lt-ltb, le-ltb, ltb-false, not-false}
 use Rattle.section.specs.declared.Settings.{Settings}
 use Rattle.section.specs.Settings.{settingsRight}
 use Rattle.section.specs.Bytes.{byte}
 use Rattle.section.specs.Numbers.{stepLength}
 use Rattle.dayfile.specs.Layout.{mostSteps, settingsDistance, stepsDistance, mark, pairBytes, fourBytes, settingsBytes, trailer, stepCount, fileOf}
 use Rattle.dayfile.specs.Tests.{firstMalformed, someMalformed, writeNumber, writeVerdict, writtenInto}
+use Rattle.dayfile.proofs.Reader.{neither, past}
 use Rattle.dayfile.specs.declared.Written.{Written}
 use Rattle.dayfile.specs.declared.Written.the-variants.{Bytes, Refused}
 
@@ -107,3 +108,28 @@ tail-length c count = refl
 pub steps-fit : (steps : List ℕ) → length steps ≤ stepLength * stepCount steps
 unfolding stepCount
 steps-fit steps = omega arith
+
+-- ## What is written
+
+never-bytes : (k i n : ℕ) → Refused k i ≡ Bytes n → ⊥
+never-bytes k i n e = let z : _≡_ {A = ℕ} 0 1 = cc in omega arith
+
+pub record BytesWritten (c : Settings) (steps : List ℕ) : Type 0 where
+  pub settings-well : settingsRight c ≡ true
+  pub steps-well : someMalformed (c .posts) steps ≡ false
+  pub few : stepCount steps ≤ mostSteps
+
+pub bytes-written : (c : Settings) (steps : List ℕ) (room written : ℕ) → writeVerdict c steps room ≡ Bytes written → BytesWritten c steps
+unfolding writeVerdict
+bytes-written c steps room written e =
+    let n = stepCount steps in
+    let a = past (not (settingsRight c)) (Refused 3 0) _ (Bytes written) (never-bytes 3 0 written) e in
+    let first = firstMalformed (c .posts) steps in
+    let b = past (someMalformed (c .posts) steps) (Refused 4 first) _ (Bytes written) (never-bytes 4 first written) (a .1) in
+    let d =
+    past (ltb mostSteps n || ltb room (stepsDistance n)) (Refused 5 0) (Bytes (stepsDistance n)) (Bytes written) (never-bytes 5 0 written) (b .1) in
+    record {
+      settings-well = not-false _ (a .0);
+      steps-well = b .0;
+      few = ltb-false _ _ (neither (ltb mostSteps n) (ltb room (stepsDistance n)) (d .0) .0)
+    }
