@@ -107,9 +107,12 @@ module _ (l : List Post) where
   unfolding sealsFit sealTest
   seals-all m h = all sealTest (λ (j : ℕ). sealsFit j l) refl (λ j. refl) m (λ p k. le-leb _ _ (h p k))
 
-  pub seals-stop : (i : ℕ) → 0 < i → mostSeals < getD l (i - 1) blank .seals → sealsFit i l ≡ false
-  unfolding sealsFit sealTest
-  seals-stop i h k = stops sealTest (λ (j : ℕ). sealsFit j l) refl (λ j. refl) i h (lt-leb _ _ k)
+  pub seals-over : (m k p : ℕ) → mostSeals ≤ k → p < m → k < getD l p blank .seals → sealsFit m l ≡ false
+  seals-over m k p hk hp over = go (sealsFit m l) refl
+    where
+      go : (b : Bool) → sealsFit m l ≡ b → b ≡ false
+      go true e = absurd (omega (arith, seals-each m e p hp, hk, over))
+      go false e = refl
 
   pub seals-go-on : (i : ℕ) → 0 < i → getD l (i - 1) blank .seals ≤ mostSeals → sealsFit i l ≡ sealsFit (i - 1) l
   unfolding sealsFit sealTest
