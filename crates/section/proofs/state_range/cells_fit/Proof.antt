@@ -67,20 +67,18 @@ post-and-block-fit-requires c κs = tt
 returns-2 : tie.Need-returns-2 Inv-loop μ-loop
 returns-2 c =
     let b = c .before .before .before .before in
-    sym
-    (b .before .loop .inv .1
-    ∙ cells-stop (b .before .before .before .args .t2) (b .before .loop .i) (b .loop-test .taken) (told-false (c .before .post-and-block-fit .ensures) (c .if2 .taken)))
+    let failed = told-false (c .before .post-and-block-fit .ensures) (c .if2 .taken) in
+    sym (b .before .loop .inv .1 ∙ cells-stop (b .before .before .before .args .t2) (b .before .loop .i) (b .loop-test .taken) failed)
 
 loop-less : tie.Need-loop-less Inv-loop μ-loop
 loop-less c = omega arith
 
 loop-again : tie.Need-loop-again Inv-loop μ-loop
 loop-again c =
-    let b = c .before .before .before .before in (
-      omega arith,
-      b .before .loop .inv .1
-          ∙ cells-go-on (b .before .before .before .args .t2) (b .before .loop .i) (b .loop-test .taken) (told-true (c .before .post-and-block-fit .ensures) (c .if2 .left)),
-    )
+    let b = c .before .before .before .before in
+    let passed = told-true (c .before .post-and-block-fit .ensures) (c .if2 .left) in
+    let rest = cells-go-on (b .before .before .before .args .t2) (b .before .loop .i) (b .loop-test .taken) passed in
+    (omega arith, b .before .loop .inv .1 ∙ rest)
 
 returns-3 : tie.Need-returns-3 Inv-loop μ-loop
 unfolding sealsFit numbersFit
