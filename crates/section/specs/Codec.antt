@@ -46,7 +46,7 @@ unfolding decoded encoded bytesOf fromFields
 decoded-encoded n x h =
     rw (pair-back (numberOf (x .step)), no-pair, fields-fit n (x .«on_b») (x .step) h) (ap Well (same-step x))
 
--- and they are eight bytes, where the posts are numbered in a byte
+-- they are eight, and each is a byte where n is at most 256
 pub encoded-length : (x : TrackStep) → length (encoded x) ≡ stepLength
 unfolding encoded bytesOf
 encoded-length x = refl
@@ -118,7 +118,7 @@ module _ (n : ℕ) (s : List ℕ) (x : TrackStep) (d : decoded n s ≡ Well x) w
   unfolding stepFits
   decoded-fits = rw (lt-ltb _ _ decoded-post-below) decoded-number-right
 
-  -- the step that the bytes say has these bytes and no others
+  -- the bytes of the step that bytes say are those bytes
   pub encoded-decoded : AllBytes s → encoded x ≡ s
   unfolding encoded bytesOf
   encoded-decoded bytes =

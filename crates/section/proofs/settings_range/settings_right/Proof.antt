@@ -1,3 +1,4 @@
+-- At each return the tests passed so far are true, and the one that led there is false.
 use borrow.Author.Needs.{needs}
 use borrow.Author.Tests.{le-leb, lt-leb}
 use Rattle.section.specs.Bytes.{within}

@@ -1,3 +1,4 @@
+-- Bytes are well formed where they are eight and their fields are right.
 use borrow.Author.Needs.{needs}
 use borrow.Author.Tests.{eq-eqb, ne-eqb}
 use Rattle.section.specs.StepLaws.{bytesRight, well-formed-is}
