@@ -1,0 +1,6 @@
+pub mod Laws
+pub mod Numbers
+pub mod Parts
+pub mod Reader
+pub mod Writer
+pub mod RoundTrip

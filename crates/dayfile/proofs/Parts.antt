@@ -1,0 +1,151 @@
+-- The parts of a file, both ways: settings and their bytes, the trailer and its numbers, and a file put together of its parts.
+use mathlib.Core.Path.{_≡_, refl, sym, _∙_, ap}
+use mathlib.Core.Bool.{Bool, true, false, _&&_, false≢true}
+use mathlib.Core.List.{List, [], _∷_, _++_, append-assoc}
+use Prim.Native.Nat.{ℕ, zero, suc, _+_, _-_, _*_, _/_, _%_, _^_, _<_, _≤_}
+use native.Mathlib.Nat.{div-lt-iff-lt-mul, pow-le-pow-right}
+use native.Mathlib.Omega.{arith}
+use lib.Pow.{pow-pos}
+use lib.Dec.{eqb, leb}
+use lib.ListN.{length, take, drop, length-append, take-append-drop}
+use lib.Seq.{drop-drop, getD-drop, getD-take, take-at, drop-at}
+use borrow.Author.Tests.{eqb-true, eq-eqb, leb-true}
+use Rattle.section.specs.declared.Settings.{Settings}
+use Rattle.section.specs.Bytes.{byte, pair, within, AllBytes}
+use Rattle.section.specs.Numbers.{leastPosts, mostPosts, largestLine}
+use Rattle.section.specs.Settings.{bit, noneFrom, settingsRight}
+use Rattle.dayfile.specs.Layout.{mostSteps, settingsLength, trailerLength, settingsDistance, stepsDistance, mark, pairBytes, four, fourBytes, fourAt, settingsBytes, trailer, fromEnd, trailerIn, settingsIn, stepsIn, settingsOf}
+use Rattle.dayfile.specs.Tests.{markRight, trailerRight, settingsBytesRight}
+use Rattle.dayfile.proofs.Numbers.{pair-number, four-number, pair-bytes, four-bytes, listed}
+use Rattle.dayfile.proofs.Reader.{trailer-length, settings-length}
+
+pub both : (a b : Bool) → a && b ≡ true → (a ≡ true) × (b ≡ true)
+both true b e = (refl, e)
+both false b e = absurd (false≢true e)
+
+-- ## Settings
+
+zeros-written : (c : Settings) → eqb (pair (byte (settingsBytes c) 6) (byte (settingsBytes c) 7)) 0 ≡ true
+unfolding settingsBytes pairBytes pair
+zeros-written c = refl
+
+module _ (c : Settings) (e : settingsRight c ≡ true) where
+  -- the mask and the line number are 16-bit numbers
+  fields-fit : (c .mask < 65536) × (c .line < 65536)
+  unfolding settingsRight within noneFrom
+  fields-fit =
+      let a = both (leb leastPosts (c .posts) && leb (c .posts) mostPosts) _ e in
+      let f = both (leb (c .form) 1) _ (a .1) in
+      let g = both (bit (c .mask) 0) _ (f .1) in
+      let h = both (bit (c .mask) (c .posts - 1)) _ (g .1) in
+      let k = both (eqb (c .mask / 2 ^ (c .posts)) 0) (leb 1 (c .line) && leb (c .line) largestLine) (h .1) in
+      let p : c .posts ≤ 16 = leb-true _ _ (both (leb leastPosts (c .posts)) (leb (c .posts) mostPosts) (a .0) .1) in
+      let l : c .line ≤ 999 = leb-true _ _ (both (leb 1 (c .line)) (leb (c .line) largestLine) (k .1) .1) in
+      let z : c .mask / 2 ^ (c .posts) ≡ 0 = eqb-true _ _ (k .0) in
+      let m : c .mask < 1 * 2 ^ (c .posts) = div-lt-iff-lt-mul (pow-pos (c .posts)) .0 (omega arith) in
+      let t : 2 ^ (c .posts) ≤ 2 ^ 16 = pow-le-pow-right {n = 2} (omega arith) p in
+      (omega arith, omega arith)
+
+  pub settings-said : settingsOf (settingsBytes c) ≡ c
+  unfolding settingsOf settingsBytes pairBytes
+  settings-said = rw (pair-number (c .mask) (fields-fit .0), pair-number (c .line) (fields-fit .1))
+
+  pub settings-bytes-right : settingsBytesRight (settingsBytes c) ≡ true
+  unfolding settingsBytesRight
+  settings-bytes-right = rw (settings-said, e) (zeros-written c)
+
+module _ (s : List ℕ) (l : length s ≡ settingsLength) (bytes : AllBytes s) (e : settingsBytesRight s ≡ true) where
+  pub settings-right : settingsRight (settingsOf s) ≡ true
+  unfolding settingsBytesRight
+  settings-right = both (settingsRight (settingsOf s)) _ e .0
+
+  zeros-are : pair (byte s 6) (byte s 7) ≡ 0
+  unfolding settingsBytesRight
+  zeros-are = eqb-true _ _ (both (settingsRight (settingsOf s)) (eqb (pair (byte s 6) (byte s 7)) 0) e .1)
+
+  pub settings-bytes : settingsBytes (settingsOf s) ≡ s
+  unfolding settingsBytes settingsOf pair
+  settings-bytes =
+      let z₆ : byte s 6 ≡ 0 = omega (arith, zeros-are) in
+      let z₇ : byte s 7 ≡ 0 = omega (arith, zeros-are) in
+      rw (pair-bytes (byte s 2) (byte s 3) (bytes 2) (bytes 3), pair-bytes (byte s 4) (byte s 5) (bytes 4) (bytes 5))
+      (sym (listed 8 0 s l ∙ rw (z₆, z₇)))
+
+-- ## The trailer
+
+pub trailer-right : (count : ℕ) → count ≤ mostSteps → trailerRight count (trailer count) ≡ true
+unfolding trailerRight markRight trailer fourBytes fourAt
+trailer-right count h =
+    rw (four-number 24 (omega arith), four-number (24 + 8 * count) (omega arith), four-number count (omega arith),
+    eq-eqb (24 + 8 * count) (24 + 8 * count) refl, eq-eqb count count refl)
+
+module _ (count : ℕ) (t : List ℕ) (l : length t ≡ trailerLength) (bytes : AllBytes t) (e : trailerRight count t ≡ true) where
+  -- four bytes of the trailer that say a number are its bytes
+  number-bytes : (i x : ℕ) → fourAt t i ≡ x → fourBytes x ≡ byte t i ∷ byte t (i + 1) ∷ byte t (i + 2) ∷ byte t (i + 3) ∷ []
+  unfolding fourAt
+  number-bytes i x q =
+      ap fourBytes (sym q) ∙ four-bytes (byte t i) (byte t (i + 1)) (bytes i) (bytes (i + 1)) (byte t (i + 2)) (byte t (i + 3)) (bytes (i + 2)) (bytes (i + 3))
+
+  mark-bytes : markRight t ≡ true → mark ≡ byte t 0 ∷ byte t 1 ∷ byte t 2 ∷ byte t 3 ∷ []
+  unfolding markRight
+  mark-bytes m =
+      let a = both (eqb (byte t 0) 66) _ m in
+      let b = both (eqb (byte t 1) 83) _ (a .1) in
+      let c = both (eqb (byte t 2) 82) (eqb (byte t 3) 49) (b .1) in
+      rw (eqb-true (byte t 0) 66 (a .0), eqb-true (byte t 1) 83 (b .0), eqb-true (byte t 2) 82 (c .0), eqb-true (byte t 3) 49 (c .1))
+
+  pub trailer-bytes : trailer count ≡ t
+  unfolding trailerRight trailer
+  trailer-bytes =
+      let a = both (markRight t) _ e in
+      let b = both (eqb (fourAt t 4) settingsDistance) _ (a .1) in
+      let c = both (eqb (fourAt t 8) (stepsDistance count)) (eqb (fourAt t 12) count) (b .1) in
+      ap (λ (m : List ℕ). m ++ (fourBytes settingsDistance ++ (fourBytes (stepsDistance count) ++ fourBytes count))) (mark-bytes (a .0))
+      ∙ rw (number-bytes 4 settingsDistance (eqb-true _ _ (b .0)), number-bytes 8 (stepsDistance count) (eqb-true _ _ (c .0)),
+      number-bytes 12 count (eqb-true _ _ (c .1)))
+      (sym (listed 16 0 t l))
+
+-- ## A file and its parts
+
+module _ (steps settings t : List ℕ) (ls : length settings ≡ settingsLength) (lt : length t ≡ trailerLength) where
+  -- the length of a file, less a distance from its end
+  place : (d : ℕ) → d ≤ settingsDistance → length (steps ++ (settings ++ t)) - d ≡ length steps + (settingsDistance - d)
+  place d h = rw (length-append, length-append) (omega arith)
+
+  pub steps-of : stepsIn (steps ++ (settings ++ t)) ≡ steps
+  unfolding stepsIn
+  steps-of = rw (place 24 (omega arith)) (take-at steps (settings ++ t) (length steps + (24 - 24)) (omega arith))
+
+  pub settings-of : settingsIn (steps ++ (settings ++ t)) ≡ settings
+  unfolding settingsIn fromEnd
+  settings-of =
+      rw (place 24 (omega arith), drop-at steps (settings ++ t) (length steps + (24 - 24)) (omega arith)) (take-at settings t 8 ls)
+
+  pub trailer-of : trailerIn (steps ++ (settings ++ t)) ≡ t
+  unfolding trailerIn fromEnd
+  trailer-of =
+      rw (place 16 (omega arith), ← append-assoc)
+      (drop-at (steps ++ settings) t (length steps + (24 - 16)) (rw length-append (omega arith)))
+
+bytes-taken : (n : ℕ) (s : List ℕ) → AllBytes s → AllBytes (take n s)
+bytes-taken zero s bytes i = omega arith
+bytes-taken (suc n) [] bytes i = bytes i
+bytes-taken (suc n) (x ∷ s) bytes zero = bytes 0
+bytes-taken (suc n) (x ∷ s) bytes (suc i) = bytes-taken n s (λ k. bytes (suc k)) i
+
+module _ (file : List ℕ) (h : settingsDistance ≤ length file) where
+  pub of-its-parts : stepsIn file ++ (settingsIn file ++ trailerIn file) ≡ file
+  unfolding stepsIn settingsIn trailerIn fromEnd
+  of-its-parts =
+      let e : length file - 16 ≡ length file - 24 + 8 = omega arith in
+      rw (e, ← drop-drop 8 (length file - 24) file, take-append-drop, take-append-drop)
+
+  module _ (bytes : AllBytes file) where
+    pub trailer-all-bytes : AllBytes (trailerIn file)
+    unfolding trailerIn fromEnd
+    trailer-all-bytes i = rw getD-drop (bytes _)
+
+    pub settings-all-bytes : AllBytes (settingsIn file)
+    unfolding settingsIn fromEnd
+    settings-all-bytes =
+        bytes-taken settingsLength (drop (length file - settingsDistance) file) (λ i. rw getD-drop (bytes _))

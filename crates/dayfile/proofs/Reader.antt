@@ -1,0 +1,130 @@
+-- The reader's answers, each by the tests that lead to it.
+use mathlib.Core.Path.{_≡_, refl, sym, _∙_}
+use mathlib.Core.Bool.{Bool, true, false, not, cond, _||_, true≢false}
+use mathlib.Core.List.{List}
+use Prim.Native.Nat.{ℕ, _+_, _-_, _%_, _<_, _≤_}
+use native.Mathlib.Omega.{arith}
+use lib.ListN.{length, take, drop, length-take, length-drop}
+use lib.Seq.{length-take-le}
+use lib.Dec.{ltb, eqb}
+use borrow.Author.Tests.{ltb-false, eqb-true, not-false, lt-ltb, le-ltb, eq-eqb}
+use Rattle.section.specs.Numbers.{stepLength}
+use Rattle.dayfile.specs.Layout.{mostSteps, settingsLength, trailerLength, settingsDistance, longestFile, stepCount, fromEnd, trailerIn, settingsIn, stepsIn, settingsOf}
+use Rattle.dayfile.specs.Tests.{lengthWrong, trailerRight, settingsBytesRight, someMalformed, firstMalformed, readNumber, readVerdict, notRead, readOf}
+use Rattle.dayfile.specs.declared.Reading.the-variants.{Day, Refused}
+use Rattle.dayfile.specs.declared.ReadAnswer.{ReadAnswer}
+
+-- ## A right length
+
+pub record LengthRight (l : ℕ) : Type 0 where
+  pub least : settingsDistance ≤ l
+  pub most : l ≤ longestFile
+  pub whole : l % stepLength ≡ 0
+
+pub neither : (a b : Bool) → a || b ≡ false → (a ≡ false) × (b ≡ false)
+neither true b e = absurd (true≢false e)
+neither false b e = (refl, e)
+
+pub length-right : (l : ℕ) → lengthWrong l ≡ false → LengthRight l
+unfolding lengthWrong
+length-right l e =
+    let f = neither (ltb l settingsDistance) _ e in
+    let g = neither (ltb longestFile l) _ (f .1) in
+    record {
+      least = ltb-false _ _ (f .0);
+      most = ltb-false _ _ (g .0);
+      whole = eqb-true _ _ (not-false _ (g .1))
+    }
+
+pub not-wrong : (l : ℕ) → LengthRight l → lengthWrong l ≡ false
+unfolding lengthWrong
+not-wrong l h = rw (le-ltb _ _ (h .least), le-ltb _ _ (h .most), eq-eqb _ _ (h .whole))
+
+-- ## The parts of a file of a right length
+
+module _ (file : List ℕ) (h : settingsDistance ≤ length file) where
+  pub trailer-length : length (trailerIn file) ≡ trailerLength
+  unfolding trailerIn fromEnd
+  trailer-length = simp length-drop (omega arith)
+
+  pub settings-length : length (settingsIn file) ≡ settingsLength
+  unfolding settingsIn fromEnd
+  settings-length = length-take-le settingsLength (drop (length file - settingsDistance) file) (simp length-drop (omega arith))
+
+  pub steps-length : length (stepsIn file) ≡ length file - settingsDistance
+  unfolding stepsIn
+  steps-length = length-take-le _ _ (omega arith)
+
+pub few-steps : (file : List ℕ) → LengthRight (length file) → stepCount (stepsIn file) ≤ mostSteps
+unfolding stepCount
+few-steps file h = omega (arith, steps-length file (h .least), h .most, h .whole)
+
+-- ## The answers
+
+module _ (file : List ℕ) where
+  pub answer-1 : lengthWrong (length file) ≡ true → notRead 1 0 ≡ readOf file
+  unfolding readOf readVerdict readNumber notRead
+  answer-1 e = rw e
+
+  module _ (e₁ : lengthWrong (length file) ≡ false) where
+    pub answer-2 : trailerRight (stepCount (stepsIn file)) (trailerIn file) ≡ false → notRead 2 0 ≡ readOf file
+    unfolding readOf readVerdict readNumber notRead
+    answer-2 e = rw (e₁, e)
+
+    module _ (e₂ : trailerRight (stepCount (stepsIn file)) (trailerIn file) ≡ true) where
+      pub answer-3 : settingsBytesRight (settingsIn file) ≡ false → notRead 3 0 ≡ readOf file
+      unfolding readOf readVerdict readNumber notRead
+      answer-3 e = rw (e₁, e₂, e)
+
+      module _ (e₃ : settingsBytesRight (settingsIn file) ≡ true) where
+        pub answer-4 :
+            firstMalformed (settingsOf (settingsIn file) .posts) (stepsIn file) < stepCount (stepsIn file) →
+            notRead 4 (firstMalformed (settingsOf (settingsIn file) .posts) (stepsIn file)) ≡ readOf file
+        unfolding readOf readVerdict readNumber notRead someMalformed
+        answer-4 h = rw (e₁, e₂, e₃, lt-ltb _ _ h)
+
+        pub answer-day :
+            stepCount (stepsIn file) ≤ firstMalformed (settingsOf (settingsIn file) .posts) (stepsIn file) →
+            _≡_ {A = ReadAnswer}
+            (record { reading = Day (stepCount (stepsIn file)); settings = settingsOf (settingsIn file) })
+            (readOf file)
+        unfolding readOf readVerdict readNumber someMalformed
+        answer-day h = rw (e₁, e₂, e₃, le-ltb _ _ h)
+
+-- ## A file that is read
+
+-- a test that was passed on the way to an answer that is not its own
+pub past : {A : Type 0} (b : Bool) (x y z : A) → (x ≡ z → ⊥) → cond b x y ≡ z → (b ≡ false) × (y ≡ z)
+past true x y z never e = absurd (never e)
+past false x y z never e = (refl, e)
+
+never-day : (k i n : ℕ) → Refused k i ≡ Day n → ⊥
+never-day k i n e = let z : _≡_ {A = ℕ} 0 1 = cc in omega arith
+
+same-day : (m n : ℕ) → Day m ≡ Day n → m ≡ n
+same-day m n e = cc
+
+pub record DayRead (file : List ℕ) (count : ℕ) : Type 0 where
+  pub length-well : LengthRight (length file)
+  pub trailer-well : trailerRight (stepCount (stepsIn file)) (trailerIn file) ≡ true
+  pub settings-well : settingsBytesRight (settingsIn file) ≡ true
+  pub steps-well : someMalformed (settingsOf (settingsIn file) .posts) (stepsIn file) ≡ false
+  pub counted : stepCount (stepsIn file) ≡ count
+
+pub day-read : (file : List ℕ) (count : ℕ) → readVerdict file ≡ Day count → DayRead file count
+unfolding readVerdict
+day-read file count e =
+    let a = past (lengthWrong (length file)) (Refused 1 0) _ (Day count) (never-day 1 0 count) e in
+    let b = past (not (trailerRight (stepCount (stepsIn file)) (trailerIn file))) (Refused 2 0) _ (Day count) (never-day 2 0 count) (a .1) in
+    let c = past (not (settingsBytesRight (settingsIn file))) (Refused 3 0) _ (Day count) (never-day 3 0 count) (b .1) in
+    let first = firstMalformed (settingsOf (settingsIn file) .posts) (stepsIn file) in
+    let d =
+    past (someMalformed (settingsOf (settingsIn file) .posts) (stepsIn file)) (Refused 4 first) (Day (stepCount (stepsIn file))) (Day count)
+    (never-day 4 first count) (c .1) in
+    record {
+      length-well = length-right _ (a .0);
+      trailer-well = not-false _ (b .0);
+      settings-well = not-false _ (c .0);
+      steps-well = d .0;
+      counted = same-day _ _ (d .1)
+    }

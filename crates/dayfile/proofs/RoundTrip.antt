@@ -1,0 +1,135 @@
+-- The promises of specs/RoundTrip.antt. A file's parts determine it, and the bytes of its numbers determine them.
+use mathlib.Core.Path.{_≡_, refl, sym, _∙_, ap}
+use mathlib.Core.Bool.{true, false}
+use mathlib.Core.List.{List, _++_}
+use Prim.Native.Nat.{ℕ, _+_, _-_, _*_, _<_, _≤_}
+use native.Mathlib.Omega.{arith}
+use lib.ListN.{length, take, drop, length-append}
+use borrow.Author.Tests.{ltb-false, le-ltb}
+use Rattle.section.specs.declared.Settings.{Settings}
+use Rattle.section.specs.Bytes.{AllBytes}
+use Rattle.section.specs.Numbers.{stepLength}
+use Rattle.dayfile.specs.Layout.{mostSteps, settingsDistance, stepsDistance, pairBytes, fourBytes, settingsBytes, trailer, stepCount, fileOf, trailerIn, settingsIn, stepsIn, settingsOf, stepsPart}
+use Rattle.dayfile.specs.Tests.{trailerRight, settingsBytesRight, someMalformed, firstMalformed, readNumber, readVerdict, readOf, writeVerdict, writeNumber, writtenInto}
+use Rattle.dayfile.specs.declared.Reading.the-variants.{Day}
+use Rattle.dayfile.specs.declared.Written.the-variants.{Bytes}
+use Rattle.dayfile.specs.RoundTrip.{ReadsWhatIsWritten, WritesWhatIsRead, MeansOneThing, GivesItsSteps}
+use Rattle.dayfile.proofs.Laws.{all-whole}
+use Rattle.dayfile.proofs.Parts.{settings-said, settings-bytes-right, settings-right, settings-bytes, trailer-right, trailer-bytes, steps-of, settings-of, trailer-of, of-its-parts, trailer-all-bytes, settings-all-bytes}
+use Rattle.dayfile.proofs.Reader.{LengthRight, not-wrong, trailer-length, settings-length, steps-length, few-steps, answer-day, DayRead, day-read}
+use Rattle.dayfile.proofs.Writer.{tail-length, BytesWritten, bytes-written}
+
+-- ## What is written is read back
+
+settings-long : (c : Settings) → length (settingsBytes c) ≡ 8
+unfolding settingsBytes pairBytes
+settings-long c = refl
+
+trailer-long : (count : ℕ) → length (trailer count) ≡ 16
+unfolding trailer fourBytes
+trailer-long count = refl
+
+module _ (c : Settings) (steps : List ℕ) (w : BytesWritten c steps) where
+  file-length : length (fileOf c steps) ≡ stepsDistance (stepCount steps)
+  unfolding fileOf
+  file-length =
+      rw length-append (omega (arith, tail-length c (stepCount steps), all-whole (c .posts) steps (w .steps-well)))
+
+  file-length-right : LengthRight (length (fileOf c steps))
+  file-length-right =
+      rw file-length
+      (record { least = omega arith; most = omega (arith, w .few); whole = omega arith })
+
+  steps-back : stepsIn (fileOf c steps) ≡ steps
+  unfolding fileOf
+  steps-back = steps-of steps (settingsBytes c) (trailer (stepCount steps)) (settings-long c) (trailer-long (stepCount steps))
+
+  settings-back : settingsIn (fileOf c steps) ≡ settingsBytes c
+  unfolding fileOf
+  settings-back = settings-of steps (settingsBytes c) (trailer (stepCount steps)) (settings-long c) (trailer-long (stepCount steps))
+
+  trailer-back : trailerIn (fileOf c steps) ≡ trailer (stepCount steps)
+  unfolding fileOf
+  trailer-back = trailer-of steps (settingsBytes c) (trailer (stepCount steps)) (settings-long c) (trailer-long (stepCount steps))
+
+  said-back : settingsOf (settingsIn (fileOf c steps)) ≡ c
+  said-back = ap settingsOf settings-back ∙ settings-said c (w .settings-well)
+
+  first-back :
+      firstMalformed (settingsOf (settingsIn (fileOf c steps)) .posts) (stepsIn (fileOf c steps)) ≡ firstMalformed (c .posts) steps
+  first-back = rw (said-back, steps-back)
+
+  none-malformed : stepCount steps ≤ firstMalformed (c .posts) steps
+  unfolding someMalformed
+  none-malformed = ltb-false _ _ (w .steps-well)
+
+  read-back : readOf (fileOf c steps) ≡ record { reading = Day (stepCount steps); settings = c }
+  read-back =
+      sym
+      (answer-day (fileOf c steps) (not-wrong _ file-length-right)
+      (rw (steps-back, trailer-back) (trailer-right (stepCount steps) (w .few)))
+      (rw settings-back (settings-bytes-right c (w .settings-well)))
+      (rw (steps-back, said-back) none-malformed))
+      ∙ rw (steps-back, said-back)
+
+pub reads-what-is-written : ReadsWhatIsWritten
+reads-what-is-written c steps room written e = let w = bytes-written c steps room written e in (read-back c steps w, steps-back c steps w)
+
+-- ## What is read is written back
+
+read-settings : (file : List ℕ) (count : ℕ) → readVerdict file ≡ Day count → readOf file .settings ≡ settingsOf (settingsIn file)
+unfolding readOf readNumber
+read-settings file count e = rw e
+
+same-length : (file : List ℕ) (count : ℕ) → DayRead file count → stepsDistance (stepCount (stepsIn file)) ≡ length file
+unfolding stepCount
+same-length file count d = omega (arith, steps-length file (d .length-well .least), d .length-well .least, d .length-well .whole)
+
+module _ (file : List ℕ) (count : ℕ) (bytes : AllBytes file) (d : DayRead file count) where
+  same-file : fileOf (settingsOf (settingsIn file)) (stepsIn file) ≡ file
+  unfolding fileOf
+  same-file =
+      let h = d .length-well .least in
+      rw (settings-bytes (settingsIn file) (settings-length file h) (settings-all-bytes file h bytes) (d .settings-well),
+      trailer-bytes (stepCount (stepsIn file)) (trailerIn file) (trailer-length file h) (trailer-all-bytes file h bytes) (d .trailer-well))
+      (of-its-parts file h)
+
+  module _ (buffer : List ℕ) (h : length file ≤ length buffer) where
+    same-verdict : writeVerdict (settingsOf (settingsIn file)) (stepsIn file) (length buffer) ≡ Bytes (length file)
+    unfolding writeVerdict
+    same-verdict =
+        rw (settings-right (settingsIn file) (settings-length file (d .length-well .least))
+        (settings-all-bytes file (d .length-well .least) bytes) (d .settings-well), d .steps-well,
+        le-ltb mostSteps (stepCount (stepsIn file)) (few-steps file (d .length-well)), same-length file count d, le-ltb (length buffer) (length file) h)
+
+    same-buffer :
+        writtenInto (settingsOf (settingsIn file)) (stepsIn file) buffer ≡ file ++ drop (length file) buffer
+    unfolding writtenInto writeNumber
+    same-buffer = rw (same-verdict, same-file)
+
+pub writes-what-is-read : WritesWhatIsRead
+unfolding readOf
+writes-what-is-read file count bytes e =
+    let d = day-read file count e in
+    (rw (read-settings file count e) (same-file file count bytes d),
+    λ buffer h.
+    (rw (read-settings file count e) (same-verdict file count bytes d buffer h),
+    rw (read-settings file count e) (same-buffer file count bytes d buffer h)))
+
+pub means-one-thing : MeansOneThing
+means-one-thing one other count number bytes others e f s t =
+    sym (writes-what-is-read one count bytes e .0) ∙ (rw (s, t) (writes-what-is-read other number others f .0))
+
+-- ## The steps as a part of the file
+
+steps-part : (file : List ℕ) (count : ℕ) → stepsDistance count ≡ length file → stepsPart file count ≡ stepsIn file
+unfolding stepsPart stepsIn
+steps-part file count e =
+    let f : stepLength * count ≡ length file - settingsDistance = omega arith in
+    rw (le-ltb (length file) (stepLength * count) (omega arith), f)
+
+pub gives-its-steps : GivesItsSteps
+unfolding readOf
+gives-its-steps file count e =
+    let d = day-read file count e in
+    steps-part file count (ap stepsDistance (sym (d .counted)) ∙ same-length file count d)

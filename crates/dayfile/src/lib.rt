@@ -1,0 +1,121 @@
+// Day files (document 01, "The day file"): the reader and the writer.
+mod layout;
+mod tests;
+
+ghost use mathlib.Core.Path.{_≡_};
+ghost use Prim.Native.Nat.{_+_, _≤_};
+ghost use mathlib.Core.List.{_++_};
+ghost use lib.ListN.{length, drop};
+ghost use Rattle.dayfile.specs.Layout.{stepsPart};
+ghost use Rattle.dayfile.specs.Tests.{notRead, readOf, writeVerdict, writtenInto};
+use layout::MOST_STEPS;
+use layout::SETTINGS_DISTANCE;
+use section::STEP_LENGTH;
+use section::Settings;
+
+// A day of so many steps, or the refusal's number and index.
+pub enum Reading {
+    Day(usize),
+    Refused(u8, usize),
+}
+
+// What the reader answers. The settings beside a refusal are blank.
+pub struct ReadAnswer {
+    pub reading: Reading,
+    pub settings: Settings,
+}
+
+// The length of the file written, or the refusal's number and index.
+pub enum Written {
+    Bytes(usize),
+    Refused(u8, usize),
+}
+
+// The answer to a file that is refused.
+fn refused(number: u8, index: usize) -> ReadAnswer
+    ensures { λ r. ⌜ r ≡ notRead number index ⌝ }
+{
+    ReadAnswer {
+        reading: Reading::Refused(number, index),
+        settings: Settings {
+            posts: 0,
+            form: 0,
+            mask: 0,
+            line: 0,
+        },
+    }
+}
+
+// Reads a day file.
+pub fn read(file: &[u8]) -> ReadAnswer
+    ensures { λ r. ⌜ r ≡ readOf (now (file .entry)) ⌝ }
+{
+    if tests::length_wrong(file.len()) {
+        return refused(1, 0);
+    }
+    let steps = layout::steps_in(file);
+    let count = layout::step_count(steps);
+    if !tests::trailer_right(count, layout::trailer_in(file)) {
+        return refused(2, 0);
+    }
+    let bytes = layout::settings_in(file);
+    if !tests::settings_bytes_right(bytes) {
+        return refused(3, 0);
+    }
+    let c = layout::settings_of(bytes);
+    let first = tests::first_malformed(c.posts, steps);
+    if first < count {
+        return refused(4, first);
+    }
+    ReadAnswer {
+        reading: Reading::Day(count),
+        settings: c,
+    }
+}
+
+// The first so many steps, as that part of the caller's own file.
+pub fn steps(file: &[u8], count: usize) -> &[u8]
+    ensures { λ r. ⌜ now r ≡ stepsPart (now (file .entry)) count ⌝ }
+{
+    if file.len() / STEP_LENGTH < count {
+        return &file[0..0];
+    }
+    let end = count * STEP_LENGTH;
+    &file[0..end]
+}
+
+// Puts the steps and then the tail at the front of the buffer.
+fn put(steps: &[u8], tail: &[u8], buffer: &mut [u8])
+    requires { ⌜ length (now steps) + length (now tail) ≤ length (now buffer) ⌝ }
+    ensures { λ _. ⌜ now (buffer .exit) ≡ now (steps .entry) ++ (now (tail .entry) ++ drop (length (now (steps .entry)) + length (now (tail .entry))) (now (buffer .entry))) ⌝ }
+{
+    let start = steps.len();
+    let end = start + tail.len();
+    bytes::copy(steps, &mut buffer[..start]);
+    bytes::copy(tail, &mut buffer[start..end]);
+}
+
+// Writes the day file of settings and steps to the front of the buffer.
+pub fn write(c: Settings, steps: &[u8], buffer: &mut [u8]) -> Written
+    ensures { λ r. ⌜ r ≡ writeVerdict c (now (steps .entry)) (length (now (buffer .entry))) ⌝ }
+    ensures { λ _. ⌜ now (buffer .exit) ≡ writtenInto c (now (steps .entry)) (now (buffer .entry)) ⌝ }
+{
+    if !section::settings_right(c) {
+        return Written::Refused(3, 0);
+    }
+    let count = layout::step_count(steps);
+    let first = tests::first_malformed(c.posts, steps);
+    if first < count {
+        return Written::Refused(4, first);
+    }
+    if count > MOST_STEPS {
+        return Written::Refused(5, 0);
+    }
+    let length = SETTINGS_DISTANCE + STEP_LENGTH * count;
+    if buffer.len() < length {
+        return Written::Refused(5, 0);
+    }
+    let tail = layout::tail(c, count);
+    put(steps, &tail, buffer);
+    Written::Bytes(length)
+}
