@@ -1,7 +1,7 @@
 -- Texts put one after another into a buffer.
 use mathlib.Core.Path.{_≡_, refl, sym, _∙_, ap, subst}
 use mathlib.Core.List.{List, [], _∷_, _++_, append-assoc}
-use Prim.Native.Nat.{ℕ, zero, suc, _+_, _*_, _≤_}
+use Prim.Native.Nat.{ℕ, zero, suc, _+_, _-_, _*_, _≤_}
 use native.Mathlib.Omega.{arith}
 use native.Mathlib.Nat.{add-zero, zero-add, mul-suc}
 use native.Mathlib.Numerals.{add-one}
@@ -89,9 +89,12 @@ pub at-front : (l s : List ℕ) → written l 0 s ≡ s ++ drop (length s) l
 unfolding written
 at-front l s = ap (λ (k : ℕ). s ++ drop k l) (zero-add (length s))
 
-pub front-of : (l s : List ℕ) → take (length s) (written l 0 s) ≡ s
-front-of l s = ap (take (length s)) (at-front l s) ∙ take-at s (drop (length s) l) (length s) refl
+-- what was put at the front of a buffer that kept its length: it fits, and is the buffer's front
+module _ (l m s : List ℕ) (r : ℕ) (put : (r ≡ length s) × (m ≡ written l 0 s)) where
+  pub front-fits : length m ≡ length l → r ≤ length m
+  front-fits e = omega (arith, put .0, simp length-append at (ap length (sym (put .1 ∙ at-front l s)) ∙ refl))
 
--- a text in a buffer that kept its length is not longer
-pub fits-front : (l s : List ℕ) → length (written l 0 s) ≡ length l → length s ≤ length l
-fits-front l s e = omega (arith, simp length-append at (ap length (sym (at-front l s)) ∙ e))
+  pub front-taken : take (r - 0) (drop 0 m) ≡ s
+  front-taken =
+      let e : r - 0 ≡ length s = omega (arith, put .0) in
+      ap (λ (k : ℕ). take k m) e ∙ ap (take (length s)) (put .1 ∙ at-front l s) ∙ take-at s (drop (length s) l) (length s) refl
