@@ -8,17 +8,26 @@ pub enum Input {
     Failed,
 }
 
+// Reads once. No bytes: the input has ended.
+fn read_once(rest: &mut [u8]) -> Input
+    ensures { λ r. ⌜ Within r (now (rest .exit)) ⌝ }
+{
+    let got = libc::read(STDIN_FILENO, rest);
+    if got < 0 {
+        return Input::Failed;
+    }
+    Input::Bytes(io::count(got, rest))
+}
+
 // Reads until the input ends or the buffer is full.
 pub fn read_whole(buffer: &mut [u8]) -> Input
     ensures { λ r. ⌜ Within r (now (buffer .exit)) ⌝ }
 {
     let mut done = 0;
     while done < buffer.len() {
-        let got = libc::read(STDIN_FILENO, &mut buffer[done..]);
-        if got < 0 {
+        let Input::Bytes(more) = read_once(&mut buffer[done..]) else {
             return Input::Failed;
-        }
-        let more = io::count(got, &buffer[done..]);
+        };
         if more == 0 {
             break;
         }
