@@ -1,17 +1,16 @@
 -- Demand 3, and that 6 is never answered along a list from fresh.
-use Prim.Native.Nat.{ℕ, _≤_}
+use Prim.Native.Nat.{ℕ}
 use mathlib.Core.Bool.{Bool, true, false, not}
 use mathlib.Core.Path.{_≡_, refl, sym, _∙_}
 use mathlib.Core.List.{List, [], _∷_, _++_}
 use Rattle.section.specs.declared.Settings.{Settings}
 use Rattle.section.specs.declared.Section.{Section}
 use Rattle.section.specs.Fresh.{freshSection}
-use Rattle.section.specs.Numbers.{leastPosts, mostPosts}
 use Rattle.section.specs.Settings.{settingsRight}
 use Rattle.section.specs.Store.{trackOf}
 use Rattle.rules.specs.Judge.{judge}
 use Rattle.rules.specs.Site.{isSettled}
-use Rattle.rules.specs.Demand3.{stateAfter, Taken, acceptedSteps, underWay, OnTrack, NewOrder, Claim, Demand3}
+use Rattle.rules.specs.Demand3.{stateAfter, Taken, acceptedSteps, underWay, OnTrack, NewOrder, Demand3}
 use Rattle.rules.specs.RangesKept.{NeverOutOfRange}
 use Rattle.rules.proofs.View.{Seen, shown}
 use Rattle.rules.proofs.Reading.{Says}
@@ -21,7 +20,7 @@ use Rattle.rules.proofs.Along.{acceptedAs, from-fresh}
 use Rattle.rules.proofs.Fates.{RunsRight, all-runs-right}
 use Rattle.rules.proofs.Lists.{aPost, aTrain, announcers}
 use Rattle.rules.proofs.UnderWay.{Agrees, agrees-kept, fresh-agrees, under-way}
-use Rattle.rules.proofs.Play.{plays-performs}
+use Rattle.rules.proofs.Perform.{performed-performs}
 use Rattle.rules.proofs.Sort.{Progress, progress, fresh-progress, Sorted, sorted}
 use Rattle.rules.proofs.Starts.{one-starter}
 
@@ -81,7 +80,7 @@ module _ (c : Settings) (right : settingsRight c ≡ true) where
       posts-in-sequence = λ b p. o .kept .in-sequence (aPost b p);
       trains-in-sequence = λ b z. o .kept .in-sequence (aTrain b z);
       announcements = o .kept .in-sequence announcers;
-      performs = plays-performs c right [] (fresh-reached c (posts-right c right .0) (posts-right c right .1)) (fresh-agrees c) (o .plays);
+      performs = performed-performs c right [] (fresh-reached c (posts-right c right .0) (posts-right c right .1)) (fresh-agrees c) (o .performed);
     }
 
     all-settled : ((b : Bool) → underWay (c .posts) b steps ≡ false) → (b : Bool) → isSettled (trackOf end b .walk) ≡ true
