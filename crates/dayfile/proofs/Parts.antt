@@ -2,13 +2,13 @@
 use mathlib.Core.Path.{_≡_, refl, sym, _∙_, ap}
 use mathlib.Core.Bool.{Bool, true, false, _&&_, false≢true}
 use mathlib.Core.List.{List, [], _∷_, _++_, append-assoc}
-use Prim.Native.Nat.{ℕ, zero, suc, _+_, _-_, _*_, _/_, _%_, _^_, _<_, _≤_}
+use Prim.Native.Nat.{ℕ, zero, suc, _+_, _-_, _*_, _/_, _^_, _<_, _≤_}
 use native.Mathlib.Nat.{div-lt-iff-lt-mul, pow-le-pow-right}
 use native.Mathlib.Omega.{arith}
 use lib.Pow.{pow-pos}
 use lib.Dec.{eqb, leb}
 use lib.ListN.{length, take, drop, length-append, take-append-drop}
-use lib.Seq.{drop-drop, getD-drop, getD-take, take-at, drop-at}
+use lib.Seq.{drop-drop, getD-drop, take-at, drop-at}
 use borrow.Author.Tests.{eqb-true, eq-eqb, leb-true}
 use Rattle.section.specs.declared.Settings.{Settings}
 use Rattle.section.specs.Bytes.{byte, pair, within, AllBytes}
@@ -17,7 +17,6 @@ use Rattle.section.specs.Settings.{bit, noneFrom, settingsRight}
 use Rattle.dayfile.specs.Layout.{mostSteps, settingsLength, trailerLength, settingsDistance, stepsDistance, mark, pairBytes, four, fourBytes, fourAt, settingsBytes, trailer, fromEnd, trailerIn, settingsIn, stepsIn, settingsOf}
 use Rattle.dayfile.specs.Tests.{markRight, trailerRight, settingsBytesRight}
 use Rattle.dayfile.proofs.Numbers.{pair-number, four-number, pair-bytes, four-bytes, listed}
-use Rattle.dayfile.proofs.Reader.{trailer-length, settings-length}
 
 pub both : (a b : Bool) → a && b ≡ true → (a ≡ true) × (b ≡ true)
 both true b e = (refl, e)
@@ -76,8 +75,13 @@ module _ (s : List ℕ) (l : length s ≡ settingsLength) (bytes : AllBytes s) (
 pub trailer-right : (count : ℕ) → count ≤ mostSteps → trailerRight count (trailer count) ≡ true
 unfolding trailerRight markRight trailer fourBytes fourAt
 trailer-right count h =
-    rw (four-number 24 (omega arith), four-number (24 + 8 * count) (omega arith), four-number count (omega arith),
-    eq-eqb (24 + 8 * count) (24 + 8 * count) refl, eq-eqb count count refl)
+    rw (
+      four-number 24 (omega arith),
+      four-number (24 + 8 * count) (omega arith),
+      four-number count (omega arith),
+      eq-eqb (24 + 8 * count) (24 + 8 * count) refl,
+      eq-eqb count count refl,
+    )
 
 module _ (count : ℕ) (t : List ℕ) (l : length t ≡ trailerLength) (bytes : AllBytes t) (e : trailerRight count t ≡ true) where
   -- four bytes of the trailer that say a number are its bytes
@@ -101,8 +105,11 @@ module _ (count : ℕ) (t : List ℕ) (l : length t ≡ trailerLength) (bytes : 
       let b = both (eqb (fourAt t 4) settingsDistance) _ (a .1) in
       let c = both (eqb (fourAt t 8) (stepsDistance count)) (eqb (fourAt t 12) count) (b .1) in
       ap (λ (m : List ℕ). m ++ (fourBytes settingsDistance ++ (fourBytes (stepsDistance count) ++ fourBytes count))) (mark-bytes (a .0))
-      ∙ rw (number-bytes 4 settingsDistance (eqb-true _ _ (b .0)), number-bytes 8 (stepsDistance count) (eqb-true _ _ (c .0)),
-      number-bytes 12 count (eqb-true _ _ (c .1)))
+      ∙ rw (
+        number-bytes 4 settingsDistance (eqb-true _ _ (b .0)),
+        number-bytes 8 (stepsDistance count) (eqb-true _ _ (c .0)),
+        number-bytes 12 count (eqb-true _ _ (c .1)),
+      )
       (sym (listed 16 0 t l))
 
 -- ## A file and its parts

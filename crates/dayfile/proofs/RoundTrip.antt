@@ -1,16 +1,15 @@
 -- The promises of specs/RoundTrip.antt. A file's parts determine it, and the bytes of its numbers determine them.
 use mathlib.Core.Path.{_≡_, refl, sym, _∙_, ap}
-use mathlib.Core.Bool.{true, false}
 use mathlib.Core.List.{List, _++_}
-use Prim.Native.Nat.{ℕ, _+_, _-_, _*_, _<_, _≤_}
+use Prim.Native.Nat.{ℕ, _-_, _*_, _≤_}
 use native.Mathlib.Omega.{arith}
-use lib.ListN.{length, take, drop, length-append}
+use lib.ListN.{length, drop, length-append}
 use borrow.Author.Tests.{ltb-false, le-ltb}
 use Rattle.section.specs.declared.Settings.{Settings}
 use Rattle.section.specs.Bytes.{AllBytes}
 use Rattle.section.specs.Numbers.{stepLength}
 use Rattle.dayfile.specs.Layout.{mostSteps, settingsDistance, stepsDistance, pairBytes, fourBytes, settingsBytes, trailer, stepCount, fileOf, trailerIn, settingsIn, stepsIn, settingsOf, stepsPart}
-use Rattle.dayfile.specs.Tests.{trailerRight, settingsBytesRight, someMalformed, firstMalformed, readNumber, readVerdict, readOf, writeVerdict, writeNumber, writtenInto}
+use Rattle.dayfile.specs.Tests.{someMalformed, firstMalformed, readNumber, readVerdict, readOf, writeVerdict, writeNumber, writtenInto}
 use Rattle.dayfile.specs.declared.Reading.the-variants.{Day}
 use Rattle.dayfile.specs.declared.Written.the-variants.{Bytes}
 use Rattle.dayfile.specs.RoundTrip.{ReadsWhatIsWritten, WritesWhatIsRead, MeansOneThing, GivesItsSteps}
@@ -52,13 +51,6 @@ module _ (c : Settings) (steps : List ℕ) (w : BytesWritten c steps) where
   unfolding fileOf
   trailer-back = trailer-of steps (settingsBytes c) (trailer (stepCount steps)) (settings-long c) (trailer-long (stepCount steps))
 
-  said-back : settingsOf (settingsIn (fileOf c steps)) ≡ c
-  said-back = ap settingsOf settings-back ∙ settings-said c (w .settings-well)
-
-  first-back :
-      firstMalformed (settingsOf (settingsIn (fileOf c steps)) .posts) (stepsIn (fileOf c steps)) ≡ firstMalformed (c .posts) steps
-  first-back = rw (said-back, steps-back)
-
   none-malformed : stepCount steps ≤ firstMalformed (c .posts) steps
   unfolding someMalformed
   none-malformed = ltb-false _ _ (w .steps-well)
@@ -66,11 +58,10 @@ module _ (c : Settings) (steps : List ℕ) (w : BytesWritten c steps) where
   read-back : readOf (fileOf c steps) ≡ record { reading = Day (stepCount steps); settings = c }
   read-back =
       sym
-      (answer-day (fileOf c steps) (not-wrong _ file-length-right)
-      (rw (steps-back, trailer-back) (trailer-right (stepCount steps) (w .few)))
-      (rw settings-back (settings-bytes-right c (w .settings-well)))
-      (rw (steps-back, said-back) none-malformed))
-      ∙ rw (steps-back, said-back)
+      (answer-day (fileOf c steps) steps (trailer (stepCount steps)) (stepCount steps) (sym steps-back) refl (sym trailer-back)
+      (not-wrong _ file-length-right) (trailer-right (stepCount steps) (w .few)) (settingsBytes c) (sym settings-back)
+      (settings-bytes-right c (w .settings-well)) c (firstMalformed (c .posts) steps) (sym (settings-said c (w .settings-well))) refl
+      none-malformed)
 
 pub reads-what-is-written : ReadsWhatIsWritten
 reads-what-is-written c steps room written e = let w = bytes-written c steps room written e in (read-back c steps w, steps-back c steps w)
@@ -90,17 +81,24 @@ module _ (file : List ℕ) (count : ℕ) (bytes : AllBytes file) (d : DayRead fi
   unfolding fileOf
   same-file =
       let h = d .length-well .least in
-      rw (settings-bytes (settingsIn file) (settings-length file h) (settings-all-bytes file h bytes) (d .settings-well),
-      trailer-bytes (stepCount (stepsIn file)) (trailerIn file) (trailer-length file h) (trailer-all-bytes file h bytes) (d .trailer-well))
+      rw (
+        settings-bytes (settingsIn file) (settings-length file h) (settings-all-bytes file h bytes) (d .settings-well),
+        trailer-bytes (stepCount (stepsIn file)) (trailerIn file) (trailer-length file h) (trailer-all-bytes file h bytes) (d .trailer-well),
+      )
       (of-its-parts file h)
 
   module _ (buffer : List ℕ) (h : length file ≤ length buffer) where
     same-verdict : writeVerdict (settingsOf (settingsIn file)) (stepsIn file) (length buffer) ≡ Bytes (length file)
     unfolding writeVerdict
     same-verdict =
-        rw (settings-right (settingsIn file) (settings-length file (d .length-well .least))
-        (settings-all-bytes file (d .length-well .least) bytes) (d .settings-well), d .steps-well,
-        le-ltb mostSteps (stepCount (stepsIn file)) (few-steps file (d .length-well)), same-length file count d, le-ltb (length buffer) (length file) h)
+        rw (
+          settings-right (settingsIn file) (settings-length file (d .length-well .least))
+              (settings-all-bytes file (d .length-well .least) bytes) (d .settings-well),
+          d .steps-well,
+          le-ltb mostSteps (stepCount (stepsIn file)) (few-steps file (d .length-well)),
+          same-length file count d,
+          le-ltb (length buffer) (length file) h,
+        )
 
     same-buffer :
         writtenInto (settingsOf (settingsIn file)) (stepsIn file) buffer ≡ file ++ drop (length file) buffer
@@ -110,11 +108,13 @@ module _ (file : List ℕ) (count : ℕ) (bytes : AllBytes file) (d : DayRead fi
 pub writes-what-is-read : WritesWhatIsRead
 unfolding readOf
 writes-what-is-read file count bytes e =
-    let d = day-read file count e in
-    (rw (read-settings file count e) (same-file file count bytes d),
-    λ buffer h.
-    (rw (read-settings file count e) (same-verdict file count bytes d buffer h),
-    rw (read-settings file count e) (same-buffer file count bytes d buffer h)))
+    let d = day-read file count e in (
+      rw (read-settings file count e) (same-file file count bytes d),
+      λ buffer h. (
+        rw (read-settings file count e) (same-verdict file count bytes d buffer h),
+        rw (read-settings file count e) (same-buffer file count bytes d buffer h),
+      ),
+    )
 
 pub means-one-thing : MeansOneThing
 means-one-thing one other count number bytes others e f s t =

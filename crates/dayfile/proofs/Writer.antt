@@ -1,6 +1,6 @@
 -- The writer's answers with the buffer afterwards, each by the tests that lead to it; two parts of a buffer, written one after the other.
 use mathlib.Core.Path.{_≡_, refl, sym, _∙_, ap}
-use mathlib.Core.Bool.{Bool, true, false, not, _||_}
+use mathlib.Core.Bool.{true, false, not, _||_}
 use mathlib.Core.List.{List, [], _∷_, _++_, append-nil, append-assoc}
 use Prim.Native.Nat.{ℕ, _+_, _-_, _*_, _<_, _≤_}
 use native.Mathlib.Nat.{add-sub-cancel-left}
@@ -60,33 +60,33 @@ module _ (c : Settings) (steps buffer : List ℕ) where
 
   pub answer-3 : settingsRight c ≡ false → Answered (Refused 3 0) buffer
   unfolding writeVerdict
-  answer-3 e = refused 3 0 refl (rw e)
+  answer-3 e₃ = refused 3 0 refl (rw e₃)
 
-  module _ (e₃ : settingsRight c ≡ true) where
-    pub answer-4 :
-        firstMalformed (c .posts) steps < stepCount steps → Answered (Refused 4 (firstMalformed (c .posts) steps)) buffer
+  module _
+      (count first : ℕ) (ec : count ≡ stepCount steps) (ef : first ≡ firstMalformed (c .posts) steps)
+      (e₃ : settingsRight c ≡ true) where
+    pub answer-4 : first < count → Answered (Refused 4 first) buffer
     unfolding writeVerdict someMalformed
-    answer-4 h = refused 4 (firstMalformed (c .posts) steps) refl (rw (e₃, lt-ltb _ _ h))
+    answer-4 h = refused 4 first refl (rw (e₃, ← ec, ← ef, lt-ltb _ _ h))
 
-    module _ (h₄ : stepCount steps ≤ firstMalformed (c .posts) steps) where
-      pub answer-5-many : mostSteps < stepCount steps → Answered (Refused 5 0) buffer
+    module _ (h₄ : count ≤ first) where
+      pub answer-5-many : mostSteps < count → Answered (Refused 5 0) buffer
       unfolding writeVerdict someMalformed
-      answer-5-many h = refused 5 0 refl (rw (e₃, le-ltb _ _ h₄, lt-ltb _ _ h))
+      answer-5-many h = refused 5 0 refl (rw (e₃, ← ec, ← ef, le-ltb _ _ h₄, lt-ltb _ _ h))
 
-      module _ (h₅ : stepCount steps ≤ mostSteps) where
-        pub answer-5-short : length buffer < stepsDistance (stepCount steps) → Answered (Refused 5 0) buffer
+      module _ (h₅ : count ≤ mostSteps) where
+        pub answer-5-short : length buffer < stepsDistance count → Answered (Refused 5 0) buffer
         unfolding writeVerdict someMalformed
-        answer-5-short h = refused 5 0 refl (rw (e₃, le-ltb _ _ h₄, le-ltb _ _ h₅, lt-ltb _ _ h))
+        answer-5-short h = refused 5 0 refl (rw (e₃, ← ec, ← ef, le-ltb _ _ h₄, le-ltb _ _ h₅, lt-ltb _ _ h))
 
         pub answer-bytes :
-            stepsDistance (stepCount steps) ≤ length buffer →
-            (tail : List ℕ) → tail ≡ settingsBytes c ++ trailer (stepCount steps) →
-            Answered (Bytes (stepsDistance (stepCount steps))) (steps ++ (tail ++ drop (length steps + length tail) buffer))
+            stepsDistance count ≤ length buffer → (tail : List ℕ) → tail ≡ settingsBytes c ++ trailer count →
+            Answered (Bytes (stepsDistance count)) (steps ++ (tail ++ drop (length steps + length tail) buffer))
         unfolding writeVerdict someMalformed writtenInto writeNumber fileOf
         answer-bytes h tail e =
-            let v : writeVerdict c steps (length buffer) ≡ Bytes (stepsDistance (stepCount steps)) =
-            rw (e₃, le-ltb _ _ h₄, le-ltb _ _ h₅, le-ltb _ _ h) in
-            (sym v, rw (v, ← e, append-assoc, length-append))
+            let v : writeVerdict c steps (length buffer) ≡ Bytes (stepsDistance count) =
+            rw (e₃, ← ec, ← ef, le-ltb _ _ h₄, le-ltb _ _ h₅, le-ltb _ _ h) in
+            (sym v, rw (v, ← ec, ← e, append-assoc, length-append))
 
 -- ## The settings and the trailer from the bytes of their numbers
 
@@ -131,5 +131,5 @@ bytes-written c steps room written e =
     record {
       settings-well = not-false _ (a .0);
       steps-well = b .0;
-      few = ltb-false _ _ (neither (ltb mostSteps n) (ltb room (stepsDistance n)) (d .0) .0)
+      few = ltb-false _ _ (neither (ltb mostSteps n) (ltb room (stepsDistance n)) (d .0) .0);
     }

@@ -7,48 +7,35 @@ use Rattle.dayfile.proofs.Writer.{both-written}
 use borrow.Author.Needs.{needs}
 use Rattle.dayfile.proofs.put.Statement.{statement}
 use Rattle.dayfile.proofs.put.Tie as tie
-use Rattle.dayfile.proofs.put.Reads as reads
-use Rattle.dayfile.proofs.put.Lts as lts
-use Rattle.bytes.proofs.copy.Reads as copy-reads
 
--- src/lib.rt:93:15
 add-end : tie.Need-add-end
 add-end c = search needs
 
--- src/lib.rt:94:24
 slice-relend-prefix-copy : tie.Need-slice-relend-prefix-copy
 slice-relend-prefix-copy c = search needs
 
--- src/lib.rt:94:24
 slice-aggregate-copy : tie.Need-slice-aggregate-copy
 slice-aggregate-copy c = sym (length-take-le _ _ (omega arith))
 
--- src/lib.rt:94:5
 copy-requires : tie.Need-copy-requires
 copy-requires c κs = let a = c .before .before .before .before .args in
     omega (arith, length-take-le (length (now (a .steps))) (now (a .buffer)) (omega arith))
 
--- src/lib.rt:95:23
 sub-copy : tie.Need-sub-copy
 sub-copy c = search needs
 
--- src/lib.rt:95:23
 part-copy-start : tie.Need-part-copy-start
 part-copy-start c = search needs
 
--- src/lib.rt:95:23
 part-copy-end : tie.Need-part-copy-end
 part-copy-end c = search needs
 
--- src/lib.rt:95:5
 copy-requires-2 : tie.Need-copy-requires-2
 copy-requires-2 c κs = search needs
 
--- src/lib.rt:88:1
 same-length : tie.Need-same-length
 same-length c = search needs
 
--- src/lib.rt:88:1
 returns : tie.Need-returns
 returns c = let d = c .before .before .before .before .before .before in
     let a = d .before .before .before .before .before .args in
