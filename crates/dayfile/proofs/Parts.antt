@@ -14,7 +14,8 @@ use Rattle.section.specs.declared.Settings.{Settings}
 use Rattle.section.specs.Bytes.{byte, pair, within, AllBytes}
 use Rattle.section.specs.Numbers.{leastPosts, mostPosts, largestLine}
 use Rattle.section.specs.Settings.{bit, noneFrom, settingsRight}
-use Rattle.dayfile.specs.Layout.{mostSteps, settingsLength, trailerLength, settingsDistance, stepsDistance, mark, pairBytes, four, fourBytes, fourAt, settingsBytes, trailer, fromEnd, trailerIn, settingsIn, stepsIn, settingsOf}
+use Rattle.dayfile.specs.Layout.{mostSteps, settingsLength, trailerLength, settingsDistance, stepsDistance, mark, pairBytes, four}
+use Rattle.dayfile.specs.Layout.{fourBytes, fourAt, settingsBytes, trailer, fromEnd, trailerIn, settingsIn, stepsIn, settingsOf}
 use Rattle.dayfile.specs.Tests.{markRight, trailerRight, settingsBytesRight}
 use Rattle.dayfile.proofs.Numbers.{pair-number, four-number, pair-bytes, four-bytes, listed}
 
@@ -88,7 +89,8 @@ module _ (count : ℕ) (t : List ℕ) (l : length t ≡ trailerLength) (bytes : 
   number-bytes : (i x : ℕ) → fourAt t i ≡ x → fourBytes x ≡ byte t i ∷ byte t (i + 1) ∷ byte t (i + 2) ∷ byte t (i + 3) ∷ []
   unfolding fourAt
   number-bytes i x q =
-      ap fourBytes (sym q) ∙ four-bytes (byte t i) (byte t (i + 1)) (bytes i) (bytes (i + 1)) (byte t (i + 2)) (byte t (i + 3)) (bytes (i + 2)) (bytes (i + 3))
+      ap fourBytes (sym q)
+      ∙ four-bytes (byte t i) (byte t (i + 1)) (bytes i) (bytes (i + 1)) (byte t (i + 2)) (byte t (i + 3)) (bytes (i + 2)) (bytes (i + 3))
 
   mark-bytes : markRight t ≡ true → mark ≡ byte t 0 ∷ byte t 1 ∷ byte t 2 ∷ byte t 3 ∷ []
   unfolding markRight

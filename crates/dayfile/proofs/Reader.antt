@@ -10,8 +10,10 @@ use lib.Dec.{ltb}
 use borrow.Author.Tests.{ltb-false, eqb-true, not-false, lt-ltb, le-ltb, eq-eqb}
 use Rattle.section.specs.declared.Settings.{Settings}
 use Rattle.section.specs.Numbers.{stepLength}
-use Rattle.dayfile.specs.Layout.{mostSteps, settingsLength, trailerLength, settingsDistance, longestFile, stepCount, fromEnd, trailerIn, settingsIn, stepsIn, settingsOf}
-use Rattle.dayfile.specs.Tests.{lengthWrong, trailerRight, settingsBytesRight, someMalformed, firstMalformed, readNumber, readVerdict, notRead, readOf}
+use Rattle.dayfile.specs.Layout.{mostSteps, settingsLength, trailerLength, settingsDistance, longestFile, stepCount, fromEnd}
+use Rattle.dayfile.specs.Layout.{trailerIn, settingsIn, stepsIn, settingsOf}
+use Rattle.dayfile.specs.Tests.{lengthWrong, trailerRight, settingsBytesRight, someMalformed, firstMalformed, refusalNumber}
+use Rattle.dayfile.specs.Tests.{readVerdict, notRead, readOf}
 use Rattle.dayfile.specs.declared.Reading.the-variants.{Day, Refused}
 use Rattle.dayfile.specs.declared.ReadAnswer.{ReadAnswer}
 
@@ -63,30 +65,30 @@ few-steps file h = omega (arith, steps-length file (h .least), h .most, h .whole
 -- ## The answers, of the parts that the calls handed over
 
 pub answer-1 : (file : List ℕ) → lengthWrong (length file) ≡ true → notRead 1 0 ≡ readOf file
-unfolding readOf readVerdict readNumber notRead
+unfolding readOf readVerdict refusalNumber notRead
 answer-1 file e = rw e
 
 module _
     (file steps t : List ℕ) (count : ℕ) (es : steps ≡ stepsIn file) (ec : count ≡ stepCount steps) (et : t ≡ trailerIn file)
     (e₁ : lengthWrong (length file) ≡ false) where
   pub answer-2 : trailerRight count t ≡ false → notRead 2 0 ≡ readOf file
-  unfolding readOf readVerdict readNumber notRead
+  unfolding readOf readVerdict refusalNumber notRead
   answer-2 e₂ = rw (e₁, ← es, ← ec, ← et, e₂)
 
   module _ (e₂ : trailerRight count t ≡ true) (s : List ℕ) (eb : s ≡ settingsIn file) where
     pub answer-3 : settingsBytesRight s ≡ false → notRead 3 0 ≡ readOf file
-    unfolding readOf readVerdict readNumber notRead
+    unfolding readOf readVerdict refusalNumber notRead
     answer-3 e₃ = rw (e₁, ← es, ← ec, ← et, e₂, ← eb, e₃)
 
     module _
         (e₃ : settingsBytesRight s ≡ true) (c : Settings) (first : ℕ) (eo : c ≡ settingsOf s)
         (ef : first ≡ firstMalformed (c .posts) steps) where
       pub answer-4 : first < count → notRead 4 first ≡ readOf file
-      unfolding readOf readVerdict readNumber notRead someMalformed
+      unfolding readOf readVerdict refusalNumber notRead someMalformed
       answer-4 h = rw (e₁, ← es, ← ec, ← et, e₂, ← eb, e₃, ← eo, ← ef, lt-ltb _ _ h)
 
       pub answer-day : count ≤ first → _≡_ {A = ReadAnswer} (record { reading = Day count; settings = c }) (readOf file)
-      unfolding readOf readVerdict readNumber someMalformed
+      unfolding readOf readVerdict refusalNumber someMalformed
       answer-day h = rw (e₁, ← es, ← ec, ← et, e₂, ← eb, e₃, ← eo, ← ef, le-ltb _ _ h)
 
 -- ## A file that is read

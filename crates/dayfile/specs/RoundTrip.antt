@@ -6,7 +6,8 @@ use lib.ListN.{length, drop}
 use Rattle.section.specs.declared.Settings.{Settings}
 use Rattle.section.specs.Bytes.{AllBytes}
 use Rattle.dayfile.specs.Layout.{stepCount, fileOf, stepsIn, stepsPart}
-use Rattle.dayfile.specs.Tests.{readOf, writeVerdict, writtenInto}
+use Rattle.dayfile.specs.Tests.{refusalNumber, refusalIndex, writerRefusalNumber, writerRefusalIndex, readVerdict, readOf}
+use Rattle.dayfile.specs.Tests.{writeVerdict, writtenInto}
 use Rattle.dayfile.specs.declared.Reading.the-variants.{Day}
 use Rattle.dayfile.specs.declared.Written.the-variants.{Bytes}
 
@@ -36,3 +37,10 @@ MeansOneThing =
 -- The part that the reader's count gives is the file's steps.
 abbrev pub GivesItsSteps : Type 0
 GivesItsSteps = (file : List ℕ) (count : ℕ) → readOf file .reading ≡ Day count → stepsPart file count ≡ stepsIn file
+
+-- "with the index of the first malformed step for 4 and zero otherwise"
+abbrev pub IndexOnlyForFour : Type 0
+IndexOnlyForFour =
+    ((file : List ℕ) → (refusalNumber (readVerdict file) ≡ 4 → ⊥) → refusalIndex (readVerdict file) ≡ 0)
+    × ((c : Settings) (steps : List ℕ) (room : ℕ) →
+    (writerRefusalNumber (writeVerdict c steps room) ≡ 4 → ⊥) → writerRefusalIndex (writeVerdict c steps room) ≡ 0)

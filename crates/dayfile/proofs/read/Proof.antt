@@ -1,3 +1,4 @@
+-- Each answer follows from the tests that led to it, as `Reader` says; a right length gives the parts their lengths.
 use mathlib.Core.Path.{_∙_}
 use Rattle.dayfile.proofs.Reader.{length-right, trailer-length, settings-length, few-steps, answer-1, answer-2, answer-3, answer-4, answer-day}
 use Rattle.section.proofs.Told.{told, told-false, told-true}

@@ -1,3 +1,4 @@
+-- The answer is made of its number, its index and blank settings.
 use Rattle.dayfile.specs.Tests.{notRead, blank}
 use mathlib.Core.Path.{refl}
 use Rattle.dayfile.proofs.refused.Statement.{statement}

@@ -1,3 +1,4 @@
+-- A file has `count` whole steps where its length by eight is at least `count`.
 use native.Mathlib.Nat.{sub-zero, mul-comm}
 use lib.ListN.{length}
 use Prim.Native.Nat.{_*_}

@@ -1,9 +1,7 @@
-use Rattle.dayfile.proofs.Writer.{tail-length, steps-fit, answer-3, answer-4, answer-5-many, answer-5-short, answer-bytes}
-use lib.ListN.{length}
+-- Each answer follows from the tests that led to it, as `Writer` says; `put` leaves the file at the front of the buffer.
+use mathlib.Core.Path.{_∙_}
+use Rattle.dayfile.proofs.Writer.{answer-3, answer-4, answer-5-many, answer-5-short, answer-bytes}
 use Rattle.section.proofs.Told.{told-false, told-true}
-use native.Mathlib.Omega.{arith}
-use mathlib.Core.Path.{_∙_, ap}
-use denote.Ref.{now}
 use borrow.Author.Needs.{needs}
 use Rattle.dayfile.proofs.write.Statement.{statement}
 use Rattle.dayfile.proofs.write.Tie as tie
@@ -45,35 +43,20 @@ returns-4 c = let g = c .before .before .before in
     answer-5-short _ _ _ _ _ (g .before .step-count .ensures) (g .first-malformed .ensures) e₃ (c .before .before .if2 .left) (c .before .if3 .left)
     (c .if4 .taken)
 
-tail-requires : tie.Need-tail-requires
-tail-requires c κs = search needs
-
-slice-aggregate-put : tie.Need-slice-aggregate-put
-slice-aggregate-put c = search needs
-
 put-requires : tie.Need-put-requires
-put-requires c κs = let t = c .before .before in
-    let e = t .before .before .before in
-    let g = e .before in
-    let b = g .before .before in
-    let a = b .before .before .before .before .args in
-    let s = now (a .steps) in
-    let ec = g .before .step-count .ensures in
-    let et = ap length (t .tail .ensures) ∙ tail-length (a .c) (g .before .step-count .result) in
-    omega (arith, et, steps-fit s, ec, t .before .if4 .left)
+put-requires c κs = let h = c .before in
+    (h .before .before .before .before .step-count .ensures, (h .before .if3 .left, h .if4 .left))
 
 same-length : tie.Need-same-length
 same-length c = search needs
 
 returns-5 : tie.Need-returns-5
-returns-5 c = let t = c .before .before .before .before .before in
-    let h = t .before in
+returns-5 c = let h = c .before .before .before .before in
     let g = h .before .before .before in
     let b = g .before .before in
-    let e₃ = told-true (b .before .settings-right .ensures) (b .if1 .left) in
     let r =
-    answer-bytes _ _ _ _ _ (g .before .step-count .ensures) (g .first-malformed .ensures) e₃ (h .before .before .if2 .left) (h .before .if3 .left)
-    (h .if4 .left) _ (t .tail .ensures) in
+    answer-bytes _ _ _ _ _ (g .before .step-count .ensures) (g .first-malformed .ensures) (told-true (b .before .settings-right .ensures) (b .if1 .left))
+    (h .before .before .if2 .left) (h .before .if3 .left) (h .if4 .left) in
     (r .0, c .before .before .put .ensures ∙ r .1)
 
 pub write-spec : {M : Type 1} → statement M
@@ -89,8 +72,6 @@ write-spec =
     mul-length
     add-length
     returns-4
-    tail-requires
-    slice-aggregate-put
     put-requires
     same-length
     returns-5)

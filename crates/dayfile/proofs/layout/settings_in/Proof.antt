@@ -1,3 +1,4 @@
+-- The part is eight bytes long.
 use Rattle.dayfile.specs.Layout.{settingsIn, fromEnd}
 use native.Mathlib.Nat.{add-sub-cancel-left}
 use borrow.Author.Needs.{needs}

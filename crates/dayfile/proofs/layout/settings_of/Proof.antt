@@ -1,3 +1,4 @@
+-- The two numbers are those of their bytes.
 use Rattle.dayfile.specs.Layout.{settingsOf}
 use borrow.Author.Needs.{needs}
 use Rattle.dayfile.proofs.layout.settings_of.Statement.{statement}

@@ -1,3 +1,4 @@
+-- A rest makes one step more.
 use Rattle.dayfile.specs.Layout.{stepCount}
 use native.Mathlib.Omega.{arith}
 use borrow.Author.Needs.{needs}

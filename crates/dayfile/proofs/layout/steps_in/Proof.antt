@@ -1,3 +1,4 @@
+-- The part begins at the file's first byte.
 use native.Mathlib.Nat.{sub-zero}
 use Rattle.dayfile.specs.Layout.{stepsIn}
 use borrow.Author.Needs.{needs}

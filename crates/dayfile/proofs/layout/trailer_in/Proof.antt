@@ -1,3 +1,4 @@
+-- What begins 16 bytes before the end reaches to the end.
 use lib.ListN.{length, drop, length-drop}
 use Prim.Native.Nat.{_-_}
 use Rattle.dayfile.specs.Layout.{trailerIn, fromEnd}

@@ -1,3 +1,4 @@
+-- The branches are the tests, in their order.
 use Rattle.dayfile.specs.Tests.{lengthWrong}
 use borrow.Author.Tests.{lt-ltb, le-ltb}
 use Rattle.dayfile.proofs.tests.length_wrong.Statement.{statement}

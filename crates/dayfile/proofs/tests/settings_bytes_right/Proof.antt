@@ -1,3 +1,4 @@
+-- The branches are the tests of the ranges and of bytes 6 and 7.
 use Rattle.dayfile.specs.Tests.{settingsBytesRight}
 use Rattle.section.proofs.Told.{told-false, told-true}
 use borrow.Author.Needs.{needs}

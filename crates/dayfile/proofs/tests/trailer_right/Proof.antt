@@ -1,3 +1,4 @@
+-- The branches are the tests of the mark, the distances and the count, in their order.
 use Rattle.dayfile.specs.Tests.{trailerRight}
 use borrow.Author.Tests.{eq-eqb, ne-eqb}
 use Rattle.section.proofs.Told.{told-false, told-true}
