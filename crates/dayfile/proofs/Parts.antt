@@ -16,7 +16,7 @@ use Rattle.section.specs.Numbers.{leastPosts, mostPosts, largestLine}
 use Rattle.section.specs.Settings.{bit, noneFrom, settingsRight}
 use Rattle.dayfile.specs.Layout.{mostSteps, settingsLength, trailerLength, settingsDistance, stepsDistance, mark, pairBytes, four}
 use Rattle.dayfile.specs.Layout.{fourBytes, fourAt, settingsBytes, trailer, fromEnd, trailerIn, settingsIn, stepsIn, settingsOf}
-use Rattle.dayfile.specs.Tests.{markRight, trailerRight, settingsBytesRight}
+use Rattle.dayfile.specs.Tests.{markRight, trailerRight, zerosRight, settingsBytesRight}
 use Rattle.dayfile.proofs.Numbers.{pair-number, four-number, pair-bytes, four-bytes, listed}
 
 pub both : (a b : Bool) → a && b ≡ true → (a ≡ true) × (b ≡ true)
@@ -25,8 +25,8 @@ both false b e = absurd (false≢true e)
 
 -- ## Settings
 
-zeros-written : (c : Settings) → eqb (pair (byte (settingsBytes c) 6) (byte (settingsBytes c) 7)) 0 ≡ true
-unfolding settingsBytes pairBytes pair
+zeros-written : (c : Settings) → zerosRight (settingsBytes c) ≡ true
+unfolding zerosRight settingsBytes pairBytes pair
 zeros-written c = refl
 
 module _ (c : Settings) (e : settingsRight c ≡ true) where
@@ -59,17 +59,17 @@ module _ (s : List ℕ) (l : length s ≡ settingsLength) (bytes : AllBytes s) (
   unfolding settingsBytesRight
   settings-right = both (settingsRight (settingsOf s)) _ e .0
 
-  zeros-are : pair (byte s 6) (byte s 7) ≡ 0
-  unfolding settingsBytesRight
-  zeros-are = eqb-true _ _ (both (settingsRight (settingsOf s)) (eqb (pair (byte s 6) (byte s 7)) 0) e .1)
+  zeros-are : (byte s 6 ≡ 0) × (byte s 7 ≡ 0)
+  unfolding settingsBytesRight zerosRight pair
+  zeros-are =
+      let z : byte s 6 + byte s 7 * 256 ≡ 0 = eqb-true _ _ (both (settingsRight (settingsOf s)) (zerosRight s) e .1) in
+      (omega arith, omega arith)
 
   pub settings-bytes : settingsBytes (settingsOf s) ≡ s
-  unfolding settingsBytes settingsOf pair
+  unfolding settingsBytes settingsOf
   settings-bytes =
-      let z₆ : byte s 6 ≡ 0 = omega (arith, zeros-are) in
-      let z₇ : byte s 7 ≡ 0 = omega (arith, zeros-are) in
       rw (pair-bytes (byte s 2) (byte s 3) (bytes 2) (bytes 3), pair-bytes (byte s 4) (byte s 5) (bytes 4) (bytes 5))
-      (sym (listed 8 0 s l ∙ rw (z₆, z₇)))
+      (sym (listed 8 0 s l ∙ rw (zeros-are .0, zeros-are .1)))
 
 -- ## The trailer
 

@@ -6,6 +6,7 @@ use Prim.Native.Nat.{ℕ, _-_, _*_, _≤_}
 use native.Mathlib.Omega.{arith}
 use lib.Dec.{ltb}
 use lib.ListN.{length, drop, length-append}
+use lib.Seq.{take-at}
 use borrow.Author.Tests.{ltb-false, le-ltb}
 use Rattle.section.specs.declared.Settings.{Settings}
 use Rattle.section.specs.Bytes.{AllBytes}
@@ -28,7 +29,7 @@ use Rattle.dayfile.proofs.Writer.{settings-long, trailer-long, BytesWri
 
 -- ## What is written is read back
 
-module _ (c : Settings) (steps : List ℕ) (w : BytesWritten c steps) where
+module _ (c : Settings) (steps : List ℕ) (written : ℕ) (w : BytesWritten c steps written) where
   file-length : length (fileOf c steps) ≡ stepsDistance (stepCount steps)
   unfolding fileOf
   file-length =
@@ -64,7 +65,12 @@ module _ (c : Settings) (steps : List ℕ) (w : BytesWritten c steps) where
       none-malformed)
 
 pub reads-what-is-written : ReadsWhatIsWritten
-reads-what-is-written c steps room written e = let w = bytes-written c steps room written e in (read-back c steps w, steps-back c steps w)
+unfolding writtenInto writerRefusalNumber
+reads-what-is-written c steps buffer written e =
+    let w = bytes-written c steps (length buffer) written e in (
+      rw e (take-at (fileOf c steps) (drop (length (fileOf c steps)) buffer) written (file-length c steps written w ∙ w .counted)),
+      (read-back c steps written w, steps-back c steps written w),
+    )
 
 -- ## What is read is written back
 

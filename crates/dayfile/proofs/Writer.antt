@@ -150,12 +150,17 @@ steps-fit steps = omega arith
 never-bytes : (k i n : ℕ) → Refused k i ≡ Bytes n → ⊥
 never-bytes k i n e = let z : _≡_ {A = ℕ} 0 1 = cc in omega arith
 
-pub record BytesWritten (c : Settings) (steps : List ℕ) : Type 0 where
+pub record BytesWritten (c : Settings) (steps : List ℕ) (written : ℕ) : Type 0 where
   pub settings-well : settingsRight c ≡ true
   pub steps-well : someMalformed (c .posts) steps ≡ false
   pub few : stepCount steps ≤ mostSteps
+  pub counted : stepsDistance (stepCount steps) ≡ written
 
-pub bytes-written : (c : Settings) (steps : List ℕ) (room written : ℕ) → writeVerdict c steps room ≡ Bytes written → BytesWritten c steps
+same-bytes : (m n : ℕ) → Bytes m ≡ Bytes n → m ≡ n
+same-bytes m n e = cc
+
+pub bytes-written :
+    (c : Settings) (steps : List ℕ) (room written : ℕ) → writeVerdict c steps room ≡ Bytes written → BytesWritten c steps written
 unfolding writeVerdict
 bytes-written c steps room written e =
     let n = stepCount steps in
@@ -168,4 +173,5 @@ bytes-written c steps room written e =
       settings-well = not-false _ (a .0);
       steps-well = b .0;
       few = ltb-false _ _ (neither (ltb mostSteps n) (ltb room (stepsDistance n)) (d .0) .0);
+      counted = same-bytes (stepsDistance n) written (d .1);
     }

@@ -52,9 +52,13 @@ trailerRight count t =
     markRight t
     && (eqb (fourAt t 4) settingsDistance && (eqb (fourAt t 8) (stepsDistance count) && eqb (fourAt t 12) count))
 
--- "settings outside the above" fail; bytes 6–7 are zero
+-- "bytes 6–7 zero"
+unfoldable pub zerosRight : List ℕ → Bool
+zerosRight s = eqb (pair (byte s 6) (byte s 7)) 0
+
+-- "settings outside the above" are refused
 unfoldable pub settingsBytesRight : List ℕ → Bool
-settingsBytesRight s = settingsRight (settingsOf s) && eqb (pair (byte s 6) (byte s 7)) 0
+settingsBytesRight s = settingsRight (settingsOf s) && zerosRight s
 
 unfoldable pub wellAt : ℕ → List ℕ → ℕ → Bool
 wellAt n steps i = wellFormed n (stepAt steps i)

@@ -1,5 +1,5 @@
 -- The branches are the tests of the ranges and of bytes 6 and 7.
-use Rattle.dayfile.specs.Tests.{settingsBytesRight}
+use Rattle.dayfile.specs.Tests.{settingsBytesRight, zerosRight}
 use Rattle.section.proofs.Told.{told-false, told-true}
 use borrow.Author.Needs.{needs}
 use Rattle.dayfile.proofs.tests.settings_bytes_right.Statement.{statement}
@@ -12,7 +12,7 @@ settings-right-requires : tie.Need-settings-right-requires
 settings-right-requires c κs = search needs
 
 returns : tie.Need-returns
-unfolding settingsBytesRight
+unfolding settingsBytesRight zerosRight
 returns c = rw (← c .before .before .settings-of .ensures, told-false (c .before .settings-right .ensures) (c .if1 .taken))
 
 shared-slice-read-pair-of : tie.Need-shared-slice-read-pair-of
@@ -25,7 +25,7 @@ pair-of-requires : tie.Need-pair-of-requires
 pair-of-requires c κs = search needs
 
 returns-2 : tie.Need-returns-2
-unfolding settingsBytesRight
+unfolding settingsBytesRight zerosRight
 returns-2 c = let b = c .before .before .before in
     rw (← b .before .before .settings-of .ensures, told-true (b .before .settings-right .ensures) (b .if1 .left), ← c .pair-of .ensures)
 
