@@ -1,74 +1,132 @@
--- Decoding and encoding a step are inverse to each other, and what well-formed bytes say.
+-- Decoding and encoding a step are inverse to each other. What bytes that say a step say of its fields.
 use Prim.Native.Nat.{ℕ, _≤_, _<_, _/_, _%_}
 use mathlib.Core.Path.{_≡_, refl, sym, _∙_, ap}
-use mathlib.Core.Bool.{Bool, true, false, cond, _&&_}
-use mathlib.Core.List.{List, [], _∷_}
+use mathlib.Core.Bool.{Bool, true}
+use mathlib.Core.List.{List}
 use native.Mathlib.Omega.{arith}
 use lib.ListN.{length}
-use lib.Dec.{eqb, ltb, leb}
-use borrow.Author.Tests.{eqb-true, ltb-true, leb-true, eq-eqb}
-use Rattle.section.specs.declared.Fault.{Fault}
-use Rattle.section.specs.declared.Fault.the-variants.{One, Two, Three}
+use lib.Seq.{ext-getD}
+use lib.Dec.{eqb, ltb}
+use borrow.Author.Tests.{lt-ltb, ltb-true}
 use Rattle.section.specs.declared.Step.{Step}
-use Rattle.section.specs.declared.Step.the-variants.{Order, Set, Announce, Acknowledge, Start, Pass, Leave, MeasuresOn, MeasuresOff, FaultOn, FaultOff, Release, Key}
 use Rattle.section.specs.declared.TrackStep.{TrackStep}
-use Rattle.section.specs.declared.Decoded.{Decoded}
-use Rattle.section.specs.declared.Decoded.the-variants.{Well, Malformed}
-use Rattle.section.specs.Bytes.{byte, pair, within, AllBytes}
-use Rattle.section.specs.Numbers.{largestTrain, stepLength}
-use Rattle.section.specs.Step.{faultRight, numberRight, placeRight, fieldsRight, faultOf, stepOf, trackStepOf, fromFields, decoded, isWell, wellFormed}
-use Rattle.section.specs.Step.{kindOf, postOf, faultNumber, faultByte, numberOf, trackNumber, bytesOf, encoded, stepFits}
+use Rattle.section.specs.declared.Decoded.the-variants.{Well}
+use Rattle.section.specs.Bytes.{byte, pair, AllBytes}
+use Rattle.section.specs.Numbers.{stepLength}
+use Rattle.section.specs.Step.{numberRight, placeRight, fieldsRight, trackStepOf, fromFields, decoded, isWell, wellFormed}
+use Rattle.section.specs.Step.{kindOf, postOf, faultByte, numberOf, trackNumber, bytesOf, encoded, stepFits}
+use Rattle.section.specs.StepLaws.{bytesRight, stepSaid, well-formed-is, well-said, well-length, and-left, and-right, Right, right, below}
+use Rattle.section.specs.StepLaws.{kind-read, post-read, fault-read, number-read, track-back, low-back, high-back, zero-low, zero-high}
+use Rattle.section.specs.StepLaws.{kind-within, track-within, fault-fits, step-same, track-same, pair-back}
+use Rattle.section.specs.StepLaws.{kind-small, fault-small, number-small, all-bytes}
 
--- ## Well-formed bytes
+-- ## From a step to its bytes and back
 
--- the tests of the eight fields
-unfoldable pub bytesRight : ℕ → List ℕ → Bool
-bytesRight n s =
-    fieldsRight n (byte s 0) (byte s 1) (byte s 2) (byte s 3) (pair (byte s 4) (byte s 5)) (pair (byte s 6) (byte s 7))
+fields-fit :
+    (n : ℕ) (b : Bool) (x : Step) → stepFits n x ≡ true →
+    fieldsRight n (kindOf x) (trackNumber b) (postOf x) (faultByte x) (numberOf x) 0 ≡ true
+unfolding fieldsRight placeRight stepFits
+fields-fit n b x h =
+    let post : ltb (postOf x) n ≡ true = and-left (ltb (postOf x) n) (numberRight (kindOf x) (numberOf x)) h in
+    let number : numberRight (kindOf x) (numberOf x) ≡ true = and-right (ltb (postOf x) n) (numberRight (kindOf x) (numberOf x)) h in
+    rw (kind-within x, track-within b, post, fault-fits x, number)
 
--- the step that the fields give
-unfoldable pub said : List ℕ → TrackStep
-said s = trackStepOf (byte s 0) (byte s 1) (byte s 2) (byte s 3) (pair (byte s 4) (byte s 5))
+no-pair : pair 0 0 ≡ 0
+unfolding pair
+no-pair = refl
 
-pub decoded-chosen : (n : ℕ) (s : List ℕ) → decoded n s ≡ cond (eqb (length s) stepLength) (cond (bytesRight n s) (Well (said s)) Malformed) Malformed
-unfolding decoded fromFields bytesRight said
-decoded-chosen n s = refl
+same-step : (x : TrackStep) →
+    trackStepOf (kindOf (x .step)) (trackNumber (x .«on_b»)) (postOf (x .step)) (faultByte (x .step)) (numberOf (x .step)) ≡ x
+unfolding trackStepOf
+same-step x = rw (track-same (x .«on_b»), step-same (x .step))
 
-both-well : (p q : Bool) (y : TrackStep) → isWell (cond p (cond q (Well y) Malformed) Malformed) ≡ (p && q)
-unfolding isWell
-both-well true true y = refl
-both-well true false y = refl
-both-well false q y = refl
+-- the bytes of a step whose post and number are in their ranges say that step
+pub decoded-encoded : (n : ℕ) (x : TrackStep) → stepFits n (x .step) ≡ true → decoded n (encoded x) ≡ Well x
+unfolding decoded encoded bytesOf fromFields
+decoded-encoded n x h =
+    rw (pair-back (numberOf (x .step)), no-pair, fields-fit n (x .«on_b») (x .step) h) (ap Well (same-step x))
 
-both-malformed : (p q : Bool) (y : TrackStep) → (p && q) ≡ false → cond p (cond q (Well y) Malformed) Malformed ≡ Malformed
-both-malformed true true y e = let z : _≡_ {A = ℕ} 0 1 = cc in absurd (omega arith)
-both-malformed true false y e = refl
-both-malformed false q y e = refl
+-- they are eight, and each is a byte where n is at most 256
+pub encoded-length : (x : TrackStep) → length (encoded x) ≡ stepLength
+unfolding encoded bytesOf
+encoded-length x = refl
 
-both-said : (p q : Bool) (y : TrackStep) → (p && q) ≡ true → cond p (cond q (Well y) Malformed) Malformed ≡ Well y
-both-said true true y e = refl
-both-said true false y e = let z : _≡_ {A = ℕ} 0 1 = cc in absurd (omega arith)
-both-said false q y e = let z : _≡_ {A = ℕ} 0 1 = cc in absurd (omega arith)
+pub encoded-bytes : (n : ℕ) (x : TrackStep) → n ≤ 256 → stepFits n (x .step) ≡ true → AllBytes (encoded x)
+unfolding encoded bytesOf stepFits
+encoded-bytes n x m h =
+    let y = x .step in
+    let kind = kind-small (kindOf y) (kind-within y) in
+    let track = ltb-true (trackNumber (x .«on_b»)) 2 (track-within (x .«on_b»)) in
+    let post = ltb-true (postOf y) n (and-left (ltb (postOf y) n) (numberRight (kindOf y) (numberOf y)) h) in
+    let fault = fault-small (kindOf y) (faultByte y) (fault-fits y) in
+    let number = number-small (kindOf y) (numberOf y) (and-right (ltb (postOf y) n) (numberRight (kindOf y) (numberOf y)) h) in
+    all-bytes (encoded x)
+    (omega arith, (omega arith, (omega arith, (omega arith, (omega arith, (omega arith, (omega arith, (omega arith, tt))))))))
 
--- eight bytes whose fields are right
-pub well-formed-is : (n : ℕ) (s : List ℕ) → wellFormed n s ≡ (eqb (length s) stepLength && bytesRight n s)
-unfolding wellFormed
-well-formed-is n s = ap isWell (decoded-chosen n s) ∙ both-well (eqb (length s) stepLength) (bytesRight n s) (said s)
+-- ## From bytes to their step and back
 
-pub malformed : (n : ℕ) (s : List ℕ) → wellFormed n s ≡ false → decoded n s ≡ Malformed
-malformed n s e = decoded-chosen n s ∙ both-malformed (eqb (length s) stepLength) (bytesRight n s) (said s) (sym (well-formed-is n s) ∙ e)
+module _ (n : ℕ) (s : List ℕ) (x : TrackStep) (d : decoded n s ≡ Well x) where
+  well : wellFormed n s ≡ true
+  unfolding wellFormed isWell
+  well = ap isWell d
 
-pub well-said : (n : ℕ) (s : List ℕ) → wellFormed n s ≡ true → decoded n s ≡ Well (said s)
-well-said n s e = decoded-chosen n s ∙ both-said (eqb (length s) stepLength) (bytesRight n s) (said s) (sym (well-formed-is n s) ∙ e)
+  is-said : x ≡ stepSaid s
+  is-said = cc (d, well-said n s well)
 
--- a test of two parts that holds
-and-left : (p q : Bool) → (p && q) ≡ true → p ≡ true
-and-left true q e = refl
-and-left false q e = e
+  tests : bytesRight n s ≡ true
+  tests = and-right (eqb (length s) stepLength) (bytesRight n s) (sym (well-formed-is n s) ∙ well)
 
-and-right : (p q : Bool) → (p && q) ≡ true → q ≡ true
-and-right true q e = e
-and-right false q e = let z : _≡_ {A = ℕ} 0 1 = cc in absurd (omega arith)
+  fields : Right n (byte s 0) (byte s 1) (byte s 2) (byte s 3) (pair (byte s 4) (byte s 5)) (pair (byte s 6) (byte s 7))
+  unfolding bytesRight
+  fields = right n (byte s 0) (byte s 1) (byte s 2) (byte s 3) (pair (byte s 4) (byte s 5)) (pair (byte s 6) (byte s 7)) tests
 
-pub well-length : (n : ℕ) (s : List ℕ) → wellFormed n s ≡ true → length s ≡ stepLength
-well-length n s e = eqb-true (length s) stepLength (and-left (eqb (length s) stepLength) (bytesRight n s) (sym (well-formed-is n s) ∙ e))
+  pub decoded-length : length s ≡ stepLength
+  decoded-length = well-length n s well
+
+  -- the fields, read off the bytes
+  pub decoded-kind : kindOf (x .step) ≡ byte s 0
+  unfolding stepSaid trackStepOf
+  decoded-kind = rw is-said (kind-read (byte s 2) (byte s 3) (pair (byte s 4) (byte s 5)) (byte s 0) (fields .kind-right))
+
+  pub decoded-track : x .«on_b» ≡ eqb (byte s 1) 1
+  unfolding stepSaid trackStepOf
+  decoded-track = ap (λ (y : TrackStep). y .«on_b») is-said
+
+  pub decoded-post : postOf (x .step) ≡ byte s 2
+  unfolding stepSaid trackStepOf
+  decoded-post = rw is-said (post-read (byte s 2) (byte s 3) (pair (byte s 4) (byte s 5)) (byte s 0) (fields .kind-right))
+
+  pub decoded-fault : faultByte (x .step) ≡ byte s 3
+  unfolding stepSaid trackStepOf
+  decoded-fault =
+      rw is-said (fault-read (byte s 2) (byte s 3) (pair (byte s 4) (byte s 5)) (byte s 0) (fields .kind-right) (fields .fault-right))
+
+  pub decoded-number : numberOf (x .step) ≡ pair (byte s 4) (byte s 5)
+  unfolding stepSaid trackStepOf
+  decoded-number =
+      rw is-said (number-read (byte s 2) (byte s 3) (pair (byte s 4) (byte s 5)) (byte s 0) (fields .kind-right) (fields .number-right))
+
+  -- and their ranges
+  pub decoded-post-below : postOf (x .step) < n
+  decoded-post-below = rw decoded-post (fields .post-right)
+
+  pub decoded-number-right : numberRight (kindOf (x .step)) (numberOf (x .step)) ≡ true
+  decoded-number-right = rw (decoded-kind, decoded-number) (fields .number-right)
+
+  -- bytes say only steps whose post and number are in their ranges
+  pub decoded-fits : stepFits n (x .step) ≡ true
+  unfolding stepFits
+  decoded-fits = rw (lt-ltb _ _ decoded-post-below) decoded-number-right
+
+  -- the bytes of the step that bytes say are those bytes
+  pub encoded-decoded : AllBytes s → encoded x ≡ s
+  unfolding encoded bytesOf
+  encoded-decoded bytes =
+      let zero6 : 0 ≡ byte s 6 = zero-low (byte s 6) (byte s 7) (fields .zeros-right) in
+      let zero7 : 0 ≡ byte s 7 = zero-high (byte s 6) (byte s 7) (fields .zeros-right) in
+      let track : trackNumber (x .«on_b») ≡ byte s 1 = rw decoded-track (track-back (byte s 1) (fields .track-right)) in
+      let low : numberOf (x .step) % 256 ≡ byte s 4 = rw decoded-number (low-back (byte s 4) (byte s 5) (bytes 4)) in
+      let high : numberOf (x .step) / 256 ≡ byte s 5 = rw decoded-number (high-back (byte s 4) (byte s 5) (bytes 4)) in
+      ext-getD 0 (encoded x) s (sym decoded-length)
+      (below (λ (i : ℕ). byte (encoded x) i ≡ byte s i) stepLength
+      (decoded-kind, (track, (decoded-post, (decoded-fault, (low, (high, (zero6, (zero7, tt)))))))))

@@ -7,7 +7,8 @@ use lib.Dec.{eqb, ltb, leb}
 use Rattle.section.specs.declared.Fault.{Fault}
 use Rattle.section.specs.declared.Fault.the-variants.{One, Two, Three}
 use Rattle.section.specs.declared.Step.{Step}
-use Rattle.section.specs.declared.Step.the-variants.{Order, Set, Announce, Acknowledge, Start, Pass, Leave, MeasuresOn, MeasuresOff, FaultOn, FaultOff, Release, Key}
+use Rattle.section.specs.declared.Step.the-variants.{Order, Set, Announce, Acknowledge, Start, Pass, Leave}
+use Rattle.section.specs.declared.Step.the-variants.{MeasuresOn, MeasuresOff, FaultOn, FaultOff, Release, Key}
 use Rattle.section.specs.declared.TrackStep.{TrackStep}
 use Rattle.section.specs.declared.Decoded.{Decoded}
 use Rattle.section.specs.declared.Decoded.the-variants.{Well, Malformed}

@@ -12,10 +12,15 @@ pub use step_bytes::encode;
 pub use step_bytes::is_well_formed;
 
 pub const LEAST_POSTS: u8 = 2;
+
 pub const MOST_POSTS: u8 = 16;
+
 pub const LARGEST_LINE: u16 = 999;
+
 pub const LARGEST_TRAIN: u16 = 9999;
+
 pub const MOST_SEALS: u16 = 999;
+
 pub const STEP_LENGTH: usize = 8;
 
 // What a line is: n posts, the form (0 telephone, 1 materialised), the mask of signalled posts, the line number.

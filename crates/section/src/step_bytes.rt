@@ -1,8 +1,11 @@
 // A step from its eight bytes, and back.
 ghost use mathlib.Core.Path.{_≡_};
+ghost use lib.ListN.{length};
 ghost use Rattle.section.specs.Bytes.{pair, within};
+ghost use Rattle.section.specs.Numbers.{stepLength};
 ghost use Rattle.section.specs.Step.{faultRight, numberRight, placeRight, fieldsRight, faultOf, stepOf, decoded, wellFormed};
 ghost use Rattle.section.specs.Step.{faultNumber, trackNumber, bytesOf, encoded};
+ghost use Rattle.section.specs.StepLaws.{stepSaid};
 use crate::Decoded;
 use crate::Fault;
 use crate::LARGEST_TRAIN;
@@ -49,15 +52,7 @@ fn place_right(n: u8, kind: u16, track: u8, post: u8) -> bool
     post < n
 }
 
-fn fields_right(
-    n: u8,
-    kind: u8,
-    track: u8,
-    post: u8,
-    fault: u8,
-    number: u16,
-    zeros: u16,
-) -> bool
+fn fields_right(n: u8, kind: u8, track: u8, post: u8, fault: u8, number: u16, zeros: u16) -> bool
     ensures { λ r. ⌜ r ≡ fieldsRight n kind track post fault number zeros ⌝ }
 {
     let k = kind as u16;
@@ -146,6 +141,17 @@ pub fn is_well_formed(n: u8, s: &[u8]) -> bool
     fields_right(n, s[0], s[1], s[2], s[3], number, zeros)
 }
 
+fn step_said(s: &[u8]) -> TrackStep
+    requires { ⌜ length (now s) ≡ stepLength ⌝ }
+    ensures { λ r. ⌜ r ≡ stepSaid (now (s .entry)) ⌝ }
+{
+    let step = step_of(s[0], s[2], s[3], pair_of(s[4], s[5]));
+    TrackStep {
+        on_b: s[1] == 1,
+        step: step,
+    }
+}
+
 // The step that the bytes say on a line of n posts.
 pub fn decode(n: u8, s: &[u8]) -> Decoded
     ensures { λ r. ⌜ r ≡ decoded n (now (s .entry)) ⌝ }
@@ -153,13 +159,7 @@ pub fn decode(n: u8, s: &[u8]) -> Decoded
     if !is_well_formed(n, s) {
         return Decoded::Malformed;
     }
-    let step = step_of(s[0], s[2], s[3], pair_of(s[4], s[5]));
-    Decoded::Well(
-        TrackStep {
-            on_b: s[1] == 1,
-            step: step,
-        },
-    )
+    Decoded::Well(step_said(s))
 }
 
 fn fault_number(f: Fault) -> u8

@@ -1,3 +1,4 @@
+-- At each return the tests passed so far are true, and the one that led there is false.
 use borrow.Author.Needs.{needs}
 use borrow.Author.Tests.{le-leb, lt-leb}
 use Rattle.section.specs.Bytes.{within}
@@ -19,10 +20,11 @@ returns-3 : tie.Need-returns-3
 unfolding settingsRight within
 returns-3 c = let two = c .before .before in
     let one = two .before in
-    rw
-    (le-leb _ _ (one .if1 .left),
-    le-leb _ _ (two .if2 .left),
-    lt-leb _ _ (c .if3 .taken))
+    rw (
+      le-leb _ _ (one .if1 .left),
+      le-leb _ _ (two .if2 .left),
+      lt-leb _ _ (c .if3 .taken),
+    )
 
 is-signalled-requires : tie.Need-is-signalled-requires
 is-signalled-requires c κs = search needs
@@ -32,11 +34,12 @@ unfolding settingsRight within
 returns-4 c = let three = c .before .before in
     let two = three .before .before in
     let one = two .before in
-    rw
-    (le-leb _ _ (one .if1 .left),
-    le-leb _ _ (two .if2 .left),
-    le-leb _ _ (three .if3 .left),
-    told-false (c .before .is-signalled .ensures) (c .if4 .taken))
+    rw (
+      le-leb _ _ (one .if1 .left),
+      le-leb _ _ (two .if2 .left),
+      le-leb _ _ (three .if3 .left),
+      told-false (c .before .is-signalled .ensures) (c .if4 .taken),
+    )
 
 sub-is-signalled : tie.Need-sub-is-signalled
 sub-is-signalled c = search needs
@@ -50,12 +53,13 @@ returns-5 c = let four = c .before .before in
     let three = four .before .before in
     let two = three .before .before in
     let one = two .before in
-    rw
-    (le-leb _ _ (one .if1 .left),
-    le-leb _ _ (two .if2 .left),
-    le-leb _ _ (three .if3 .left),
-    told-true (four .before .is-signalled .ensures) (four .if4 .left),
-    told-false (c .before .is-signalled2 .ensures) (c .if5 .taken))
+    rw (
+      le-leb _ _ (one .if1 .left),
+      le-leb _ _ (two .if2 .left),
+      le-leb _ _ (three .if3 .left),
+      told-true (four .before .is-signalled .ensures) (four .if4 .left),
+      told-false (c .before .is-signalled2 .ensures) (c .if5 .taken),
+    )
 
 none-from-requires : tie.Need-none-from-requires
 none-from-requires c κs = search needs
@@ -67,13 +71,14 @@ returns-6 c = let five = c .before .before in
     let three = four .before .before in
     let two = three .before .before in
     let one = two .before in
-    rw
-    (le-leb _ _ (one .if1 .left),
-    le-leb _ _ (two .if2 .left),
-    le-leb _ _ (three .if3 .left),
-    told-true (four .before .is-signalled .ensures) (four .if4 .left),
-    told-true (five .before .is-signalled2 .ensures) (five .if5 .left),
-    told-false (c .before .none-from .ensures) (c .if6 .taken))
+    rw (
+      le-leb _ _ (one .if1 .left),
+      le-leb _ _ (two .if2 .left),
+      le-leb _ _ (three .if3 .left),
+      told-true (four .before .is-signalled .ensures) (four .if4 .left),
+      told-true (five .before .is-signalled2 .ensures) (five .if5 .left),
+      told-false (c .before .none-from .ensures) (c .if6 .taken),
+    )
 
 returns-7 : tie.Need-returns-7
 unfolding settingsRight within
@@ -83,14 +88,15 @@ returns-7 c = let six = c .before .before in
     let three = four .before .before in
     let two = three .before .before in
     let one = two .before in
-    rw
-    (le-leb _ _ (one .if1 .left),
-    le-leb _ _ (two .if2 .left),
-    le-leb _ _ (three .if3 .left),
-    told-true (four .before .is-signalled .ensures) (four .if4 .left),
-    told-true (five .before .is-signalled2 .ensures) (five .if5 .left),
-    told-true (six .before .none-from .ensures) (six .if6 .left),
-    lt-leb _ _ (c .if7 .taken))
+    rw (
+      le-leb _ _ (one .if1 .left),
+      le-leb _ _ (two .if2 .left),
+      le-leb _ _ (three .if3 .left),
+      told-true (four .before .is-signalled .ensures) (four .if4 .left),
+      told-true (five .before .is-signalled2 .ensures) (five .if5 .left),
+      told-true (six .before .none-from .ensures) (six .if6 .left),
+      lt-leb _ _ (c .if7 .taken),
+    )
 
 returns-8 : tie.Need-returns-8
 unfolding settingsRight within
@@ -101,14 +107,15 @@ returns-8 c = let seven = c .before in
     let three = four .before .before in
     let two = three .before .before in
     let one = two .before in
-    rw
-    (le-leb _ _ (one .if1 .left),
-    le-leb _ _ (two .if2 .left),
-    le-leb _ _ (three .if3 .left),
-    told-true (four .before .is-signalled .ensures) (four .if4 .left),
-    told-true (five .before .is-signalled2 .ensures) (five .if5 .left),
-    told-true (six .before .none-from .ensures) (six .if6 .left),
-    le-leb _ _ (seven .if7 .left))
+    rw (
+      le-leb _ _ (one .if1 .left),
+      le-leb _ _ (two .if2 .left),
+      le-leb _ _ (three .if3 .left),
+      told-true (four .before .is-signalled .ensures) (four .if4 .left),
+      told-true (five .before .is-signalled2 .ensures) (five .if5 .left),
+      told-true (six .before .none-from .ensures) (six .if6 .left),
+      le-leb _ _ (seven .if7 .left),
+    )
 
 pub settings-right-spec : {M : Type 1} → statement M
 settings-right-spec =

@@ -26,19 +26,21 @@ returns-3 : tie.Need-returns-3
 unfolding fieldsRight
 returns-3 c = let d = c .before .before in
     let b = d .before .before in
-    rw
-    (told-true (b .before .place-right .ensures) (b .if1 .left),
-    told-true (d .before .fault-right .ensures) (d .if2 .left),
-    told-false (c .before .number-right .ensures) (c .if3 .taken))
+    rw (
+      told-true (b .before .place-right .ensures) (b .if1 .left),
+      told-true (d .before .fault-right .ensures) (d .if2 .left),
+      told-false (c .before .number-right .ensures) (c .if3 .taken),
+    )
 
 returns-4 : tie.Need-returns-4
 unfolding fieldsRight
 returns-4 c = let d = c .before .before in
     let b = d .before .before in
-    rw
-    (told-true (b .before .place-right .ensures) (b .if1 .left),
-    told-true (d .before .fault-right .ensures) (d .if2 .left),
-    told-true (c .before .number-right .ensures) (c .if3 .left))
+    rw (
+      told-true (b .before .place-right .ensures) (b .if1 .left),
+      told-true (d .before .fault-right .ensures) (d .if2 .left),
+      told-true (c .before .number-right .ensures) (c .if3 .left),
+    )
 
 pub fields-right-spec : {M : Type 1} → statement M
 fields-right-spec =
