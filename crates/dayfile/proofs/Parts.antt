@@ -14,8 +14,7 @@ use Rattle.section.specs.declared.Settings.{Settings}
 use Rattle.section.specs.Bytes.{byte, pair, within, AllBytes}
 use Rattle.section.specs.Numbers.{leastPosts, mostPosts, largestLine}
 use Rattle.section.specs.Settings.{bit, noneFrom, settingsRight}
-use Rattle.dayfile.specs.Layout.{mostSteps, settingsLength, trailerLength, settingsDistance, stepsDistance, mark, pairBytes, four}
-use Rattle.dayfile.specs.Layout.{fourBytes, fourAt, settingsBytes, trailer, fromEnd, trailerIn, settingsIn, stepsIn, settingsOf}
+use Rattle.dayfile.specs.Layout.{mostSteps, settingsLength, trailerLength, settingsDistance, stepsDistance, mark, pairBytes, four, fourBytes, fourAt, settingsBytes, trailer, fromEnd, trailerIn, settingsIn, stepsIn, settingsOf}
 use Rattle.dayfile.specs.Tests.{markRight, trailerRight, zerosRight, settingsBytesRight}
 use Rattle.dayfile.proofs.Numbers.{pair-number, four-number, pair-bytes, four-bytes, listed}
 
@@ -61,9 +60,7 @@ module _ (s : List ℕ) (l : length s ≡ settingsLength) (bytes : AllBytes s) (
 
   zeros-are : (byte s 6 ≡ 0) × (byte s 7 ≡ 0)
   unfolding settingsBytesRight zerosRight pair
-  zeros-are =
-      let z : byte s 6 + byte s 7 * 256 ≡ 0 = eqb-true _ _ (both (settingsRight (settingsOf s)) (zerosRight s) e .1) in
-      (omega arith, omega arith)
+  zeros-are = let z = both (settingsRight (settingsOf s)) (zerosRight s) e .1 in (omega (arith, eqb-true), omega (arith, eqb-true))
 
   pub settings-bytes : settingsBytes (settingsOf s) ≡ s
   unfolding settingsBytes settingsOf
