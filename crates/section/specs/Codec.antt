@@ -36,15 +36,15 @@ unfolding pair
 no-pair = refl
 
 same-step : (x : TrackStep) →
-    trackStepOf (kindOf (x .step)) (trackNumber (x .«on_b»)) (postOf (x .step)) (faultByte (x .step)) (numberOf (x .step)) ≡ x
+    trackStepOf (kindOf (x .step)) (trackNumber (x .track)) (postOf (x .step)) (faultByte (x .step)) (numberOf (x .step)) ≡ x
 unfolding trackStepOf
-same-step x = rw (track-same (x .«on_b»), step-same (x .step))
+same-step x = rw (track-same (x .track), step-same (x .step))
 
 -- the bytes of a step whose post and number are in their ranges say that step
 pub decoded-encoded : (n : ℕ) (x : TrackStep) → stepFits n (x .step) ≡ true → decoded n (encoded x) ≡ Well x
 unfolding decoded encoded bytesOf fromFields
 decoded-encoded n x h =
-    rw (pair-back (numberOf (x .step)), no-pair, fields-fit n (x .«on_b») (x .step) h) (ap Well (same-step x))
+    rw (pair-back (numberOf (x .step)), no-pair, fields-fit n (x .track) (x .step) h) (ap Well (same-step x))
 
 -- they are eight, and each is a byte where n is at most 256
 pub encoded-length : (x : TrackStep) → length (encoded x) ≡ stepLength
@@ -56,7 +56,7 @@ unfolding encoded bytesOf stepFits
 encoded-bytes n x m h =
     let y = x .step in
     let kind = kind-small (kindOf y) (kind-within y) in
-    let track = ltb-true (trackNumber (x .«on_b»)) 2 (track-within (x .«on_b»)) in
+    let track = ltb-true (trackNumber (x .track)) 2 (track-within (x .track)) in
     let post = ltb-true (postOf y) n (and-left (ltb (postOf y) n) (numberRight (kindOf y) (numberOf y)) h) in
     let fault = fault-small (kindOf y) (faultByte y) (fault-fits y) in
     let number = number-small (kindOf y) (numberOf y) (and-right (ltb (postOf y) n) (numberRight (kindOf y) (numberOf y)) h) in
@@ -88,9 +88,9 @@ module _ (n : ℕ) (s : List ℕ) (x : TrackStep) (d : decoded n s ≡ Well x) w
   unfolding stepSaid trackStepOf
   decoded-kind = rw is-said (kind-read (byte s 2) (byte s 3) (pair (byte s 4) (byte s 5)) (byte s 0) (fields .kind-right))
 
-  pub decoded-track : x .«on_b» ≡ eqb (byte s 1) 1
+  pub decoded-track : x .track ≡ eqb (byte s 1) 1
   unfolding stepSaid trackStepOf
-  decoded-track = ap (λ (y : TrackStep). y .«on_b») is-said
+  decoded-track = ap (λ (y : TrackStep). y .track) is-said
 
   pub decoded-post : postOf (x .step) ≡ byte s 2
   unfolding stepSaid trackStepOf
@@ -124,7 +124,7 @@ module _ (n : ℕ) (s : List ℕ) (x : TrackStep) (d : decoded n s ≡ Well x) w
   encoded-decoded bytes =
       let zero6 : 0 ≡ byte s 6 = zero-low (byte s 6) (byte s 7) (fields .zeros-right) in
       let zero7 : 0 ≡ byte s 7 = zero-high (byte s 6) (byte s 7) (fields .zeros-right) in
-      let track : trackNumber (x .«on_b») ≡ byte s 1 = rw decoded-track (track-back (byte s 1) (fields .track-right)) in
+      let track : trackNumber (x .track) ≡ byte s 1 = rw decoded-track (track-back (byte s 1) (fields .track-right)) in
       let low : numberOf (x .step) % 256 ≡ byte s 4 = rw decoded-number (low-back (byte s 4) (byte s 5) (bytes 4)) in
       let high : numberOf (x .step) / 256 ≡ byte s 5 = rw decoded-number (high-back (byte s 4) (byte s 5) (bytes 4)) in
       ext-getD 0 (encoded x) s (sym decoded-length)

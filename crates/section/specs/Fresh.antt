@@ -11,8 +11,8 @@ use Rattle.section.specs.Post.{blank, permitted}
 
 -- "permission at each track's VNS sending end": post 0 on A, post n−1 on B
 unfoldable pub freshTrack : ℕ → Bool → Track
-freshTrack n onB = record {
-  posts = set (replicate mostPosts blank) (cond onB (n - 1) 0) (permitted true blank);
+freshTrack n track = record {
+  posts = set (replicate mostPosts blank) (cond track (n - 1) 0) (permitted true blank);
   trains = replicate mostBlocks 0;
   last = replicate mostBlocks 0;
   cvt = false;

@@ -6,7 +6,7 @@ use lib.Dec.{eqb}
 
 -- trains run upward, from post 0: on A in VNS, on B in CVT (art. 901)
 unfoldable pub upward : Bool → Bool → Bool
-upward onB cvt = Bool·beq onB cvt
+upward track cvt = Bool·beq track cvt
 
 -- how many posts behind the sending end post p stands; also the post that stands so many behind it
 unfoldable pub rank : ℕ → Bool → ℕ → ℕ

@@ -37,9 +37,9 @@ walkFits n up Settled = true
 walkFits n up (Turn p act) = ltb p n && actFits n up p act
 
 unfoldable pub trackFits : ℕ → Bool → Track → Bool
-trackFits n onB t =
+trackFits n track t =
     sealsFit n (t .posts)
-    && (numbersFit (n - 1) (t .trains) && (numbersFit (n - 1) (t .last) && walkFits n (upward onB (t .cvt)) (t .walk)))
+    && (numbersFit (n - 1) (t .trains) && (numbersFit (n - 1) (t .last) && walkFits n (upward track (t .cvt)) (t .walk)))
 
 -- what refusal 6 asks for
 unfoldable pub inRange : Section → Bool

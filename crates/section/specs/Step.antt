@@ -58,7 +58,7 @@ stepOf kind post fault number =
     (Key post))))))))))))
 
 unfoldable pub trackStepOf : ℕ → ℕ → ℕ → ℕ → ℕ → TrackStep
-trackStepOf kind track post fault number = record { «on_b» = eqb track 1; step = stepOf kind post fault number }
+trackStepOf kind track post fault number = record { track = eqb track 1; step = stepOf kind post fault number }
 
 unfoldable pub fromFields : ℕ → ℕ → ℕ → ℕ → ℕ → ℕ → ℕ → Decoded
 fromFields n kind track post fault number zeros =
@@ -153,7 +153,7 @@ bytesOf kind track post fault number = kind ∷ track ∷ post ∷ fault ∷ num
 
 -- the eight bytes of a step
 unfoldable pub encoded : TrackStep → List ℕ
-encoded x = bytesOf (kindOf (x .step)) (trackNumber (x .«on_b»)) (postOf (x .step)) (faultByte (x .step)) (numberOf (x .step))
+encoded x = bytesOf (kindOf (x .step)) (trackNumber (x .track)) (postOf (x .step)) (faultByte (x .step)) (numberOf (x .step))
 
 -- a step whose post and number are in their ranges: one that some bytes say
 unfoldable pub stepFits : ℕ → Step → Bool

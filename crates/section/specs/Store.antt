@@ -9,10 +9,10 @@ use Rattle.section.specs.Post.{blank}
 
 -- track B, or else A
 abbrev pub trackOf : Section → Bool → Track
-trackOf s onB = cond onB (s .b) (s .a)
+trackOf s track = cond track (s .b) (s .a)
 
 abbrev pub withTrack : Section → Bool → Track → Section
-withTrack s onB t = record { settings = s .settings; a = cond onB (s .a) t; b = cond onB t (s .b) }
+withTrack s track t = record { settings = s .settings; a = cond track (s .a) t; b = cond track t (s .b) }
 
 -- the record of post p; a post that the track has not is blank
 abbrev pub postOn : Track → ℕ → Post

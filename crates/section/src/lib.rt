@@ -5,8 +5,16 @@ mod settings_range;
 mod state_range;
 mod step_bytes;
 
+pub use fresh_section::fresh;
+pub use post_record::blank;
 pub use settings_range::is_signalled;
 pub use settings_range::settings_right;
+pub use state_range::block;
+pub use state_range::in_range;
+pub use state_range::is_first;
+pub use state_range::is_last;
+pub use state_range::is_upward;
+pub use state_range::rank;
 pub use step_bytes::decode;
 pub use step_bytes::encode;
 pub use step_bytes::is_well_formed;
@@ -55,9 +63,9 @@ pub enum Step {
     Key { post: u8 },
 }
 
-// A step with its track: B, or else A.
+// A step with its track: true for B, false for A.
 pub struct TrackStep {
-    pub on_b: bool,
+    pub track: bool,
     pub step: Step,
 }
 
@@ -125,4 +133,11 @@ pub enum Verdict {
 pub struct Answer {
     pub verdict: Verdict,
     pub section: Section,
+}
+
+// What a post shows on a track, in the paper's numbers.
+pub struct Indications {
+    pub circulation: u8,
+    pub troncon: u8,
+    pub permission: u8,
 }

@@ -1,1 +1,89 @@
 // A post's record: methods by value, one a field.
+ghost use mathlib.Core.Path.{_≡_};
+ghost use Prim.Native.Nat.{_<_};
+ghost use Rattle.section.specs.Numbers.{mostSeals};
+ghost use Rattle.section.specs.Post.{blank, turned, permitted, measured, faulty, marked, sealed, hasFault};
+use crate::Fault;
+use crate::Post;
+
+pub fn blank() -> Post
+    ensures { λ r. ⌜ r ≡ blank ⌝ }
+{
+    Post {
+        cvt: false,
+        permission: false,
+        measures: false,
+        fault1: false,
+        fault2: false,
+        fault3: false,
+        mark: false,
+        seals: 0,
+    }
+}
+
+impl Post {
+    // The device turned to CVT, or else to VNS.
+    pub fn turned(mut self, cvt: bool) -> Post
+        ensures { λ r. ⌜ r ≡ turned cvt self ⌝ }
+    {
+        self.cvt = cvt;
+        self
+    }
+
+    pub fn permitted(mut self, x: bool) -> Post
+        ensures { λ r. ⌜ r ≡ permitted x self ⌝ }
+    {
+        self.permission = x;
+        self
+    }
+
+    pub fn measured(mut self, x: bool) -> Post
+        ensures { λ r. ⌜ r ≡ measured x self ⌝ }
+    {
+        self.measures = x;
+        self
+    }
+
+    pub fn faulty(mut self, f: Fault, x: bool) -> Post
+        ensures { λ r. ⌜ r ≡ faulty f x self ⌝ }
+    {
+        match f {
+            Fault::One => {
+                self.fault1 = x;
+            }
+            Fault::Two => {
+                self.fault2 = x;
+            }
+            Fault::Three => {
+                self.fault3 = x;
+            }
+        }
+        self
+    }
+
+    pub fn marked(mut self, x: bool) -> Post
+        ensures { λ r. ⌜ r ≡ marked x self ⌝ }
+    {
+        self.mark = x;
+        self
+    }
+
+    // One seal more. The callers have tested that the count is not the largest.
+    pub fn sealed(mut self) -> Post
+        requires { ⌜ self .seals < mostSeals ⌝ }
+        ensures { λ r. ⌜ r ≡ sealed self ⌝ }
+    {
+        self.seals = self.seals + 1;
+        self
+    }
+
+    pub fn has_fault(self, f: Fault) -> bool
+        ensures { λ r. ⌜ r ≡ hasFault f self ⌝ }
+    {
+        match f {
+            Fault::One => self.fault1,
+            Fault::Two => self.fault2,
+            Fault::Three => self.fault3,
+        }
+    }
+}

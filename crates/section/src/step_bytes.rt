@@ -147,7 +147,7 @@ fn step_said(s: &[u8]) -> TrackStep
 {
     let step = step_of(s[0], s[2], s[3], pair_of(s[4], s[5]));
     TrackStep {
-        on_b: s[1] == 1,
+        track: s[1] == 1,
         step: step,
     }
 }
@@ -172,10 +172,10 @@ fn fault_number(f: Fault) -> u8
     }
 }
 
-fn track_number(on_b: bool) -> u8
-    ensures { λ r. ⌜ r ≡ trackNumber «on_b» ⌝ }
+fn track_number(track: bool) -> u8
+    ensures { λ r. ⌜ r ≡ trackNumber track ⌝ }
 {
-    if on_b { 1 } else { 0 }
+    if track { 1 } else { 0 }
 }
 
 fn bytes_of(kind: u8, track: u8, post: u8, fault: u8, number: u16) -> [u8; 8]
@@ -190,7 +190,7 @@ fn bytes_of(kind: u8, track: u8, post: u8, fault: u8, number: u16) -> [u8; 8]
 pub fn encode(x: TrackStep) -> [u8; 8]
     ensures { λ r. ⌜ r ≡ encoded x ⌝ }
 {
-    let track = track_number(x.on_b);
+    let track = track_number(x.track);
     let step = x.step;
     match step {
         Step::Order { post } => bytes_of(1, track, post, 0, 0),

@@ -13,9 +13,9 @@ abbrev bytesFor : ℕ → Step → List ℕ
 bytesFor track y = bytesOf (kindOf y) track (postOf y) (faultByte y) (numberOf y)
 
 written : (x : TrackStep) (y : Step) {track : ℕ} {r : List ℕ} →
-    track ≡ trackNumber (x .«on_b») → x .step ≡ y → r ≡ bytesFor track y → r ≡ encoded x
+    track ≡ trackNumber (x .track) → x .step ≡ y → r ≡ bytesFor track y → r ≡ encoded x
 unfolding encoded
-written x y {track} t e w = w ∙ ap (λ (k : ℕ). bytesFor k y) t ∙ ap (λ (z : Step). bytesFor (trackNumber (x .«on_b»)) z) (sym e)
+written x y {track} t e w = w ∙ ap (λ (k : ℕ). bytesFor k y) t ∙ ap (λ (z : Step). bytesFor (trackNumber (x .track)) z) (sym e)
 
 track-number-requires : tie.Need-track-number-requires
 track-number-requires c κs = search needs

@@ -1,0 +1,77 @@
+-- What a post shows (document 01). The indications are a function of eight bits of the state.
+use Prim.Native.Nat.{ℕ, zero, suc}
+use mathlib.Core.Bool.{Bool, true, false, cond, not, _&&_, _||_}
+use lib.Dec.{eqb, ltb}
+use Rattle.section.specs.declared.Settings.{Settings}
+use Rattle.section.specs.declared.Act.{Act}
+use Rattle.section.specs.declared.Act.the-variants.{Set, Announce, Acknowledge}
+use Rattle.section.specs.declared.Walk.{Walk}
+use Rattle.section.specs.declared.Walk.the-variants.{Settled, Turn}
+use Rattle.section.specs.declared.Track.{Track}
+use Rattle.section.specs.declared.Section.{Section}
+use Rattle.section.specs.declared.Indications.{Indications}
+use Rattle.section.specs.Geometry.{upward, rank}
+use Rattle.section.specs.Range.{inRange}
+use Rattle.section.specs.Settings.{isMaterialised}
+use Rattle.section.specs.Store.{trackOf}
+use Rattle.rules.specs.declared.Site.{Site}
+use Rattle.rules.specs.Site.{siteOn, otherSettledOnVns, rankAt, upAt, atReceivingEnd, watchedOccupied}
+
+-- how many posts, from the sending end on, have set in this reversal: "the posts before the turn's post have set, and that post too when
+-- its act is announce"
+unfoldable pub setCount : ℕ → Bool → Walk → ℕ
+setCount n up Settled = 0
+setCount n up (Turn p Set) = rank n up p
+setCount n up (Turn p Announce) = suc (rank n up p)
+setCount n up (Turn p Acknowledge) = rank n up p
+
+-- "the post before has set in this reversal and this one hasn't", of the post of rank j
+unfoldable pub isNextToSet : ℕ → ℕ → Bool
+isNextToSet count zero = false
+isNextToSet count (suc j) = ltb j count && not (ltb (suc j) count)
+
+pub record Lamps : Type 0 where
+  pub materialised : Bool
+  pub cvt : Bool  -- the device stands at CVT
+  pub nextToSet : Bool  -- the post before has set in this reversal and this one hasn't
+  pub fault1 : Bool
+  pub fault3 : Bool
+  pub occupied : Bool  -- a train in the part that the post watches
+  pub commands : Bool  -- the post is not the receiving end
+  pub permission : Bool
+
+-- "0 dark (fault 3), else 3 VNS or 4 CVT flashing, the direction its device does not stand at, .. else 1 VNS or 2 CVT as the device stands"
+unfoldable pub circulation : Lamps → ℕ
+circulation l =
+    cond (l .fault3) 0 (cond (l .materialised && l .nextToSet) (cond (l .cvt) 3 4) (cond (l .cvt) 2 1))
+
+-- "0 none at the receiving end; else 2 red if fault 1 or the block section ahead holds a train; else 1 white"
+unfoldable pub troncon : Lamps → ℕ
+troncon l = cond (l .commands) (cond (l .fault1 || l .occupied) 2 1) 0
+
+unfoldable pub shown : Lamps → Indications
+shown l = record { circulation = circulation l; troncon = troncon l; permission = cond (l .permission) 1 0 }
+
+unfoldable pub lampsAt : Settings → Site → Track → Lamps
+lampsAt c e t = record {
+  materialised = isMaterialised c;
+  cvt = e .own .cvt;
+  nextToSet = isNextToSet (setCount (c .posts) (upAt c e) (t .walk)) (rankAt c e);
+  fault1 = e .own .fault1;
+  fault3 = e .own .fault3;
+  occupied = watchedOccupied c e (t .trains);
+  commands = not (atReceivingEnd c e);
+  permission = e .own .permission;
+}
+
+unfoldable pub dark : Indications
+dark = record { circulation = 0; troncon = 0; permission = 0 }
+
+unfoldable pub indicationsOn : Section → Bool → ℕ → Indications
+indicationsOn s track p =
+    shown (lampsAt (s .settings) (siteOn (otherSettledOnVns s track) track p (trackOf s track)) (trackOf s track))
+
+-- all 0 for a state that gives 6, and for a track or a post that the section has not
+unfoldable pub indications : Section → ℕ → ℕ → Indications
+indications s track post =
+    cond (inRange s && (ltb track 2 && ltb post (s .settings .posts))) (indicationsOn s (eqb track 1) post) dark

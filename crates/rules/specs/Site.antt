@@ -1,0 +1,130 @@
+-- What a step looks at (document 01, "The section", "Steps, checks in order"): the site, where it is taken, and the occupancy, the trains
+-- that it asks for. An effect takes the site alone.
+use Prim.Native.Nat.{ℕ, zero, suc, _-_}
+use mathlib.Core.Bool.{Bool, true, false, cond, not, _&&_, _||_}
+use mathlib.Core.List.{List}
+use lib.ListN.{getD}
+use lib.Dec.{eqb}
+use Rattle.section.specs.declared.Settings.{Settings}
+use Rattle.section.specs.declared.Post.{Post}
+use Rattle.section.specs.declared.Act.{Act}
+use Rattle.section.specs.declared.Act.the-variants.{Set, Announce, Acknowledge}
+use Rattle.section.specs.declared.Walk.{Walk}
+use Rattle.section.specs.declared.Walk.the-variants.{Settled, Turn}
+use Rattle.section.specs.declared.Track.{Track}
+use Rattle.section.specs.declared.Section.{Section}
+use Rattle.rules.specs.declared.Site.{Site}
+use Rattle.section.specs.Geometry.{upward, rank, block, isFirst, isLast}
+use Rattle.section.specs.Settings.{bit}
+use Rattle.section.specs.Store.{trackOf, postOn}
+
+-- ## The walk of a reversal
+
+abbrev pub isSettled : Walk → Bool
+isSettled Settled = true
+isSettled (Turn p act) = false
+
+abbrev pub sameAct : Act → Act → Bool
+sameAct Set Set = true
+sameAct Set Announce = false
+sameAct Set Acknowledge = false
+sameAct Announce Set = false
+sameAct Announce Announce = true
+sameAct Announce Acknowledge = false
+sameAct Acknowledge Set = false
+sameAct Acknowledge Announce = false
+sameAct Acknowledge Acknowledge = true
+
+-- it is post p's turn for the act
+abbrev pub isTurn : Walk → ℕ → Act → Bool
+isTurn Settled p act = false
+isTurn (Turn q turnAct) p act = eqb q p && sameAct turnAct act
+
+-- "A track is settled on its running direction if no reversal is under way."
+abbrev pub settledOnVns : Track → Bool
+settledOnVns t = isSettled (t .walk) && not (t .cvt)
+
+-- ## The site
+
+abbrev pub siteOn : Bool → Bool → ℕ → Track → Site
+siteOn vns track p t = record { track = track; post = p; cvt = t .cvt; walk = t .walk; vns = vns; own = postOn t p }
+
+abbrev pub otherSettledOnVns : Section → Bool → Bool
+otherSettledOnVns s track = settledOnVns (trackOf s (not track))
+
+-- ## The stretch, over a test of ranks
+
+-- whether a train is in the stretch that begins at the post of rank j, f block sections before the receiving end: `ends` tells at which
+-- ranks a stretch ends, `train` which train follows a rank
+unfoldable pub stretchHolds : (ℕ → Bool) → (ℕ → ℕ) → ℕ → ℕ → Bool
+stretchHolds ends train zero j = false
+stretchHolds ends train (suc f) j =
+    not (eqb (train j) 0) || (not (ends (suc j)) && stretchHolds ends train f (suc j))
+
+-- a train in one of the first m block sections
+unfoldable pub anyTrain : ℕ → List ℕ → Bool
+anyTrain zero trains = false
+anyTrain (suc m) trains = not (eqb (getD trains m 0) 0) || anyTrain m trains
+
+-- that number in one of the first m block sections
+unfoldable pub hasNumber : ℕ → ℕ → List ℕ → Bool
+hasNumber zero number trains = false
+hasNumber (suc m) number trains = eqb (getD trains m 0) number || hasNumber m number trains
+
+-- ## The occupancy
+
+pub record Occupancy : Type 0 where
+  pub watched : Bool  -- a train in the part that the post watches
+  pub before : ℕ  -- the train in the block section before the post
+  pub entered : ℕ  -- the last train that entered the block section ahead
+  pub anywhere : Bool  -- a train anywhere on the track
+  pub stretch : Bool  -- a train in the stretch that begins at the post
+  pub known : Bool  -- the step's number is on the track
+
+module _ (c : Settings) where
+  abbrev pub upAt : Site → Bool
+  upAt e = upward (e .track) (e .cvt)
+
+  abbrev pub rankAt : Site → ℕ
+  rankAt e = rank (c .posts) (upAt e) (e .post)
+
+  abbrev pub atSendingEnd : Site → Bool
+  atSendingEnd e = isFirst (c .posts) (upAt e) (e .post)
+
+  -- also "the last post" of a reversal
+  abbrev pub atReceivingEnd : Site → Bool
+  atReceivingEnd e = isLast (c .posts) (upAt e) (e .post)
+
+  abbrev pub blockAhead : Site → ℕ
+  blockAhead e = block (c .posts) (upAt e) (rankAt e)
+
+  abbrev pub blockBefore : Site → ℕ
+  blockBefore e = block (c .posts) (upAt e) (rankAt e - 1)
+
+  -- the next post of the walk
+  abbrev pub nextPost : Site → ℕ
+  nextPost e = cond (upAt e) (suc (e .post)) (e .post - 1)
+
+  -- a stretch ends, and the next begins, at the post of rank j: "for VNS, one block section. For CVT it reaches from one signalled post
+  -- to the next (art. 903)."
+  unfoldable pub stretchEnds : Bool → Bool → ℕ → Bool
+  stretchEnds track cvt j = not cvt || bit (c .mask) (rank (c .posts) (upward track cvt) j)
+
+  -- the train in the block section that follows the post of rank j
+  abbrev pub trainAt : Bool → Bool → List ℕ → ℕ → ℕ
+  trainAt track cvt trains j = getD trains (block (c .posts) (upward track cvt) j) 0
+
+  -- a train in the part that the post watches: the block section ahead ("the last post has none")
+  unfoldable pub watchedOccupied : Site → List ℕ → Bool
+  watchedOccupied e trains = not (atReceivingEnd e) && not (eqb (getD trains (blockAhead e) 0) 0)
+
+  unfoldable pub occupancyAt : Site → ℕ → List ℕ → List ℕ → Occupancy
+  occupancyAt e number trains last = record {
+    watched = watchedOccupied e trains;
+    before = getD trains (blockBefore e) 0;
+    entered = getD last (blockAhead e) 0;
+    anywhere = anyTrain (c .posts - 1) trains;
+    stretch =
+        stretchHolds (stretchEnds (e .track) (e .cvt)) (trainAt (e .track) (e .cvt) trains) (c .posts - suc (rankAt e)) (rankAt e);
+    known = hasNumber (c .posts - 1) number trains;
+  }

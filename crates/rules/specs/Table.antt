@@ -1,0 +1,153 @@
+-- The table of steps (document 01, "Steps, checks in order"): for each kind its checks in the paper's order, and its effect.
+use Prim.Native.Nat.{ℕ, suc}
+use mathlib.Core.Bool.{Bool, true, false, cond, not, _&&_, _||_}
+use mathlib.Core.List.{List, [], _∷_}
+use lib.ListN.{set}
+use lib.Dec.{eqb}
+use Rattle.section.specs.declared.Settings.{Settings}
+use Rattle.section.specs.declared.Post.{Post}
+use Rattle.section.specs.declared.Fault.{Fault}
+use Rattle.section.specs.declared.Fault.the-variants.{One, Two, Three}
+use Rattle.section.specs.declared.Act.the-variants as act
+use Rattle.section.specs.declared.Walk.{Walk}
+use Rattle.section.specs.declared.Walk.the-variants.{Settled, Turn}
+use Rattle.section.specs.declared.Track.{Track}
+use Rattle.section.specs.declared.Step.{Step}
+use Rattle.section.specs.declared.Step.the-variants.{Order, Set, Announce, Acknowledge, Start, Pass, Leave, MeasuresOn, MeasuresOff, FaultOn, FaultOff, Release, Key}
+use Rattle.section.specs.declared.Said.{Said}
+use Rattle.section.specs.declared.Said.the-variants.{Nothing, Cvt, Cvtz, Vns, Vnsz}
+use Rattle.section.specs.Numbers.{mostSeals}
+use Rattle.section.specs.Post.{turned, permitted, measured, faulty, marked, sealed, hasFault}
+use Rattle.section.specs.Settings.{isMaterialised}
+use Rattle.rules.specs.declared.Site.{Site}
+use Rattle.rules.specs.declared.Movement.{Movement}
+use Rattle.rules.specs.declared.Movement.the-variants.{Stays, Enters, Moves, Leaves}
+use Rattle.rules.specs.declared.Effect.{Effect}
+use Rattle.rules.specs.Site.{isSettled, isTurn, Occupancy, upAt, rankAt, atSendingEnd, atReceivingEnd, blockAhead, blockBefore, nextPost, stretchEnds}
+
+-- a check: what must hold, and the refusal where it does not
+pub record Check : Type 0 where
+  pub holds : Bool
+  pub refusal : ℕ
+
+infix 20 _else_
+abbrev pub _else_ : Bool → ℕ → Check
+b else k = record { holds = b; refusal = k }
+
+-- a step that changes only its post's record
+abbrev pub keeping : Site → Post → Effect
+keeping e own = record { own = own; walk = e .walk; cvt = e .cvt; train = Stays; said = Nothing }
+
+-- "fault gone; for fault 1 the mark too"
+abbrev pub cleared : Fault → Post → Post
+cleared One o = marked false (faulty One false o)
+cleared Two o = faulty Two false o
+cleared Three o = faulty Three false o
+
+module _ (c : Settings) where
+  -- ## What the refusals ask
+
+  -- 13 of order: "telephone form: a train anywhere on the track (art. 907); materialised: one in the block section ahead"
+  abbrev pub orderOccupied : Occupancy → Bool
+  orderOccupied g = cond (isMaterialised c) (g .watched) (g .anywhere)
+
+  -- 13 of pass: "at a post that begins a stretch: a train in that stretch. Pass elsewhere: never."
+  abbrev pub passOccupied : Site → Occupancy → Bool
+  passOccupied e g = stretchEnds c (e .track) (e .cvt) (rankAt c e) && g .stretch
+
+  -- 14: "order to CVT while the other track isn't settled on VNS (art. 915)"; to CVT, since the running direction is VNS
+  abbrev pub orderAllowed : Site → Bool
+  orderAllowed e = e .cvt || e .vns
+
+  -- 15: "Release is in turn where set is, or at the sending end with no reversal under way."
+  abbrev pub releaseInTurn : Site → Bool
+  releaseInTurn e = isTurn (e .walk) (e .post) act.Set || (isSettled (e .walk) && atSendingEnd c e)
+
+  -- 16: "set or key to CVT without measures"
+  abbrev pub secured : Site → Bool
+  secured e = e .cvt || e .own .measures
+
+  -- 18: "fault 1 without a mark (never at the last post)"
+  abbrev pub confirmed : Site → Bool
+  confirmed e = atReceivingEnd c e || (not (e .own .fault1) || e .own .mark)
+
+  -- ## Checks
+
+  unfoldable pub checks : Step → Site → Occupancy → List Check
+  checks (Order p) e g =
+      (isSettled (e .walk) else 11) ∷ (atSendingEnd c e else 12) ∷ (orderAllowed e else 14) ∷ (not (orderOccupied g) else 13) ∷ []
+  checks (Set p) e g =
+      (isTurn (e .walk) (e .post) act.Set else 15) ∷ (not (g .watched) else 13) ∷ (confirmed e else 18) ∷ (secured e else 16)
+      ∷ (not (e .own .fault2) else 19) ∷ []
+  checks (Announce p) e g = (isTurn (e .walk) (e .post) act.Announce else 15) ∷ []
+  checks (Acknowledge p) e g = (isTurn (e .walk) (e .post) act.Acknowledge else 15) ∷ []
+  checks (Start p number) e g =
+      (isSettled (e .walk) else 11) ∷ (atSendingEnd c e else 12) ∷ (not (g .known) else 17) ∷ (not (g .stretch) else 13)
+      ∷ (confirmed e else 18) ∷ []
+  checks (Pass p number) e g =
+      (not (atSendingEnd c e || atReceivingEnd c e) else 12) ∷ (eqb (g .before) number else 17) ∷ (not (passOccupied e g) else 13) ∷ []
+  checks (Leave p number) e g = (atReceivingEnd c e else 12) ∷ (eqb (g .before) number else 17) ∷ []
+  checks (MeasuresOn p) e g = (not (e .own .measures) else 21) ∷ []
+  checks (MeasuresOff p) e g = (e .own .measures else 21) ∷ (not (e .own .cvt) else 16) ∷ []
+  checks (FaultOn p f) e g = (not (hasFault f (e .own)) else 21) ∷ []
+  checks (FaultOff p f) e g = (hasFault f (e .own) else 21) ∷ []
+  checks (Release p number) e g =
+      (releaseInTurn e else 15) ∷ (not (atReceivingEnd c e) else 12) ∷ (e .own .fault1 else 21) ∷ (not (g .watched) else 13)
+      ∷ (eqb (g .entered) number else 17) ∷ []
+  checks (Key p) e g =
+      (isTurn (e .walk) (e .post) act.Set else 15) ∷ (e .own .fault2 else 21) ∷ (not (g .watched) else 13) ∷ (confirmed e else 18)
+      ∷ (secured e else 16) ∷ (not (eqb (e .own .seals) mostSeals) else 20) ∷ []
+
+  -- ## Effects
+
+  -- "device turned, release mark gone"; "the running direction changes, and the last post gets permission, at that last set"
+  abbrev pub setting : Site → Post → Effect
+  setting e own = record {
+    own = permitted (atReceivingEnd c e || own .permission) (marked false (turned (not (e .cvt)) own));
+    walk = cond (atReceivingEnd c e) Settled (Turn (e .post) act.Announce);
+    cvt = cond (atReceivingEnd c e) (not (e .cvt)) (e .cvt);
+    train = Stays;
+    said = Nothing;
+  }
+
+  unfoldable pub effect : Step → Site → Effect
+  effect (Order p) e =
+      record { own = permitted false (e .own); walk = Turn (e .post) act.Set; cvt = e .cvt; train = Stays; said = Nothing }
+  effect (Set p) e = setting e (e .own)
+  effect (Announce p) e =
+      record { own = e .own; walk = Turn (nextPost c e) act.Acknowledge; cvt = e .cvt; train = Stays; said = cond (e .cvt) Vns Cvt }
+  effect (Acknowledge p) e =
+      record { own = e .own; walk = Turn (e .post) act.Set; cvt = e .cvt; train = Stays; said = cond (e .cvt) Vnsz Cvtz }
+  effect (Start p number) e =
+      record { own = marked false (e .own); walk = e .walk; cvt = e .cvt; train = Enters number; said = Nothing }
+  effect (Pass p number) e = record { own = e .own; walk = e .walk; cvt = e .cvt; train = Moves number; said = Nothing }
+  effect (Leave p number) e = record { own = e .own; walk = e .walk; cvt = e .cvt; train = Leaves; said = Nothing }
+  effect (MeasuresOn p) e = keeping e (measured true (e .own))
+  effect (MeasuresOff p) e = keeping e (measured false (e .own))
+  effect (FaultOn p f) e = keeping e (faulty f true (e .own))
+  effect (FaultOff p f) e = keeping e (cleared f (e .own))
+  effect (Release p number) e = keeping e (marked true (e .own))
+  effect (Key p) e = setting e (sealed (e .own))
+
+  -- the trains, and the last train of each block section, after a movement
+  unfoldable pub trainsAfter : Movement → Site → List ℕ → List ℕ
+  trainsAfter Stays e l = l
+  trainsAfter (Enters number) e l = set l (blockAhead c e) number
+  trainsAfter (Moves number) e l = set (set l (blockBefore c e) 0) (blockAhead c e) number
+  trainsAfter Leaves e l = set l (blockBefore c e) 0
+
+  unfoldable pub lastAfter : Movement → Site → List ℕ → List ℕ
+  lastAfter Stays e l = l
+  lastAfter (Enters number) e l = set l (blockAhead c e) number
+  lastAfter (Moves number) e l = set l (blockAhead c e) number
+  lastAfter Leaves e l = l
+
+  -- the track after an accepted step
+  unfoldable pub trackAfter : Step → Site → Track → Track
+  trackAfter x e t = record {
+    posts = set (t .posts) (e .post) (effect x e .own);
+    trains = trainsAfter (effect x e .train) e (t .trains);
+    last = lastAfter (effect x e .train) e (t .last);
+    cvt = effect x e .cvt;
+    walk = effect x e .walk;
+  }

@@ -1,0 +1,291 @@
+-- Laws that other crates cite: of ranks and block sections; what the ranges of a state say of each post and block section, both ways; that the
+-- fresh section is in its ranges.
+use Prim.Native.Nat.{ℕ, zero, suc, _-_, _≤_, _<_}
+use mathlib.Core.Bool.{Bool, true, false, cond, _&&_, and-eq-true-iff}
+use mathlib.Core.List.{List, [], _∷_}
+use mathlib.Core.Path.{_≡_, refl, sym, ap, _∙_}
+use native.Mathlib.Nat.{not-suc-le-zero}
+use native.Mathlib.Numerals.{add-one, sub-one}
+use native.Mathlib.Omega.{arith}
+use lib.ListN.{getD, set, replicate, getD-replicate}
+use lib.Dec.{ltb, leb, lit≤}
+use borrow.Author.Count.{below-more}
+use borrow.Author.Tests.{leb-true, le-leb, ltb-true, lt-ltb, not-true}
+use Rattle.section.specs.declared.Act.{Act}
+use Rattle.section.specs.declared.Act.the-variants.{Announce, Acknowledge}
+use Rattle.section.specs.declared.Post.{Post}
+use Rattle.section.specs.declared.Section.{Section}
+use Rattle.section.specs.declared.Settings.{Settings}
+use Rattle.section.specs.declared.Track.{Track}
+use Rattle.section.specs.declared.Walk.the-variants.{Turn}
+use Rattle.section.specs.Bytes.{within}
+use Rattle.section.specs.Fresh.{freshTrack, freshSection}
+use Rattle.section.specs.Geometry.{upward, rank, block, isFirst, isLast}
+use Rattle.section.specs.Numbers.{mostPosts, mostBlocks, mostSeals, largestTrain}
+use Rattle.section.specs.Post.{blank, permitted}
+use Rattle.section.specs.Range.{sealsFit, numbersFit, actFits, walkFits, trackFits, inRange}
+use Rattle.section.specs.Settings.{settingsRight}
+use Rattle.section.specs.Store.{trackOf}
+
+-- ## Ranks and block sections
+
+pub rank-lt : (n : ℕ) (up : Bool) (p : ℕ) → p < n → rank n up p < n
+unfolding rank
+rank-lt n true p h = h
+rank-lt n false p h = omega arith
+
+pub rank-rank : (n : ℕ) (up : Bool) (p : ℕ) → p < n → rank n up (rank n up p) ≡ p
+unfolding rank
+rank-rank n true p h = refl
+rank-rank n false p h = omega arith
+
+pub rank-inj : (n : ℕ) (up : Bool) (p q : ℕ) → p < n → q < n → rank n up p ≡ rank n up q → p ≡ q
+unfolding rank
+rank-inj n true p q h k e = e
+rank-inj n false p q h k e = omega arith
+
+pub block-inj : (n : ℕ) (up : Bool) (i j : ℕ) → suc i < n → suc j < n → block n up i ≡ block n up j → i ≡ j
+unfolding block
+block-inj n true i j h k e = e
+block-inj n false i j h k e = omega arith
+
+pub block-lt : (n : ℕ) (up : Bool) (i : ℕ) → suc i < n → suc (block n up i) < n
+unfolding block
+block-lt n true i h = h
+block-lt n false i h = omega arith
+
+pub block-block : (n : ℕ) (up : Bool) (i : ℕ) → suc i < n → block n up (block n up i) ≡ i
+unfolding block
+block-block n true i h = refl
+block-block n false i h = omega arith
+
+-- ## A test of the first m cells
+
+-- two tests that both hold
+pub both : {a b : Bool} → a ≡ true → b ≡ true → (a && b) ≡ true
+both {a} {b} h k = and-eq-true-iff a b .1 (h, k)
+
+pub and-left : (a b : Bool) → (a && b) ≡ true → a ≡ true
+and-left a b h = and-eq-true-iff a b .0 h .0
+
+pub and-right : (a b : Bool) → (a && b) ≡ true → b ≡ true
+and-right a b h = and-eq-true-iff a b .0 h .1
+
+-- `fits m` says that `test` holds of each cell below m
+module _ (test fits : ℕ → Bool) (none : fits zero ≡ true) (more : (m : ℕ) → fits (suc m) ≡ (test m && fits m)) where
+  -- for a loop that counts down
+  last-first : (i : ℕ) → 0 < i → fits i ≡ (test (i - 1) && fits (i - 1))
+  last-first zero h = absurd (not-suc-le-zero h)
+  last-first (suc i) h = rw (sub-one (suc i)) (more i)
+
+  each : (m : ℕ) → fits m ≡ true → (i : ℕ) → i < m → test i ≡ true
+  each zero h i k = absurd (not-suc-le-zero k)
+  each (suc m) h i k =
+      let parts = and-eq-true-iff (test m) (fits m) .0 (sym (more m) ∙ h) in
+      below-more (λ (j : ℕ). test j ≡ true) m (each m (parts .1)) (parts .0) i (rw add-one k)
+
+  all : (m : ℕ) → ((i : ℕ) → i < m → test i ≡ true) → fits m ≡ true
+  all zero h = none
+  all (suc m) h = more m ∙ both (h m (omega arith)) (all m (λ i k. h i (omega arith)))
+
+  -- a loop that counts down stops at a cell for which the test fails, and goes on from one for which it holds
+  stops : (i : ℕ) → 0 < i → test (i - 1) ≡ false → fits i ≡ false
+  stops i h e = last-first i h ∙ rw e
+
+  goes-on : (i : ℕ) → 0 < i → test (i - 1) ≡ true → fits i ≡ fits (i - 1)
+  goes-on i h e = last-first i h ∙ rw e
+
+module _ (l : List Post) where
+  sealTest : ℕ → Bool
+  sealTest i = leb (getD l i blank .seals) mostSeals
+
+  pub seals-each : (m : ℕ) → sealsFit m l ≡ true → (p : ℕ) → p < m → getD l p blank .seals ≤ mostSeals
+  unfolding sealsFit sealTest
+  seals-each m h p k = leb-true _ _ (each sealTest (λ (j : ℕ). sealsFit j l) refl (λ j. refl) m h p k)
+
+  pub seals-all : (m : ℕ) → ((p : ℕ) → p < m → getD l p blank .seals ≤ mostSeals) → sealsFit m l ≡ true
+  unfolding sealsFit sealTest
+  seals-all m h = all sealTest (λ (j : ℕ). sealsFit j l) refl (λ j. refl) m (λ p k. le-leb _ _ (h p k))
+
+  pub seals-over : (m k p : ℕ) → mostSeals ≤ k → p < m → k < getD l p blank .seals → sealsFit m l ≡ false
+  seals-over m k p hk hp over = go (sealsFit m l) refl
+    where
+      go : (b : Bool) → sealsFit m l ≡ b → b ≡ false
+      go true e = absurd (omega (arith, seals-each m e p hp, hk, over))
+      go false e = refl
+
+  pub seals-go-on : (i : ℕ) → 0 < i → getD l (i - 1) blank .seals ≤ mostSeals → sealsFit i l ≡ sealsFit (i - 1) l
+  unfolding sealsFit sealTest
+  seals-go-on i h k = goes-on sealTest (λ (j : ℕ). sealsFit j l) refl (λ j. refl) i h (le-leb _ _ k)
+
+module _ (l : List ℕ) where
+  numberTest : ℕ → Bool
+  numberTest i = leb (getD l i 0) largestTrain
+
+  pub numbers-each : (m : ℕ) → numbersFit m l ≡ true → (i : ℕ) → i < m → getD l i 0 ≤ largestTrain
+  unfolding numbersFit numberTest
+  numbers-each m h i k = leb-true _ _ (each numberTest (λ (j : ℕ). numbersFit j l) refl (λ j. refl) m h i k)
+
+  pub numbers-all : (m : ℕ) → ((i : ℕ) → i < m → getD l i 0 ≤ largestTrain) → numbersFit m l ≡ true
+  unfolding numbersFit numberTest
+  numbers-all m h = all numberTest (λ (j : ℕ). numbersFit j l) refl (λ j. refl) m (λ i k. le-leb _ _ (h i k))
+
+-- ## The cells of a track
+
+swap-middle : (a b c d : Bool) → ((a && b) && (c && d)) ≡ ((a && c) && (b && d))
+swap-middle true true c d = refl
+swap-middle true false true d = refl
+swap-middle true false false d = refl
+swap-middle false b c d = refl
+
+module _ (t : Track) where
+  -- post i and the block section beside it
+  abbrev pub cellTest : ℕ → Bool
+  cellTest i = leb (getD (t .posts) i blank .seals) mostSeals && (leb (getD (t .trains) i 0) largestTrain && leb (getD (t .last) i 0) largestTrain)
+
+  abbrev pub cells : ℕ → Bool
+  cells m = sealsFit m (t .posts) && (numbersFit m (t .trains) && numbersFit m (t .last))
+
+  cells-more : (m : ℕ) → cells (suc m) ≡ (cellTest m && cells m)
+  unfolding sealsFit numbersFit
+  cells-more m =
+      let seals = leb (getD (t .posts) m blank .seals) mostSeals in
+      let train = leb (getD (t .trains) m 0) largestTrain in
+      let last = leb (getD (t .last) m 0) largestTrain in
+      ap (λ (x : Bool). (seals && sealsFit m (t .posts)) && x) (swap-middle train (numbersFit m (t .trains)) last (numbersFit m (t .last)))
+      ∙ swap-middle seals (sealsFit m (t .posts)) (train && last) (numbersFit m (t .trains) && numbersFit m (t .last))
+
+  cells-none : cells zero ≡ true
+  unfolding sealsFit numbersFit
+  cells-none = refl
+
+  pub cells-stop : (i : ℕ) → 0 < i → cellTest (i - 1) ≡ false → cells i ≡ false
+  cells-stop = stops cellTest cells cells-none cells-more
+
+  pub cells-go-on : (i : ℕ) → 0 < i → cellTest (i - 1) ≡ true → cells i ≡ cells (i - 1)
+  cells-go-on = goes-on cellTest cells cells-none cells-more
+
+-- ## What the ranges say
+
+regroup : (a b c d : Bool) → (a && (b && (c && d))) ≡ ((a && (b && c)) && d)
+regroup true true c d = refl
+regroup true false c d = refl
+regroup false b c d = refl
+
+pub track-cells :
+    (n : ℕ) (track : Bool) (t : Track) →
+    trackFits n track t
+    ≡ ((sealsFit n (t .posts) && (numbersFit (n - 1) (t .trains) && numbersFit (n - 1) (t .last))) && walkFits n (upward track (t .cvt)) (t .walk))
+unfolding trackFits
+track-cells n track t =
+    regroup (sealsFit n (t .posts)) (numbersFit (n - 1) (t .trains)) (numbersFit (n - 1) (t .last)) (walkFits n (upward track (t .cvt)) (t .walk))
+
+pub posts-right : (c : Settings) → settingsRight c ≡ true → (2 ≤ c .posts) × (c .posts ≤ 16)
+unfolding settingsRight within
+posts-right c h =
+    let r : (leb 2 (c .posts) && leb (c .posts) 16) ≡ true = and-left _ _ h in
+    (leb-true _ _ (and-left (leb 2 (c .posts)) (leb (c .posts) 16) r), leb-true _ _ (and-right (leb 2 (c .posts)) (leb (c .posts) 16) r))
+
+-- a track in its ranges
+pub record TrackRight (n : ℕ) (track : Bool) (t : Track) : Type 0 where
+  pub seals : (p : ℕ) → p < n → getD (t .posts) p blank .seals ≤ mostSeals
+  pub trains : (i : ℕ) → i < n - 1 → getD (t .trains) i 0 ≤ largestTrain
+  pub last : (i : ℕ) → i < n - 1 → getD (t .last) i 0 ≤ largestTrain
+  pub walk : walkFits n (upward track (t .cvt)) (t .walk) ≡ true
+
+module _ (n : ℕ) (track : Bool) (t : Track) where
+  pub track-right : trackFits n track t ≡ true → TrackRight n track t
+  unfolding trackFits
+  track-right h =
+      let walk = walkFits n (upward track (t .cvt)) (t .walk) in
+      let last = numbersFit (n - 1) (t .last) in
+      let trains = numbersFit (n - 1) (t .trains) in
+      let one = and-eq-true-iff (sealsFit n (t .posts)) (trains && (last && walk)) .0 h in
+      let two = and-eq-true-iff trains (last && walk) .0 (one .1) in
+      let three = and-eq-true-iff last walk .0 (two .1) in
+      record {
+        seals = seals-each (t .posts) n (one .0);
+        trains = numbers-each (t .trains) (n - 1) (two .0);
+        last = numbers-each (t .last) (n - 1) (three .0);
+        walk = three .1;
+      }
+
+  pub track-fits : TrackRight n track t → trackFits n track t ≡ true
+  unfolding trackFits
+  track-fits r =
+      both (seals-all (t .posts) n (r .seals))
+      (both (numbers-all (t .trains) (n - 1) (r .trains)) (both (numbers-all (t .last) (n - 1) (r .last)) (r .walk)))
+
+-- the turn's post, and its act there
+module _ (n : ℕ) (up : Bool) (p : ℕ) (act : Act) where
+  pub turn-right : walkFits n up (Turn p act) ≡ true → (p < n) × (actFits n up p act ≡ true)
+  unfolding walkFits
+  turn-right h =
+      let parts = and-eq-true-iff (ltb p n) (actFits n up p act) .0 h in
+      (ltb-true _ _ (parts .0), parts .1)
+
+  pub turn-fits : p < n → actFits n up p act ≡ true → walkFits n up (Turn p act) ≡ true
+  unfolding walkFits
+  turn-fits h k = both (lt-ltb _ _ h) k
+
+module _ (n : ℕ) (up : Bool) (p : ℕ) where
+  pub announce-right : actFits n up p Announce ≡ true → isLast n up p ≡ false
+  unfolding actFits
+  announce-right h = not-true (isLast n up p) h
+
+  pub acknowledge-right : actFits n up p Acknowledge ≡ true → isFirst n up p ≡ false
+  unfolding actFits
+  acknowledge-right h = not-true (isFirst n up p) h
+
+-- a section in its ranges: its settings, and each track
+module _ (s : Section) where
+  pub settings-in-range : inRange s ≡ true → settingsRight (s .settings) ≡ true
+  unfolding inRange
+  settings-in-range h = and-left _ _ h
+
+  tracks-in-range :
+      inRange s ≡ true → (trackFits (s .settings .posts) false (s .a) ≡ true) × (trackFits (s .settings .posts) true (s .b) ≡ true)
+  unfolding inRange
+  tracks-in-range h =
+      let a = trackFits (s .settings .posts) false (s .a) in
+      let b = trackFits (s .settings .posts) true (s .b) in
+      and-eq-true-iff a b .0 (and-right (settingsRight (s .settings)) (a && b) h)
+
+  pub track-in-range : inRange s ≡ true → (track : Bool) → trackFits (s .settings .posts) track (trackOf s track) ≡ true
+  track-in-range h true = tracks-in-range h .1
+  track-in-range h false = tracks-in-range h .0
+
+  pub section-in-range :
+      settingsRight (s .settings) ≡ true → ((track : Bool) → trackFits (s .settings .posts) track (trackOf s track) ≡ true) → inRange s ≡ true
+  unfolding inRange
+  section-in-range h tracks = both h (both (tracks false) (tracks true))
+
+-- ## The fresh section
+
+-- what holds of a cell and of what is put into a list holds of that cell afterwards
+pub set-keeps {κ} :
+    {A : Type 0} (P : A → Type κ) (l : List A) (i j : ℕ) (a d : A) → P (getD l j d) → P a → P (getD (set l i a) j d)
+set-keeps P [] i j a d h k = h
+set-keeps P (x ∷ l) zero zero a d h k = k
+set-keeps P (x ∷ l) zero (suc j) a d h k = h
+set-keeps P (x ∷ l) (suc i) zero a d h k = h
+set-keeps P (x ∷ l) (suc i) (suc j) a d h k = set-keeps P l i j a d h k
+
+fresh-track-right : (n : ℕ) (track : Bool) → n ≤ mostPosts → TrackRight n track (freshTrack n track)
+unfolding freshTrack walkFits
+fresh-track-right n track h = record {
+  seals = λ p k. set-keeps (λ (o : Post). o .seals ≤ mostSeals) (replicate mostPosts blank) (cond track (n - 1) 0) p (permitted true blank) blank
+      (rw (getD-replicate mostPosts p blank blank (omega arith)) (lit≤ tt)) (lit≤ tt);
+  trains = λ i k. rw (getD-replicate {A = ℕ} mostBlocks i 0 0 (omega arith)) (lit≤ tt);
+  last = λ i k. rw (getD-replicate {A = ℕ} mostBlocks i 0 0 (omega arith)) (lit≤ tt);
+  walk = refl;
+}
+
+fresh-tracks : (c : Settings) → c .posts ≤ mostPosts → (track : Bool) → trackFits (c .posts) track (trackOf (freshSection c) track) ≡ true
+unfolding freshSection
+fresh-tracks c h true = track-fits (c .posts) true (freshTrack (c .posts) true) (fresh-track-right (c .posts) true h)
+fresh-tracks c h false = track-fits (c .posts) false (freshTrack (c .posts) false) (fresh-track-right (c .posts) false h)
+
+pub fresh-in-range : (c : Settings) → settingsRight c ≡ true → inRange (freshSection c) ≡ true
+unfolding freshSection
+fresh-in-range c h = section-in-range (freshSection c) h (fresh-tracks c (posts-right c h .1))

@@ -1,0 +1,136 @@
+-- A text written at a place, and another after it.
+use mathlib.Core.Path.{_≡_, refl, sym, _∙_, ap}
+use mathlib.Core.List.{List, [], _∷_, _++_, append-assoc, append-nil}
+use Prim.Native.Nat.{ℕ, zero, suc, _+_, _-_, _*_, _/_, _%_, _^_, _≤_, _<_}
+use mathlib.Core.Bool.{Bool, true, false, cond}
+use native.Mathlib.Omega.{arith}
+use native.Mathlib.Nat.{add-assoc, add-zero, add-sub-cancel-left, mod-eq-of-lt}
+use lib.ListN.{length, take, drop, set, take-append-drop, length-append, length-drop}
+use lib.Seq.{length-take-le, take-length, drop-length, take-at, drop-at, drop-drop, set-split, take-append-add, drop-append-add, drop-append-le}
+use lib.Dec.{ltb}
+use borrow.Author.Tests.{lt-ltb, le-ltb}
+use Rattle.text.specs.Text.{digits, digit, written}
+
+-- a byte is a text of one
+pub one-byte : (l : List ℕ) (at b : ℕ) → at < length l → set l at b ≡ written l at (b ∷ [])
+unfolding written
+one-byte l at b h =
+    let e : suc at ≡ at + 1 = omega arith in
+    set-split l at b h ∙ ap (λ (k : ℕ). take at l ++ (b ∷ drop k l)) e
+
+-- a text of the part's length fills the part
+filled : (s d : List ℕ) → length d ≡ length s → take (length s) s ++ drop (length s) d ≡ s
+filled s d e =
+    ap (λ (k : ℕ). take (length s) s ++ drop k d) (sym e)
+    ∙ ap (λ (l : List ℕ). take (length s) s ++ l) (drop-length d)
+    ∙ append-nil (take (length s) s)
+    ∙ take-length s
+
+-- a part of the buffer, copied over
+pub part-copied :
+    (l s part : List ℕ) (at : ℕ) → at + length s ≤ length l
+    → part ≡ take (length s) s ++ drop (length s) (take (at + length s - at) (drop at l))
+    → take at l ++ (part ++ drop (at + length s - at) (drop at l)) ≡ written l at s
+unfolding written
+part-copied l s part at h e =
+    let k : at + length s - at ≡ length s = add-sub-cancel-left at (length s) in
+    let n : length (take (at + length s - at) (drop at l)) ≡ length s =
+    rw k (length-take-le (length s) (drop at l) (simp length-drop (omega arith))) in
+    let p : part ≡ s = e ∙ filled s (take (at + length s - at) (drop at l)) n in
+    rw (p, k, drop-drop)
+
+-- the length stays
+pub written-length : (l : List ℕ) (at : ℕ) (s : List ℕ) → at + length s ≤ length l → length (written l at s) ≡ length l
+unfolding written
+written-length l at s h = simp (length-append, length-drop) (omega (arith, length-take-le at l (omega arith)))
+
+-- a text, and another after it, are one text
+pub written-twice :
+    (l : List ℕ) (at : ℕ) (s t : List ℕ) → at + length s ≤ length l
+    → written (written l at s) (at + length s) t ≡ written l at (s ++ t)
+unfolding written
+written-twice l at s t h =
+    let n : length (take at l ++ s) ≡ at + length s =
+    length-append (take at l) s ∙ ap (λ (k : ℕ). k + length s) (length-take-le at l (omega arith)) in
+    let front : take at l ++ (s ++ drop (at + length s) l) ≡ (take at l ++ s) ++ drop (at + length s) l =
+    sym (append-assoc (take at l) s (drop (at + length s) l)) in
+    let a : take (at + length s) (take at l ++ (s ++ drop (at + length s) l)) ≡ take at l ++ s =
+    ap (take (at + length s)) front ∙ take-at (take at l ++ s) (drop (at + length s) l) (at + length s) n in
+    let b : drop (at + length s + length t) (take at l ++ (s ++ drop (at + length s) l)) ≡ drop (at + length (s ++ t)) l =
+    ap (drop (at + length s + length t)) front
+    ∙ ap (λ (k : ℕ). drop (k + length t) ((take at l ++ s) ++ drop (at + length s) l)) (sym n)
+    ∙ drop-append-add (take at l ++ s) (drop (at + length s) l) (length t)
+    ∙ drop-drop (length t) (at + length s) l
+    ∙ ap (λ (k : ℕ). drop k l) (add-assoc at (length s) (length t) ∙ ap (λ (k : ℕ). at + k) (sym (length-append s t))) in
+    rw (a, b) (simp append-assoc)
+
+-- ## The digits of a number
+
+pub small : (most x : ℕ) → 0 < most → x < 10 → digits most x ≡ digit x ∷ []
+unfolding digits
+small zero x p h = absurd (omega arith)
+small (suc most) x p h = rw (lt-ltb x 10 h)
+
+pub large : (most x : ℕ) → 0 < most → 10 ≤ x → digits most x ≡ digits (most - 1) (x / 10) ++ (digit (x % 10) ∷ [])
+unfolding digits
+large zero x p h = absurd (omega arith)
+large (suc most) x p h =
+    let e : suc most - 1 ≡ most = omega arith in
+    rw (le-ltb x 10 h, e)
+
+-- at most so many digits
+pub digits-length : (most x : ℕ) → length (digits most x) ≤ most
+unfolding digits
+digits-length zero x = omega arith
+digits-length (suc most) x = go (ltb x 10) (digits-length most (x / 10))
+  where
+    go :
+        (b : Bool) → length (digits most (x / 10)) ≤ most
+        → length (cond b (digit x ∷ []) (digits most (x / 10) ++ (digit (x % 10) ∷ []))) ≤ suc most
+    go true h = omega arith
+    go false h = simp length-append (omega arith)
+
+-- a number written, by how many digits may be left
+
+pub record Put (l : List ℕ) (at : ℕ) (text : List ℕ) (r : ℕ) (m : List ℕ) : Type 0 where
+  pub next : r ≡ at + length text
+  pub after : m ≡ written l at text
+
+pub put-nothing : (l : List ℕ) (at most x : ℕ) → most ≡ 0 → Put l at (digits most x) at l
+unfolding digits written
+put-nothing l at most x e = rw e (record { next = omega arith; after = sym (whole l at) })
+  where
+    whole : (k : List ℕ) (i : ℕ) → take i k ++ drop (i + 0) k ≡ k
+    whole k i = ap (λ (j : ℕ). take i k ++ drop j k) (add-zero i) ∙ take-append-drop i k
+
+pub put-small :
+    (l : List ℕ) (at most x r : ℕ) (m : List ℕ) → 0 < most → x < 10 → r ≡ at + 1 → m ≡ written l at ((48 + x % 10) ∷ [])
+    → Put l at (digits most x) r m
+put-small l at most x r m p h e w =
+    let k : x % 10 ≡ x = mod-eq-of-lt h in
+    rw (small most x p h) (record { next = e; after = w ∙ ap (λ (j : ℕ). written l at ((48 + j) ∷ [])) k })
+
+pub put-large :
+    (l : List ℕ) (at most x next r : ℕ) (m₁ m : List ℕ) → 0 < most → 10 ≤ x → at + most ≤ length l
+    → next ≡ at + length (digits (most - 1) (x / 10)) → m₁ ≡ written l at (digits (most - 1) (x / 10))
+    → r ≡ next + 1 → m ≡ written m₁ next ((48 + x % 10) ∷ []) → Put l at (digits most x) r m
+put-large l at most x next r m₁ m p h room e₁ w₁ e w =
+    let n = digits-length (most - 1) (x / 10) in
+    rw (large most x p h)
+    (record {
+      next = e ∙ ap (λ (k : ℕ). k + 1) e₁ ∙ simp length-append (omega arith);
+      after =
+          w
+          ∙ ap (λ (k : List ℕ). written k next ((48 + x % 10) ∷ [])) w₁
+          ∙ ap (λ (k : ℕ). written (written l at (digits (most - 1) (x / 10))) k ((48 + x % 10) ∷ [])) e₁
+          ∙ written-twice l at (digits (most - 1) (x / 10)) ((48 + x % 10) ∷ []) (omega arith);
+    })
+
+-- there is room for the last digit
+pub room-for-digit :
+    (l m₁ : List ℕ) (at most x next : ℕ) → 0 < most → at + most ≤ length l → next ≡ at + length (digits (most - 1) (x / 10))
+    → m₁ ≡ written l at (digits (most - 1) (x / 10)) → next < length m₁
+room-for-digit l m₁ at most x next p room e w =
+    let n = digits-length (most - 1) (x / 10) in
+    let q : length m₁ ≡ length l = ap length w ∙ written-length l at (digits (most - 1) (x / 10)) (omega arith) in
+    omega arith

@@ -1,0 +1,27 @@
+-- Text in bytes: a number in decimal, and a buffer with a text written at a place.
+use Prim.Native.Nat.{ℕ, zero, suc, _+_, _/_, _%_}
+use mathlib.Core.Bool.{Bool, true, false, cond}
+use mathlib.Core.List.{List, [], _∷_, _++_}
+use lib.ListN.{length, take, drop}
+use lib.Dec.{ltb}
+
+-- the digit of a number below ten
+abbrev pub digit : ℕ → ℕ
+digit x = 48 + x
+
+-- a number in at most so many digits, without leading zeros
+unfoldable pub digits : ℕ → ℕ → List ℕ
+digits zero x = []
+digits (suc most) x = cond (ltb x 10) (digit x ∷ []) (digits most (x / 10) ++ (digit (x % 10) ∷ []))
+
+-- the digits of the largest number that is written
+abbrev pub mostDigits : ℕ
+mostDigits = 5
+
+-- a number below 100,000 in decimal, without leading zeros
+unfoldable pub decimal : ℕ → List ℕ
+decimal x = digits mostDigits x
+
+-- a buffer with a text written at a place
+unfoldable pub written : List ℕ → ℕ → List ℕ → List ℕ
+written buffer at text = take at buffer ++ (text ++ drop (at + length text) buffer)

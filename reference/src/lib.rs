@@ -1,0 +1,12 @@
+//! Direction blocking between two end stations: a second implementation,
+//! written from document 01 alone.
+
+pub mod dayfile;
+pub mod engine;
+pub mod generate;
+pub mod indications;
+pub mod listing;
+pub mod section;
+pub mod settings;
+pub mod step;
+pub mod way;

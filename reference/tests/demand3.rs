@@ -1,0 +1,408 @@
+//! Demand 3, from "The words of demand 3": lists of offered steps from the fresh section.
+
+use reference::engine::judge;
+use reference::generate::{self, Rng};
+use reference::section::Section;
+use reference::settings::{Settings, MATERIALISED};
+use reference::step::{decode, encode, Step};
+use std::collections::BTreeMap;
+
+const DAYS: usize = 6_000;
+
+/// One accepted step with its place in the list and what it said.
+#[derive(Clone, Copy, Debug, PartialEq, Eq)]
+struct Accepted {
+    place: usize,
+    track: usize,
+    step: Step,
+    said: u8,
+}
+
+/// A train's run on a track: the posts of its start, passes and leave.
+#[derive(Clone, Debug)]
+struct Run {
+    track: usize,
+    train: u16,
+    start: u8,
+    passes: Vec<u8>,
+    leave: Option<u8>,
+}
+
+#[derive(Default)]
+struct Tally {
+    offered: usize,
+    accepted: usize,
+    runs: usize,
+    ended_runs: usize,
+    reversals: usize,
+    days_at_rest: usize,
+    reordered: usize,
+}
+
+#[test]
+fn demand_3() {
+    let mut rng = Rng::new(3);
+    let mut tally = Tally::default();
+    for _ in 0..DAYS {
+        check_day(&mut rng, &mut tally);
+    }
+    println!(
+        "days {DAYS}, steps offered {}, accepted {}, runs {} (ended {}), reversals ended {}, \
+         days at rest in the end {}, days that needed a reordering {}",
+        tally.offered,
+        tally.accepted,
+        tally.runs,
+        tally.ended_runs,
+        tally.reversals,
+        tally.days_at_rest,
+        tally.reordered
+    );
+    assert!(tally.reordered > 0, "no day needed a reordering");
+}
+
+fn check_day(rng: &mut Rng, tally: &mut Tally) {
+    let settings = generate::random_settings(rng);
+    let list = random_list(rng, settings);
+    let (accepted, end) = walk(&list, settings);
+    tally.offered += list.len();
+    tally.accepted += accepted.len();
+    check_runs(&accepted, &end, tally);
+    check_starters(&end);
+    if end.tracks.iter().all(|track| !track.reversal_under_way()) {
+        tally.days_at_rest += 1;
+        check_order_without_trains_in_reversals(&accepted, &end, tally);
+    }
+}
+
+// The lists.
+
+/// Mostly sensible steps, with malformed ones between; near the end mostly such as bring
+/// the section to rest.
+fn random_list(rng: &mut Rng, settings: Settings) -> Vec<Vec<u8>> {
+    let mut section = Section::fresh(settings);
+    let mut list = Vec::new();
+    let posts = u64::from(settings.n);
+    let length = rng.below(40 * posts) as usize;
+    let closing = if rng.chance(4, 5) {
+        60 * posts as usize
+    } else {
+        0
+    };
+    let keen = rng.chance(1, 2);
+    for place in 0..length + closing {
+        let at_rest = section
+            .tracks
+            .iter()
+            .all(|track| !track.reversal_under_way());
+        if place >= length && at_rest {
+            break;
+        }
+        let furthering = place >= length || keen && rng.chance(1, 2);
+        let step = offered_step(rng, &section, furthering);
+        section = judge(&section, &step).section;
+        list.push(step);
+    }
+    list
+}
+
+fn offered_step(rng: &mut Rng, section: &Section, furthering: bool) -> Vec<u8> {
+    if rng.chance(1, 30) {
+        return malformed_step(rng, section);
+    }
+    if !furthering || rng.chance(1, 8) {
+        return generate::sensible_step(rng, section).to_vec();
+    }
+    let track = rng.flag();
+    generate::furthering_step(rng, section, track).to_vec()
+}
+
+fn malformed_step(rng: &mut Rng, section: &Section) -> Vec<u8> {
+    let mut step = generate::sensible_step(rng, section).to_vec();
+    match rng.below(6) {
+        0 => step.truncate(rng.below(8) as usize),
+        1 => step.push(0),
+        2 => step[0] = rng.pick(&[0, 14, 255]),
+        3 => step[1] = 2,
+        4 => step[2] = section.settings.n,
+        _ => step[6 + rng.below(2) as usize] = 1,
+    }
+    assert_eq!(judge(section, &step).refusal, 4);
+    step
+}
+
+/// Offers the list anew, from the fresh section.
+fn walk(list: &[Vec<u8>], settings: Settings) -> (Vec<Accepted>, Section) {
+    let mut section = Section::fresh(settings);
+    let mut accepted = Vec::new();
+    for (place, bytes) in list.iter().enumerate() {
+        let answer = judge(&section, bytes);
+        if answer.refusal == 0 {
+            let (track, step) = decode(bytes, settings.n).unwrap();
+            accepted.push(Accepted {
+                place,
+                track: track.into(),
+                step,
+                said: answer.said,
+            });
+        } else {
+            assert_eq!(answer.section, section);
+        }
+        section = answer.section;
+    }
+    (accepted, section)
+}
+
+// Runs.
+
+fn check_runs(accepted: &[Accepted], end: &Section, tally: &mut Tally) {
+    let runs = gather_runs(accepted);
+    tally.runs += runs.len();
+    tally.ended_runs += runs.iter().filter(|run| run.leave.is_some()).count();
+    for run in &runs {
+        check_far_end(run, end.settings.n);
+    }
+    for track in 0..2 {
+        let on_track: Vec<&Run> = runs
+            .iter()
+            .filter(|run| run.track == track && run.leave.is_none())
+            .collect();
+        check_positions(&on_track, end, track);
+        check_one_way(&on_track, end, track);
+    }
+}
+
+fn gather_runs(accepted: &[Accepted]) -> Vec<Run> {
+    let mut runs = Vec::new();
+    let mut open = BTreeMap::<(usize, u16), Run>::new();
+    for one in accepted {
+        let track = one.track;
+        match one.step {
+            Step::Start { post, train } => {
+                let run = Run {
+                    track,
+                    train,
+                    start: post,
+                    passes: Vec::new(),
+                    leave: None,
+                };
+                assert!(open.insert((track, train), run).is_none(), "started twice");
+            }
+            Step::Pass { post, train } => {
+                open.get_mut(&(track, train))
+                    .expect("pass without run")
+                    .passes
+                    .push(post);
+            }
+            Step::Leave { post, train } => {
+                let mut run = open.remove(&(track, train)).expect("leave without run");
+                run.leave = Some(post);
+                runs.push(run);
+            }
+            _ => {}
+        }
+    }
+    runs.extend(open.into_values());
+    runs
+}
+
+/// A run that ended passed each post between the ends in turn and left at the other end.
+fn check_far_end(run: &Run, n: u8) {
+    let Some(leave) = run.leave else { return };
+    let mut between: Vec<u8> = (1..n - 1).collect();
+    if run.start != 0 {
+        assert_eq!(run.start, n - 1);
+        between.reverse();
+    }
+    assert_eq!(run.passes, between, "{run:?}");
+    assert_eq!(leave, n - 1 - run.start, "{run:?}");
+}
+
+fn check_positions(on_track: &[&Run], end: &Section, track: usize) {
+    let n = end.settings.n;
+    let mut expected = vec![0; usize::from(n) - 1];
+    for run in on_track {
+        let moved = run.passes.len();
+        let block_section = if run.start == 0 {
+            moved
+        } else {
+            usize::from(run.start) - 1 - moved
+        };
+        assert_eq!(expected[block_section], 0, "two trains in a block section");
+        expected[block_section] = run.train;
+    }
+    assert_eq!(end.tracks[track].trains[..expected.len()], expected);
+}
+
+fn check_one_way(on_track: &[&Run], end: &Section, track: usize) {
+    let upward = (track == 0) == (end.tracks[track].direction == 0);
+    let sending_end = if upward { 0 } else { end.settings.n - 1 };
+    assert!(on_track.iter().all(|run| run.start == sending_end));
+}
+
+/// At most one post of each track has permission or would have a start accepted.
+fn check_starters(end: &Section) {
+    for track in 0..2u8 {
+        let starters = (0..end.settings.n)
+            .filter(|&post| {
+                let kept = &end.tracks[usize::from(track)].posts[usize::from(post)];
+                kept.permission == 1 || start_is_accepted(end, track, post)
+            })
+            .count();
+        assert!(starters <= 1, "{starters} posts may start trains");
+    }
+}
+
+/// Fifteen block sections hold at most fifteen numbers, so sixteen tell for all;
+/// some others are tried all the same.
+fn start_is_accepted(section: &Section, track: u8, post: u8) -> bool {
+    (1..=16)
+        .chain([500, 9_999])
+        .any(|train| judge(section, &encode(track, &Step::Start { post, train })).refusal == 0)
+}
+
+// The new order.
+
+fn check_order_without_trains_in_reversals(
+    accepted: &[Accepted],
+    end: &Section,
+    tally: &mut Tally,
+) {
+    let needed = meets_train_in_reversal(accepted, end.settings);
+    tally.reversals += reversals(accepted, end.settings).len();
+    let new_order = trains_out_of_the_way(accepted, end.settings);
+    if needed {
+        tally.reordered += 1;
+        assert_eq!(end.settings.form, MATERIALISED);
+    } else {
+        check_new_order(accepted, accepted, end);
+    }
+    check_new_order(&new_order, accepted, end);
+}
+
+fn meets_train_in_reversal(accepted: &[Accepted], settings: Settings) -> bool {
+    let mut section = Section::fresh(settings);
+    accepted.iter().any(|one| {
+        section = judge(&section, &encode(one.track as u8, &one.step)).section;
+        train_in_reversal(&section)
+    })
+}
+
+fn train_in_reversal(section: &Section) -> bool {
+    let sections = usize::from(section.settings.n) - 1;
+    section.tracks.iter().any(|track| {
+        track.reversal_under_way() && track.trains[..sections].iter().any(|&train| train != 0)
+    })
+}
+
+/// Track, first place and last place (in `accepted`) of each reversal that ended.
+fn reversals(accepted: &[Accepted], settings: Settings) -> Vec<(usize, usize, usize)> {
+    let mut section = Section::fresh(settings);
+    let mut begun = [None; 2];
+    let mut found = Vec::new();
+    for (place, one) in accepted.iter().enumerate() {
+        section = judge(&section, &encode(one.track as u8, &one.step)).section;
+        let runs = section.tracks[one.track].reversal_under_way();
+        match (begun[one.track], runs) {
+            (None, true) => begun[one.track] = Some(place),
+            (Some(first), false) => {
+                found.push((one.track, first, place));
+                begun[one.track] = None;
+            }
+            _ => {}
+        }
+    }
+    found
+}
+
+/// In each reversal the track's train movements, with all that their posts did before them,
+/// go ahead of the order; the rest of the track's steps follow. The other track's steps stay
+/// where they are.
+fn trains_out_of_the_way(accepted: &[Accepted], settings: Settings) -> Vec<Accepted> {
+    let mut order = accepted.to_vec();
+    for (track, first, last) in reversals(accepted, settings) {
+        let places: Vec<usize> = (first..=last)
+            .filter(|&i| order[i].track == track)
+            .collect();
+        let steps: Vec<Accepted> = places.iter().map(|&i| order[i]).collect();
+        let (early, late): (Vec<_>, Vec<_>) = steps
+            .iter()
+            .enumerate()
+            .partition(|&(i, one)| post_moves_train_later(&steps[i..], post_of(&one.step)));
+        for (&place, (_, one)) in places.iter().zip(early.into_iter().chain(late)) {
+            order[place] = *one;
+        }
+    }
+    order
+}
+
+fn post_moves_train_later(steps: &[Accepted], post: u8) -> bool {
+    steps
+        .iter()
+        .any(|one| train_of(&one.step).is_some() && post_of(&one.step) == post)
+}
+
+fn check_new_order(new_order: &[Accepted], accepted: &[Accepted], end: &Section) {
+    let mut places: Vec<usize> = new_order.iter().map(|one| one.place).collect();
+    places.sort_unstable();
+    assert!(places
+        .iter()
+        .copied()
+        .eq(accepted.iter().map(|one| one.place)));
+    check_own_sequences(new_order);
+    let mut section = Section::fresh(end.settings);
+    for one in new_order {
+        let answer = judge(&section, &encode(one.track as u8, &one.step));
+        assert_eq!((answer.refusal, answer.said), (0, one.said), "{one:?}");
+        section = answer.section;
+        assert!(!train_in_reversal(&section), "{one:?}");
+    }
+    assert_eq!(section, *end);
+}
+
+/// Each post's own steps and each train's own steps keep the old sequence.
+fn check_own_sequences(new_order: &[Accepted]) {
+    let mut of_post = BTreeMap::<(usize, u8), usize>::new();
+    let mut of_train = BTreeMap::<(usize, u16), usize>::new();
+    for one in new_order {
+        let before = of_post.insert((one.track, post_of(&one.step)), one.place);
+        assert!(
+            before.is_none_or(|place| place < one.place),
+            "post's own steps"
+        );
+        if let Some(train) = train_of(&one.step) {
+            let before = of_train.insert((one.track, train), one.place);
+            assert!(
+                before.is_none_or(|place| place < one.place),
+                "train's own steps"
+            );
+        }
+    }
+}
+
+fn post_of(step: &Step) -> u8 {
+    match *step {
+        Step::Order { post }
+        | Step::Set { post }
+        | Step::Announce { post }
+        | Step::Acknowledge { post }
+        | Step::Start { post, .. }
+        | Step::Pass { post, .. }
+        | Step::Leave { post, .. }
+        | Step::MeasuresOn { post }
+        | Step::MeasuresOff { post }
+        | Step::FaultOn { post, .. }
+        | Step::FaultOff { post, .. }
+        | Step::Release { post, .. }
+        | Step::Key { post } => post,
+    }
+}
+
+/// A train's own steps are its starts, passes and leaves.
+fn train_of(step: &Step) -> Option<u16> {
+    match *step {
+        Step::Start { train, .. } | Step::Pass { train, .. } | Step::Leave { train, .. } => {
+            Some(train)
+        }
+        _ => None,
+    }
+}
