@@ -30,7 +30,7 @@ judge-at-requires : tie.Need-judge-at-requires
 judge-at-requires c κs =
     let b = c .before .before in
     let a = b .args in
-    fit-on (a .c) (a .vns) (a .track) (a .x) (a .t5) _ (b .pre .0) (b .pre .1) (b .pre .2) (c .before .post-of .ensures)
+    fit-on (a .c) (a .vns) (a .track) (a .t5) _ (b .pre .0) (b .pre .1) (rw (c .before .post-of .ensures) (b .pre .2))
 
 returns : tie.Need-returns
 unfolding judgedOn
