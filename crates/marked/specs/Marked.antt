@@ -1,21 +1,21 @@
 -- The ten marked instances of document 01 ("Marked instances"), proved together, as one table.
-use Prim.Native.Nat.{ℕ}
-use mathlib.Core.Bool.{Bool, true, false}
+use Prim.Native.Nat.{ℕ, zero, suc, _-_}
+use mathlib.Core.Bool.{false}
 use mathlib.Core.Path.{_≡_, refl}
 use mathlib.Core.List.{List, [], _∷_, map}
-use lib.ListN.{length}
+use lib.ListN.{length, getD}
 use Rattle.section.specs.declared.Fault.the-variants.{Two}
 use Rattle.section.specs.declared.Post.{Post}
 use Rattle.section.specs.declared.Settings.{Settings}
 use Rattle.section.specs.declared.Section.{Section}
 use Rattle.section.specs.declared.Step.{Step}
 use Rattle.section.specs.declared.Step.the-variants.{Order, Set, Start, Pass, MeasuresOn, FaultOn, Key}
-use Rattle.section.specs.Bytes.{pair}
-use Rattle.section.specs.Settings.{settingsRight}
+use Rattle.section.specs.Post.{sealed}
 use Rattle.section.specs.Step.{isWell, wellFormed}
 use Rattle.section.specs.Store.{postOn, withPost, withTrack}
 use Rattle.dayfile.specs.Layout.{four, fourAt, stepCount, fromEnd, trailerIn, settingsIn, stepsIn, settingsOf, stepAt}
-use Rattle.dayfile.specs.Tests.{readNumber, lengthWrong, markRight, trailerRight, settingsBytesRight, wellAt, leading, firstMalformed, someMalformed, readVerdict, readOf}
+use Rattle.dayfile.specs.Tests.{readNumber, lengthWrong, markRight, trailerRight, settingsBytesRight}
+use Rattle.dayfile.specs.Tests.{wellAt, leading, firstMalformed, someMalformed, readVerdict, readOf}
 use Rattle.examples.specs.Days.{on, offeredAs, refusals, fresh}
 
 -- ## What is asked
@@ -44,33 +44,21 @@ telephone = 0
 abbrev pub materialised : ℕ
 materialised = 1
 
-unfoldable pub last : List ℕ → ℕ
-last [] = 0
-last (k ∷ []) = k
-last (k ∷ l ∷ ks) = last (l ∷ ks)
-
 -- steps on track A offered one after another: what the last one is answered, 0 or the refusal
 unfoldable pub answer : Section → List Step → ℕ
-unfolding refusals offeredAs fresh last
-answer s day = last (refusals s (offeredAs (map (on false) day)))
+unfolding refusals offeredAs fresh
+answer s day = getD (refusals s (offeredAs (map (on false) day))) (length day - 1) 0
 
--- a fresh section whose post 0 on A has this seal count
-unfoldable pub sealedTimes : ℕ → Section
-unfolding fresh
-sealedTimes count =
-    withTrack (fresh (line telephone)) false (withPost (fresh (line telephone) .a) 0 (counted (postOn (fresh (line telephone) .a) 0)))
-  where
-    counted : Post → Post
-    counted o = record {
-      cvt = o .cvt;
-      permission = o .permission;
-      measures = o .measures;
-      fault1 = o .fault1;
-      fault2 = o .fault2;
-      fault3 = o .fault3;
-      mark = o .mark;
-      seals = count;
-    }
+unfoldable pub sealedTimes : ℕ → Post → Post
+sealedTimes zero o = o
+sealedTimes (suc count) o = sealed (sealedTimes count o)
+
+-- a fresh section, but post 0 on A has this seal count
+unfoldable pub sealedSection : ℕ → Section
+unfolding fresh sealedTimes
+sealedSection count =
+    let s = fresh (line telephone) in
+    withTrack s false (withPost (s .a) 0 (sealedTimes count (postOn (s .a) 0)))
 
 -- ## The table
 
@@ -84,7 +72,7 @@ abbrev pub _gives_ : ℕ → ℕ → Instance
 asked gives number = record { given = asked; paper = number }
 
 unfoldable pub instances : List Instance
-unfolding reading answer sealedTimes
+unfolding reading answer sealedSection
 instances =
     -- (1) "an empty file gives 1"
     (reading [] gives 1)
@@ -108,8 +96,8 @@ instances =
     ∷ (answer (fresh (line telephone)) (Start 0 1 ∷ Pass 1 1 ∷ Order 0 ∷ []) gives 13)
     ∷ (answer (fresh (line materialised)) (Start 0 1 ∷ Pass 1 1 ∷ Order 0 ∷ []) gives 0)
     -- (10) "key at count 998 is accepted, at 999 gives 20"
-    ∷ (answer (sealedTimes 998) (MeasuresOn 0 ∷ FaultOn 0 Two ∷ Order 0 ∷ Key 0 ∷ []) gives 0)
-    ∷ (answer (sealedTimes 999) (MeasuresOn 0 ∷ FaultOn 0 Two ∷ Order 0 ∷ Key 0 ∷ []) gives 20)
+    ∷ (answer (sealedSection 998) (MeasuresOn 0 ∷ FaultOn 0 Two ∷ Order 0 ∷ Key 0 ∷ []) gives 0)
+    ∷ (answer (sealedSection 999) (MeasuresOn 0 ∷ FaultOn 0 Two ∷ Order 0 ∷ Key 0 ∷ []) gives 20)
     ∷ []
 
 -- every instance gives what the paper says
