@@ -90,13 +90,13 @@ module _ (c : Settings) where
     step-accepted x h =
         rw (verdict-is x, all-accepted (checksOf s x) (word s x) (h .held)) (ap (λ n. record { verdict = Accepted (word s x); section = n }) (section-is x))
 
-    step-refused : (x : Seen) (k : ℕ) → verdictOf (checksOf s x) (word s x) ≡ Refused k → judgeStep s (shown x) ≡ record { verdict = Refused k; section = s }
+    pub step-refused : (x : Seen) (k : ℕ) → verdictOf (checksOf s x) (word s x) ≡ Refused k → judgeStep s (shown x) ≡ record { verdict = Refused k; section = s }
     unfolding judgeStep answerOf
     step-refused x k q = rw (verdict-is x, q) refl
 
     -- bytes offered to a section in range
     module _ (r : inRange s ≡ true) where
-      judge-well : (bytes : List ℕ) (x : Seen) → decoded (c .posts) bytes ≡ Well (shown x) → judge s bytes ≡ judgeStep s (shown x)
+      pub judge-well : (bytes : List ℕ) (x : Seen) → decoded (c .posts) bytes ≡ Well (shown x) → judge s bytes ≡ judgeStep s (shown x)
       unfolding judge judgeInRange judgeDecoded
       judge-well bytes x q = rw (r, e, q) refl
 
@@ -104,7 +104,7 @@ module _ (c : Settings) where
           → judge s bytes ≡ record { verdict = Accepted (word s x); section = next s x }
       ok-judge bytes x q h = judge-well bytes x q ∙ step-accepted x h
 
-      judge-malformed : (bytes : List ℕ) → decoded (c .posts) bytes ≡ Malformed → judge s bytes ≡ record { verdict = Refused 4; section = s }
+      pub judge-malformed : (bytes : List ℕ) → decoded (c .posts) bytes ≡ Malformed → judge s bytes ≡ record { verdict = Refused 4; section = s }
       unfolding judge judgeInRange judgeDecoded
       judge-malformed bytes q = rw (r, e, q) refl
 
@@ -114,8 +114,8 @@ module _ (c : Settings) where
         accepted : (x : Seen) → decoded (c .posts) bytes ≡ Well (shown x) → Ok s x
             → judge s bytes ≡ record { verdict = Accepted (word s x); section = next s x } → Judged bytes
 
-      pub judged : (bytes : List ℕ) → Judged bytes
-      unfolding Ok
+      unfoldable pub judged : (bytes : List ℕ) → Judged bytes
+      unfolding Ok ruled
       judged bytes = by-said (decoded (c .posts) bytes) refl
         where
           by-rule : (x : Seen) → decoded (c .posts) bytes ≡ Well (shown x) → Fits (c .posts) (x .post) (x .kind) → Ruled (checksOf s x) (word s x)

@@ -88,7 +88,7 @@ unfolding within
 within→ lo hi x h = (leb→le lo x (and-l (leb lo x) (leb x hi) h), leb→le x hi (and-r (leb lo x) (leb x hi) h))
 
 -- a track and the other one are all there are
-pub by-track {κ} : (P : Bool → Type κ) (b : Bool) → P b → P (not b) → (d : Bool) → P d
+unfoldable pub by-track {κ} : (P : Bool → Type κ) (b : Bool) → P b → P (not b) → (d : Bool) → P d
 by-track P false h g false = h
 by-track P false h g true = g
 by-track P true h g true = h

@@ -37,7 +37,7 @@ use Rattle.rules.proofs.Lists.{reordered-insert}
 use Rattle.rules.proofs.Perform.{AcceptedStep, stepOf, takenOf, taken-last, taken-all, Performed, done, performed-append, performed-one}
 use Rattle.rules.proofs.Perform.{LateStep, Late, late-last, late-still, late-performed, goes-first}
 
-turn-post : (w : Walk) (p q : ℕ) (a a′ : Act) → w ≡ Turn p a → w ≡ Turn q a′ → q ≡ p
+pub turn-post : (w : Walk) (p q : ℕ) (a a′ : Act) → w ≡ Turn p a → w ≡ Turn q a′ → q ≡ p
 turn-post w p q a a′ e f = cc
 
 module _ (c : Settings) where
@@ -57,7 +57,7 @@ module _ (c : Settings) where
 
   -- at post q, on a track whose turn is at p: a train rolls on past the turn's post, a condition is noted, the turn's post does something, or
   -- the reversal ends on an empty track
-  data Does (v b : Bool) (t : Track) (p q : ℕ) (k : View) : Type 0 where
+  pub data Does (v b : Bool) (t : Track) (p q : ℕ) (k : View) : Type 0 where
     movesOn : (m : Motion) (z : ℕ) → k ≡ runs m z → T (onward m) → rankOn c b (t .cvt) p < rankOn c b (t .cvt) q → Does v b t p q k
     notesCondition : (n : Condition) → k ≡ notes n → Does v b t p q k
     actsInTurn : T (still k) → q ≡ p → (p′ : ℕ) (a′ : Act) → moved c v b q k t .walk ≡ Turn p′ a′ → moved c v b q k t .cvt ≡ t .cvt
@@ -87,7 +87,7 @@ module _ (c : Settings) where
         before : (x y z : ℕ) → x ≤ y → y < z → x < z
         before x y z h k = omega arith
 
-    release-turn : (q : ℕ) → T (isTurn (t .walk) q act.Set || (isSettled (t .walk) && atSendingEnd c (siteOn v b q t))) → q ≡ p
+    pub release-turn : (q : ℕ) → T (isTurn (t .walk) q act.Set || (isSettled (t .walk) && atSendingEnd c (siteOn v b q t))) → q ≡ p
     release-turn q h =
         let g : T (isTurn (Turn p a) q act.Set || false) = rw e at h in
         turn-post (Turn p a) p q a act.Set refl (is-turn (Turn p a) q act.Set (or-false (isTurn (Turn p a) q act.Set) g))
@@ -157,14 +157,14 @@ module _ (c : Settings) where
   abbrev Apart : (b : Bool) → AcceptedStep c b → (d : Bool) → AcceptedStep c d → Type 0
   Apart b x d i = (b′ : Bool) (p′ : ℕ) → T (isOfPost b′ p′ (x .taken)) → T (not (isOfPost b′ p′ (i .taken)))
 
-  apart-post : (b : Bool) (x i : AcceptedStep c b) → i .post ≢ x .post → Apart b x b i
+  pub apart-post : (b : Bool) (x i : AcceptedStep c b) → i .post ≢ x .post → Apart b x b i
   apart-post b x i ne b′ p′ t = rw (post-test b i b′ p′) (go (Bool·beq b b′) (rw (post-test b x b′ p′) at t))
     where
       go : (w : Bool) → T (w && eqb (x .post) p′) → T (not (w && eqb (i .post) p′))
       go true u = ne→neqb (i .post) p′ (λ e. ne (e ∙ sym (eqb→eq (x .post) p′ u)))
       go false u = tt
 
-  apart-track : (b : Bool) (x : AcceptedStep c (not b)) (i : AcceptedStep c b) → Apart (not b) x b i
+  pub apart-track : (b : Bool) (x : AcceptedStep c (not b)) (i : AcceptedStep c b) → Apart (not b) x b i
   apart-track b x i b′ p′ t = rw (post-test b i b′ p′) (go b b′ (eqb (x .post) p′) (eqb (i .post) p′) (rw (post-test (not b) x b′ p′) at t))
     where
       go : (b b′ u w : Bool) → T (Bool·beq (not b) b′ && u) → T (not (Bool·beq b b′ && w))
@@ -175,7 +175,7 @@ module _ (c : Settings) where
 
   module _ (s : Section) (ds : List Taken) (g : Reversing s ds) where
     -- a calm step has no owner in common with the late ones
-    no-owner : (b : Bool) (x : AcceptedStep c b) → T (calm (x .kind)) → word c s (stepOf c b x) ≡ x .taken .said → All (Apart b x (g .track)) (g .late)
+    pub no-owner : (b : Bool) (x : AcceptedStep c b) → T (calm (x .kind)) → word c s (stepOf c b x) ≡ x .taken .said → All (Apart b x (g .track)) (g .late)
         → (o : Owner) → T (owns o (x .taken)) → keep (owns o) (takenOf c (g .track) (g .late)) ≡ []
     no-owner b x j said h (aPost b′ p′) t =
         keep-none (isOfPost b′ p′) (takenOf c (g .track) (g .late))
@@ -246,18 +246,18 @@ module _ (c : Settings) where
 
   -- ## While one track is reversing, the other is settled on VNS
 
-  other-vns : (s : Section) (b : Bool) (p : ℕ) (a : Act) → Reached c s → trackOf s b .walk ≡ Turn p a → T (otherSettledOnVns s b)
+  pub other-vns : (s : Section) (b : Bool) (p : ℕ) (a : Act) → Reached c s → trackOf s b .walk ≡ Turn p a → T (otherSettledOnVns s b)
   other-vns s b p a r e = go (trackOf s b .walk) e (r .single b)
     where
       go : (w : Walk) → w ≡ Turn p a → T (isSettled w && not (trackOf s b .cvt) || otherSettledOnVns s b) → T (otherSettledOnVns s b)
       go Settled f h = let z : _≡_ {A = ℕ} 0 1 = cc in absurd (omega arith)
       go (Turn q a′) f h = h
 
-  other-settled : (s : Section) (b : Bool) → T (otherSettledOnVns s b) → trackOf s (not b) .walk ≡ Settled
+  pub other-settled : (s : Section) (b : Bool) → T (otherSettledOnVns s b) → trackOf s (not b) .walk ≡ Settled
   other-settled s b h = is-settled (trackOf s (not b) .walk) (and-l (isSettled (trackOf s (not b) .walk)) (not (trackOf s (not b) .cvt)) h)
 
   -- so no order is accepted there
-  no-second : (s : Section) (b : Bool) (p : ℕ) (a : Act) (q : ℕ) (k : View) → k ≡ walks order → trackOf s b .walk ≡ Turn p a → T (otherSettledOnVns s b)
+  pub no-second : (s : Section) (b : Bool) (p : ℕ) (a : Act) (q : ℕ) (k : View) → k ≡ walks order → trackOf s b .walk ≡ Turn p a → T (otherSettledOnVns s b)
       → Ok c s (on (not b) q k) → ⊥
   unfolding Ok checks flat
   no-second s b p a q k ek w v h =
@@ -275,7 +275,7 @@ module _ (c : Settings) where
 
   -- ## Each accepted step
 
-  order-moves : (v b : Bool) (p : ℕ) (t : Track) → (moved c v b p (walks order) t .walk ≡ Turn p act.Set) × (moved c v b p (walks order) t .cvt ≡ t .cvt)
+  pub order-moves : (v b : Bool) (p : ℕ) (t : Track) → (moved c v b p (walks order) t .walk ≡ Turn p act.Set) × (moved c v b p (walks order) t .cvt ≡ t .cvt)
   unfolding trackAfter effect flat
   order-moves v b p t = (refl, refl)
 
@@ -386,8 +386,8 @@ module _ (c : Settings) where
         cvt-same : trackOf (next c s (stepOf c b x)) b .cvt ≡ trackOf s b .cvt
         cvt-same = ap (λ t. t .cvt) (here-after c s b (x .post) (x .kind)) ∙ rw e (order-moves (otherSettledOnVns s b) b (x .post) (trackOf s b) .1)
 
-    pub progress : (b : Bool) (x : AcceptedStep c b) → Ok c s (stepOf c b x) → word c s (stepOf c b x) ≡ x .taken .said → Progress s ds → Onward s ds b x
-    unfolding Ok
+    unfoldable pub progress : (b : Bool) (x : AcceptedStep c b) → Ok c s (stepOf c b x) → word c s (stepOf c b x) ≡ x .taken .said → Progress s ds → Onward s ds b x
+    unfolding Ok by-track settled-kind begins same-track other-track does does-set does-onward goes-before held-back closes
     progress b x h said (settled first pf kp ws) = go (settled-kind (otherSettledOnVns s b) b (x .post) (x .kind) (trackOf s b) h (ws b))
       where
         still-settled : T (calm (x .kind)) → (d : Bool) → trackOf (next c s (stepOf c b x)) d .walk ≡ Settled
@@ -410,12 +410,12 @@ module _ (c : Settings) where
     pub kept : Reordered ds order
 
   -- with no reversal under way
-  pub sorted : (s : Section) (ds : List Taken) → Progress s ds → ((b : Bool) → isSettled (trackOf s b .walk) ≡ true) → Sorted s ds
+  unfoldable pub sorted : (s : Section) (ds : List Taken) → Progress s ds → ((b : Bool) → isSettled (trackOf s b .walk) ≡ true) → Sorted s ds
   sorted s ds (settled first pf kp ws) h = record { order = first; performed = pf; kept = kp }
   sorted s ds (reversing g) h = absurd (no-turn (trackOf s (g .track) .walk) (g .turns) (h (g .track)))
     where
       no-turn : (w : Walk) → w ≡ Turn (g .post) (g .act) → isSettled w ≡ true → ⊥
       no-turn w e f = true-T (isSettled (Turn (g .post) (g .act))) (rw e at f)
 
-  pub fresh-progress : Progress (freshSection c) []
+  unfoldable pub fresh-progress : Progress (freshSection c) []
   fresh-progress = settled [] done reordered-nil (fresh-settled c)

@@ -12,9 +12,9 @@ use Rattle.rules.specs.Judge.{judge}
 use Rattle.rules.specs.Site.{isSettled}
 use Rattle.rules.specs.Demand3.{stateAfter, Taken, acceptedSteps, underWay, OnTrack, NewOrder, Demand3}
 use Rattle.rules.specs.RangesKept.{NeverOutOfRange}
-use Rattle.rules.proofs.View.{Seen, shown}
+use Rattle.rules.proofs.View.{view, flat, Seen, shown}
 use Rattle.rules.proofs.Reading.{Says}
-use Rattle.rules.proofs.Accept.{Ok, next}
+use Rattle.rules.proofs.Accept.{Ok, word, next}
 use Rattle.rules.proofs.Reached.{posts-right, Reached, reached-kept, fresh-reached, reached-in-range}
 use Rattle.rules.proofs.Along.{acceptedAs, from-fresh}
 use Rattle.rules.proofs.Fates.{RunsRight, all-runs-right}
@@ -27,10 +27,10 @@ use Rattle.rules.proofs.Starts.{one-starter}
 module _ (c : Settings) (right : settingsRight c ≡ true) where
   -- ## Along the list
 
-  record Kept (s : Section) (ds : List Taken) : Type 0 where
-    reached : Reached c s
-    progress : Progress c s ds
-    agrees : Agrees c s ds
+  pub record Kept (s : Section) (ds : List Taken) : Type 0 where
+    pub reached : Reached c s
+    pub progress : Progress c s ds
+    pub agrees : Agrees c s ds
 
   kept : (s : Section) (ds : List Taken) (x : Seen) (bytes : List ℕ) → Reached c s → Says (c .posts) bytes (shown x) → Ok c s x → Kept s ds
       → Kept (next c s x) (ds ++ acceptedAs c s x bytes ∷ [])
@@ -62,7 +62,7 @@ module _ (c : Settings) (right : settingsRight c ≡ true) where
     abbrev steps : List Taken
     steps = acceptedSteps (freshSection c) offered
 
-    on-track : (b : Bool) → OnTrack c end steps b
+    pub on-track : (b : Bool) → OnTrack c end steps b
     on-track b =
         let runs : RunsRight c end steps b = all-runs-right c right offered b in
         record {
@@ -83,7 +83,7 @@ module _ (c : Settings) (right : settingsRight c ≡ true) where
       performs = performed-performs c right [] (fresh-reached c (posts-right c right .0) (posts-right c right .1)) (fresh-agrees c) (o .performed);
     }
 
-    all-settled : ((b : Bool) → underWay (c .posts) b steps ≡ false) → (b : Bool) → isSettled (trackOf end b .walk) ≡ true
+    pub all-settled : ((b : Bool) → underWay (c .posts) b steps ≡ false) → (b : Bool) → isSettled (trackOf end b .walk) ≡ true
     all-settled h b = go (isSettled (trackOf end b .walk)) (sym (under-way c end steps (all-kept offered .agrees) b) ∙ h b)
       where
         go : (w : Bool) → not w ≡ false → w ≡ true
@@ -97,3 +97,9 @@ demand3 c right offered = record {
   tracks = on-track c right offered;
   reordered = λ h. new-order c right offered (sorted c _ _ (all-kept c right offered .progress) (all-settled c right offered h));
 }
+
+-- The new order that `demand3` gives. Unfolded, it computes on a day, where judging is unfolded too.
+unfoldable pub newOrder : (c : Settings) → settingsRight c ≡ true → (offered : List (List ℕ))
+    → ((b : Bool) → underWay (c .posts) b (acceptedSteps (freshSection c) offered) ≡ false) → List Taken
+unfolding Demand3 demand3 new-order all-kept kept from-fresh fresh-progress progress sorted view flat word next
+newOrder c right offered ended = demand3 c right offered .reordered ended .order
