@@ -1,0 +1,38 @@
+-- The panel of a file: after each step a line with what every post shows on the step's track.
+use Prim.Native.Nat.{ℕ}
+use mathlib.Core.Bool.{cond}
+use mathlib.Core.List.{List, [], _∷_, _++_}
+use lib.Dec.{eqb}
+use Rattle.section.specs.declared.Answer.{Answer}
+use Rattle.section.specs.declared.Indications.{Indications}
+use Rattle.section.specs.declared.Section.{Section}
+use Rattle.section.specs.Bytes.{byte}
+use Rattle.engine.specs.Stub.{indications}
+use Rattle.dayfile.specs.Layout.{stepsIn}
+use Rattle.dayfile.specs.Tests.{readOf}
+use Rattle.text.specs.Text.{digit, decimal}
+use Rattle.listing.specs.Text.{space, lineFeed, inTurn}
+use Rattle.listing.specs.Listing.{printed}
+
+-- a post's CIRCULATION, TRONÇON and permission, a stroke between, after a space
+unfoldable pub lamps : Indications → List ℕ
+lamps l = space ∷ digit (l .circulation) ∷ 47 ∷ digit (l .troncon) ∷ 47 ∷ digit (l .permission) ∷ []
+
+-- those of every post, from post 0 on
+unfoldable pub lampsOf : Section → ℕ → List ℕ
+lampsOf s track = inTurn (λ p. lamps (indications s track p)) (s .settings .posts)
+
+-- the step's track
+unfoldable pub trackName : ℕ → ℕ
+trackName track = cond (eqb track 1) 66 65
+
+-- the index, the step's track as a letter, and every post's lamps
+unfoldable pub panelFields : ℕ → ℕ → Section → List ℕ
+panelFields index track s = decimal index ++ (space ∷ trackName track ∷ (lampsOf s track ++ (lineFeed ∷ [])))
+
+unfoldable pub panelLine : ℕ → List ℕ → Answer → List ℕ
+panelLine index bytes answer = panelFields index (byte bytes 1) (answer .section)
+
+-- the panel of a file
+unfoldable pub panel : List ℕ → List ℕ
+panel file = printed panelLine (readOf file .reading) (readOf file .settings) (stepsIn file)
