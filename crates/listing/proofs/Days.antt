@@ -21,9 +21,10 @@ use Rattle.section.specs.Range.{inRange}
 use Rattle.section.specs.Settings.{settingsRight}
 use Rattle.section.specs.StepLaws.{and-left, and-right}
 use Rattle.section.proofs.Laws.{fresh-in-range}
-use Rattle.engine.specs.Stub.{judge, judgeInRange}
+use Rattle.rules.specs.Judge.{judge}
+use Rattle.rules.proofs.RangeLaw.{ranges-kept}
 use Rattle.dayfile.specs.Layout.{mostSteps, settingsOf, settingsIn, stepAt, stepsIn, stepsPart}
-use Rattle.dayfile.specs.Tests.{readOf, readVerdict, readNumber, settingsBytesRight}
+use Rattle.dayfile.specs.Tests.{readOf, readVerdict, refusalNumber, settingsBytesRight}
 use Rattle.dayfile.specs.declared.Reading.the-variants.{Day, Refused}
 use Rattle.dayfile.proofs.Laws.{all-whole}
 use Rattle.dayfile.proofs.Reader.{day-read, few-steps}
@@ -47,14 +48,6 @@ unfolding inRange settingsRight within
 few-posts s e =
     let n = s .settings .posts in
     leb-true n mostPosts (and-right (leb leastPosts n) (leb n mostPosts) (and-left (leb leastPosts n && leb n mostPosts) _ (and-left (settingsRight (s .settings)) _ e)))
-
-pub judged-in-range : (s : Section) (bytes : List ℕ) → inRange s ≡ true → judge s bytes ≡ judgeInRange s bytes
-unfolding judge
-judged-in-range s bytes e = refl
-
-ranges-kept : (s : Section) (bytes : List ℕ) → inRange s ≡ true → inRange (judge s bytes .section) ≡ true
-unfolding judge judgeInRange
-ranges-kept s bytes e = e
 
 -- ## How long a line is
 
@@ -109,13 +102,12 @@ module _ (sheet : Sheet) (first : Section) (steps : List ℕ) (r : inRange first
       in-turn-length (lineAt sheet first steps) (lineRoom sheet) m
       (λ i. line-length sheet i (stepAt steps i) (answerTo first steps i) (few-posts-after i))
 
-  -- the code judges on the same section and the same bytes
-  pub answered :
-      (i : ℕ) (s : Section) (part : List ℕ) (answer : Answer) → s ≡ sectionBefore first steps i → part ≡ stepAt steps i
-      → answer ≡ judgeInRange s part → answer ≡ answerTo first steps i
-  unfolding answerTo
-  answered i s part answer e f g =
-      g ∙ (rw (e, f) (sym (judged-in-range (sectionBefore first steps i) (stepAt steps i) (in-range-before i))))
+-- the code judges on the same section and the same bytes
+pub answered :
+    (first : Section) (steps : List ℕ) (i : ℕ) (s : Section) (part : List ℕ) (answer : Answer) → s ≡ sectionBefore first steps i
+    → part ≡ stepAt steps i → answer ≡ judge s part → answer ≡ answerTo first steps i
+unfolding answerTo
+answered first steps i s part answer e f g = g ∙ (rw (e, f))
 
 pub line-put :
     (sheet : Sheet) (first : Section) (steps : List ℕ) (i : ℕ) (part : List ℕ) (answer : Answer) (m k : List ℕ) (r q : ℕ)
@@ -153,7 +145,7 @@ module _ (file : List ℕ) (count : ℕ) (e : readOf file .reading ≡ Day count
       rw (gives-its-steps file count e) (omega (arith, all-whole (settingsOf (settingsIn file) .posts) (stepsIn file) (d .steps-well), d .counted))
 
   pub settings-read-right : settingsRight (readOf file .settings) ≡ true
-  unfolding readOf readNumber settingsBytesRight
+  unfolding readOf refusalNumber settingsBytesRight
   settings-read-right =
       let d = day-read file count e in
       rw e (and-left (settingsRight (settingsOf (settingsIn file))) _ (d .settings-well))

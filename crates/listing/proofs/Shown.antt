@@ -9,7 +9,6 @@ use Rattle.section.specs.Store.{trackOf}
 use lib.Dec.{eqb, ltb}
 use Rattle.rules.specs.Site.{siteOn, otherSettledOnVns}
 use Rattle.rules.specs.Indications.{Lamps, lampsAt, circulation, troncon, shown, dark, indicationsOn, indications}
-use Rattle.engine.specs.Stub.{indications as stub}
 use Rattle.listing.specs.Text.{inTurn}
 use Rattle.listing.specs.Panel.{lamps, lampsOf}
 use Rattle.listing.proofs.Puts.{in-turn-length}
@@ -43,14 +42,10 @@ one-digit s track p =
     chosen (inRange s && (ltb track 2 && ltb p (s .settings .posts)))
     (lampsAt (s .settings) (siteOn (otherSettledOnVns s (eqb track 1)) (eqb track 1) p (trackOf s (eqb track 1))) (trackOf s (eqb track 1)))
 
-pub one-digit-stub : (s : Section) (track p : ℕ) → OneDigit (stub s track p)
-unfolding stub
-one-digit-stub s track p = (omega arith, (omega arith, omega arith))
-
 -- ## Six bytes each
 
 abbrev pub lampsAtPost : Section → ℕ → ℕ → List ℕ
-lampsAtPost s track p = lamps (stub s track p)
+lampsAtPost s track p = lamps (indications s track p)
 
 pub six-each : (s : Section) (track m : ℕ) → length (inTurn (lampsAtPost s track) m) ≤ 6 * m
 unfolding lamps

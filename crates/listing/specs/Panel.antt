@@ -7,7 +7,7 @@ use Rattle.section.specs.declared.Answer.{Answer}
 use Rattle.section.specs.declared.Indications.{Indications}
 use Rattle.section.specs.declared.Section.{Section}
 use Rattle.section.specs.Bytes.{byte}
-use Rattle.engine.specs.Stub.{indications}
+use Rattle.rules.specs.Indications.{indications}
 use Rattle.dayfile.specs.Layout.{stepsIn}
 use Rattle.dayfile.specs.Tests.{readOf}
 use Rattle.text.specs.Text.{digit, decimal}

@@ -50,7 +50,7 @@ fn put_lines(sheet: Sheet, buffer: &mut [u8], at: usize, c: Settings, steps: &[u
     while i < count {
         let start = i * STEP_LENGTH;
         let bytes = &steps[start..start + STEP_LENGTH];
-        let answer = engine::judge_in_range(state, bytes);
+        let answer = engine::judge(state, bytes);
         next = put_line(sheet, buffer, next, i, bytes, answer);
         state = answer.section;
         i += 1;

@@ -1,17 +1,15 @@
 use Prim.Native.Nat.{_-_, _≤_}
 use mathlib.Core.Path.{_≡_, refl, _∙_, ap}
-use mathlib.Core.Bool.{true}
 use native.Mathlib.Omega.{arith}
 use borrow.Author.Needs.{needs}
 use denote.Ref.{now}
 use lib.ListN.{length}
 use Rattle.section.specs.declared.Answer.{Answer}
-use Rattle.section.specs.Range.{inRange}
 use Rattle.listing.specs.Text.{inTurn}
-use Rattle.listing.specs.Listing.{lines, sectionBefore, answerTo}
+use Rattle.listing.specs.Listing.{lines, sectionBefore}
 use Rattle.listing.specs.Sheet.{lineRoom}
 use Rattle.listing.proofs.Puts.{Putting, none-put, one-more-put}
-use Rattle.listing.proofs.Days.{lineAt, line-fits, in-range-before, few-posts-after, lines-length, answered, line-put, step-part, step-length, step-after, started}
+use Rattle.listing.proofs.Days.{lineAt, line-fits, few-posts-after, lines-length, answered, line-put, step-part, step-length, step-after, started}
 use Rattle.listing.proofs.day.put_lines.Statement.{statement}
 use Rattle.listing.proofs.day.put_lines.Tie as tie
 
@@ -48,13 +46,8 @@ part-bytes-start c = omega arith
 part-bytes-end : tie.Need-part-bytes-end Inv-loop μ-loop
 part-bytes-end c = omega arith
 
-judge-in-range-requires : tie.Need-judge-in-range-requires Inv-loop μ-loop
-judge-in-range-requires c κs =
-    let a = c .before .before .before .before .before .before .args in
-    let f = c .before .before .before .fresh in
-    let h = c .before .before .loop in
-    rw (h .inv .1 .1 .0)
-    (in-range-before (a .sheet) (f .result) (now (a .steps)) (started (f .result) (a .c) (f .ensures) (c .before .before .before .before .before .before .pre .1 .1)) (h .i))
+judge-requires : tie.Need-judge-requires Inv-loop μ-loop
+judge-requires c κs = search needs
 
 put-line-requires : tie.Need-put-line-requires Inv-loop μ-loop
 put-line-requires c κs =
@@ -63,8 +56,8 @@ put-line-requires c κs =
     let h = c .before .before .before .before .loop in
     let r = started (f .result) (a .c) (f .ensures) (c .before .before .before .before .before .before .before .before .pre .1 .1) in
     let e =
-    answered (a .sheet) (f .result) (now (a .steps)) r (h .i) _ _ (c .before .judge-in-range .result) (h .inv .1 .1 .0)
-    (step-part (now (a .steps)) (h .i)) (c .before .judge-in-range .ensures) in
+    answered (f .result) (now (a .steps)) (h .i) _ _ (c .before .judge .result) (h .inv .1 .1 .0)
+    (step-part (now (a .steps)) (h .i)) (c .before .judge .ensures) in
     let t = c .before .before .before .loop-test .taken in
     (omega (arith, lines-length (a .sheet) (f .result) (now (a .steps)) r (h .i), line-fits (lineRoom (a .sheet)) (h .i) (a .count) t),
     (rw (step-part (now (a .steps)) (h .i), step-length (now (a .steps)) (h .i) (a .count) t (c .before .before .before .before .before .before .before .before .pre .1 .0)) (omega arith),
@@ -81,10 +74,10 @@ loop-again c =
     let a = c .before .before .before .before .before .before .before .before .before .before .before .before .args in
     let f = c .before .before .before .before .before .before .before .before .before .fresh in
     let h = c .before .before .before .before .before .before .before .before .loop in
-    let j = c .before .before .before .before .before .judge-in-range in
+    let j = c .before .before .before .before .before .judge in
     let r = started (f .result) (a .c) (f .ensures) (c .before .before .before .before .before .before .before .before .before .before .before .before .pre .1 .1) in
     let part = step-part (now (a .steps)) (h .i) in
-    let e = answered (a .sheet) (f .result) (now (a .steps)) r (h .i) _ _ (j .result) (h .inv .1 .1 .0) part (j .ensures) in
+    let e = answered (f .result) (now (a .steps)) (h .i) _ _ (j .result) (h .inv .1 .1 .0) part (j .ensures) in
     (omega (arith, c .before .before .before .before .before .before .before .loop-test .taken), (omega (arith, h .inv .1 .0, c .before .before .before .put-line .kept),
     (ap (λ (x : Answer). x .section) e ∙ step-after (f .result) (now (a .steps)) (h .i),
     one-more-put (lineAt (a .sheet) (f .result) (now (a .steps))) (now (a .buffer)) _ _ (a .at) (h .i) _ _
@@ -114,7 +107,7 @@ put-lines-spec =
     sub-bytes
     part-bytes-start
     part-bytes-end
-    judge-in-range-requires
+    judge-requires
     put-line-requires
     add-i
     loop-less

@@ -7,7 +7,7 @@ use lib.ListN.{length}
 use Rattle.listing.specs.Text.{inTurn}
 use Rattle.listing.specs.Panel.{lampsOf}
 use Rattle.listing.proofs.Puts.{Putting, none-put, one-more-put}
-use Rattle.listing.proofs.Shown.{one-digit-stub, lampsAtPost, six-each}
+use Rattle.listing.proofs.Shown.{one-digit, lampsAtPost, six-each}
 use Rattle.listing.proofs.panel_line.put_posts.Statement.{statement}
 use Rattle.listing.proofs.panel_line.put_posts.Tie as tie
 
@@ -28,7 +28,7 @@ put-lamps-requires : tie.Need-put-lamps-requires Inv-loop μ-loop
 put-lamps-requires c κs =
     let a = c .before .before .before .before .before .args in
     let p = c .before .before .before .loop .p in
-    (omega (arith, six-each (a .s) (a .track) p), rw (c .indications .ensures) (one-digit-stub (a .s) (a .track) p))
+    (omega (arith, six-each (a .s) (a .track) p), rw (c .indications .ensures) (one-digit (a .s) (a .track) p))
 
 add-p : tie.Need-add-p Inv-loop μ-loop
 add-p c = omega arith
