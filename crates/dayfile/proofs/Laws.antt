@@ -76,6 +76,7 @@ all-whole n s e = go (leb (8 * m) (length s)) refl
   where
     m : ℕ
     m = (length s + 7) / 8
+
     go : (b : Bool) → leb (8 * m) (length s) ≡ b → length s ≡ 8 * m
     go true q = omega (arith, leb-true (8 * m) (length s) q)
     go false q =

@@ -41,8 +41,19 @@ module _ (a b : ℕ) (ha : a < 256) (hb : b < 256) where
         let y = b + z * 256 in
         let x = a + y * 256 in
         let e : a + b * 256 + c * 65536 + d * 16777216 ≡ x = omega arith in
-        rw (e, ← div-div-eq-div-mul x 256 65536, ← div-div-eq-div-mul (x / 256) 256 256, ← div-div-eq-div-mul x 256 256, lowest a y ha, rest a y ha,
-        lowest b z hb, rest b z hb, lowest c d hc, rest c d hc, mod-eq-of-lt hd)
+        rw (
+          e,
+          ← div-div-eq-div-mul x 256 65536,
+          ← div-div-eq-div-mul (x / 256) 256 256,
+          ← div-div-eq-div-mul x 256 256,
+          lowest a y ha,
+          rest a y ha,
+          lowest b z hb,
+          rest b z hb,
+          lowest c d hc,
+          rest c d hc,
+          mod-eq-of-lt hd,
+        )
 
 -- ## A list of known length
 

@@ -76,8 +76,13 @@ module _ (s : List ℕ) (l : length s ≡ settingsLength) (bytes : AllBytes s) (
 pub trailer-right : (count : ℕ) → count ≤ mostSteps → trailerRight count (trailer count) ≡ true
 unfolding trailerRight markRight trailer fourBytes fourAt
 trailer-right count h =
-    rw (four-number 24 (omega arith), four-number (24 + 8 * count) (omega arith), four-number count (omega arith),
-    eq-eqb (24 + 8 * count) (24 + 8 * count) refl, eq-eqb count count refl)
+    rw (
+      four-number 24 (omega arith),
+      four-number (24 + 8 * count) (omega arith),
+      four-number count (omega arith),
+      eq-eqb (24 + 8 * count) (24 + 8 * count) refl,
+      eq-eqb count count refl,
+    )
 
 module _ (count : ℕ) (t : List ℕ) (l : length t ≡ trailerLength) (bytes : AllBytes t) (e : trailerRight count t ≡ true) where
   -- four bytes of the trailer that say a number are its bytes
@@ -101,8 +106,11 @@ module _ (count : ℕ) (t : List ℕ) (l : length t ≡ trailerLength) (bytes : 
       let b = both (eqb (fourAt t 4) settingsDistance) _ (a .1) in
       let c = both (eqb (fourAt t 8) (stepsDistance count)) (eqb (fourAt t 12) count) (b .1) in
       ap (λ (m : List ℕ). m ++ (fourBytes settingsDistance ++ (fourBytes (stepsDistance count) ++ fourBytes count))) (mark-bytes (a .0))
-      ∙ rw (number-bytes 4 settingsDistance (eqb-true _ _ (b .0)), number-bytes 8 (stepsDistance count) (eqb-true _ _ (c .0)),
-      number-bytes 12 count (eqb-true _ _ (c .1)))
+      ∙ rw (
+        number-bytes 4 settingsDistance (eqb-true _ _ (b .0)),
+        number-bytes 8 (stepsDistance count) (eqb-true _ _ (c .0)),
+        number-bytes 12 count (eqb-true _ _ (c .1)),
+      )
       (sym (listed 16 0 t l))
 
 -- ## A file and its parts

@@ -33,7 +33,7 @@ length-right l e =
     record {
       least = ltb-false _ _ (f .0);
       most = ltb-false _ _ (g .0);
-      whole = eqb-true _ _ (not-false _ (g .1))
+      whole = eqb-true _ _ (not-false _ (g .1));
     }
 
 pub not-wrong : (l : ℕ) → LengthRight l → lengthWrong l ≡ false
@@ -126,5 +126,5 @@ day-read file count e =
       trailer-well = not-false _ (b .0);
       settings-well = not-false _ (c .0);
       steps-well = d .0;
-      counted = same-day _ _ (d .1)
+      counted = same-day _ _ (d .1);
     }

@@ -90,17 +90,24 @@ module _ (file : List ℕ) (count : ℕ) (bytes : AllBytes file) (d : DayRead fi
   unfolding fileOf
   same-file =
       let h = d .length-well .least in
-      rw (settings-bytes (settingsIn file) (settings-length file h) (settings-all-bytes file h bytes) (d .settings-well),
-      trailer-bytes (stepCount (stepsIn file)) (trailerIn file) (trailer-length file h) (trailer-all-bytes file h bytes) (d .trailer-well))
+      rw (
+        settings-bytes (settingsIn file) (settings-length file h) (settings-all-bytes file h bytes) (d .settings-well),
+        trailer-bytes (stepCount (stepsIn file)) (trailerIn file) (trailer-length file h) (trailer-all-bytes file h bytes) (d .trailer-well),
+      )
       (of-its-parts file h)
 
   module _ (buffer : List ℕ) (h : length file ≤ length buffer) where
     same-verdict : writeVerdict (settingsOf (settingsIn file)) (stepsIn file) (length buffer) ≡ Bytes (length file)
     unfolding writeVerdict
     same-verdict =
-        rw (settings-right (settingsIn file) (settings-length file (d .length-well .least))
-        (settings-all-bytes file (d .length-well .least) bytes) (d .settings-well), d .steps-well,
-        le-ltb mostSteps (stepCount (stepsIn file)) (few-steps file (d .length-well)), same-length file count d, le-ltb (length buffer) (length file) h)
+        rw (
+          settings-right (settingsIn file) (settings-length file (d .length-well .least))
+              (settings-all-bytes file (d .length-well .least) bytes) (d .settings-well),
+          d .steps-well,
+          le-ltb mostSteps (stepCount (stepsIn file)) (few-steps file (d .length-well)),
+          same-length file count d,
+          le-ltb (length buffer) (length file) h,
+        )
 
     same-buffer :
         writtenInto (settingsOf (settingsIn file)) (stepsIn file) buffer ≡ file ++ drop (length file) buffer
@@ -110,11 +117,13 @@ module _ (file : List ℕ) (count : ℕ) (bytes : AllBytes file) (d : DayRead fi
 pub writes-what-is-read : WritesWhatIsRead
 unfolding readOf
 writes-what-is-read file count bytes e =
-    let d = day-read file count e in
-    (rw (read-settings file count e) (same-file file count bytes d),
-    λ buffer h.
-    (rw (read-settings file count e) (same-verdict file count bytes d buffer h),
-    rw (read-settings file count e) (same-buffer file count bytes d buffer h)))
+    let d = day-read file count e in (
+      rw (read-settings file count e) (same-file file count bytes d),
+      λ buffer h. (
+        rw (read-settings file count e) (same-verdict file count bytes d buffer h),
+        rw (read-settings file count e) (same-buffer file count bytes d buffer h),
+      ),
+    )
 
 pub means-one-thing : MeansOneThing
 means-one-thing one other count number bytes others e f s t =

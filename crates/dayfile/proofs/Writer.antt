@@ -131,5 +131,5 @@ bytes-written c steps room written e =
     record {
       settings-well = not-false _ (a .0);
       steps-well = b .0;
-      few = ltb-false _ _ (neither (ltb mostSteps n) (ltb room (stepsDistance n)) (d .0) .0)
+      few = ltb-false _ _ (neither (ltb mostSteps n) (ltb room (stepsDistance n)) (d .0) .0);
     }

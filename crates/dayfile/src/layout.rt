@@ -9,7 +9,9 @@ use section::STEP_LENGTH;
 use section::Settings;
 
 pub const MOST_STEPS: usize = 4096;
+
 pub const SETTINGS_LENGTH: usize = 8;
+
 pub const TRAILER_LENGTH: usize = 16;
 // From the file's end to the settings.
 pub const SETTINGS_DISTANCE: usize = SETTINGS_LENGTH + TRAILER_LENGTH;
@@ -119,8 +121,29 @@ pub fn tail(c: Settings, count: usize) -> [u8; 24]
     let far = four_bytes(SETTINGS_DISTANCE + STEP_LENGTH * count);
     let number = four_bytes(count);
     [
-        c.posts, c.form, mask[0], mask[1], line[0], line[1], 0, 0,
-        mark[0], mark[1], mark[2], mark[3], back[0], back[1], back[2], back[3],
-        far[0], far[1], far[2], far[3], number[0], number[1], number[2], number[3],
+        c.posts,
+        c.form,
+        mask[0],
+        mask[1],
+        line[0],
+        line[1],
+        0,
+        0,
+        mark[0],
+        mark[1],
+        mark[2],
+        mark[3],
+        back[0],
+        back[1],
+        back[2],
+        back[3],
+        far[0],
+        far[1],
+        far[2],
+        far[3],
+        number[0],
+        number[1],
+        number[2],
+        number[3],
     ]
 }

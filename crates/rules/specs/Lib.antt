@@ -3,3 +3,5 @@ pub mod Table
 pub mod Judge
 pub mod Indications
 pub mod Demand3
+pub mod VoieOccupee
+pub mod RangesKept

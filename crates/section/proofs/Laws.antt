@@ -1,7 +1,7 @@
--- Laws that other crates cite: ranks and block sections; what the ranges of a state say of each post and block section; the fresh section is in
--- them.
+-- Laws that other crates cite: of ranks and block sections; what the ranges of a state say of each post and block section, both ways; that the
+-- fresh section is in its ranges.
 use Prim.Native.Nat.{ℕ, zero, suc, _-_, _≤_, _<_}
-use mathlib.Core.Bool.{Bool, true, false, cond, not, _&&_, and-eq-true-iff}
+use mathlib.Core.Bool.{Bool, true, false, cond, _&&_, and-eq-true-iff}
 use mathlib.Core.List.{List, [], _∷_}
 use mathlib.Core.Path.{_≡_, refl, sym, ap, _∙_}
 use native.Mathlib.Nat.{not-suc-le-zero}
@@ -10,7 +10,7 @@ use native.Mathlib.Omega.{arith}
 use lib.ListN.{getD, set, replicate, getD-replicate}
 use lib.Dec.{ltb, leb, lit≤}
 use borrow.Author.Count.{below-more}
-use borrow.Author.Tests.{leb-true, le-leb, lt-leb, ltb-true, lt-ltb, not-true}
+use borrow.Author.Tests.{leb-true, le-leb, ltb-true, lt-ltb, not-true}
 use Rattle.section.specs.declared.Act.{Act}
 use Rattle.section.specs.declared.Act.the-variants.{Announce, Acknowledge}
 use Rattle.section.specs.declared.Post.{Post}
@@ -107,9 +107,12 @@ module _ (l : List Post) where
   unfolding sealsFit sealTest
   seals-all m h = all sealTest (λ (j : ℕ). sealsFit j l) refl (λ j. refl) m (λ p k. le-leb _ _ (h p k))
 
-  pub seals-stop : (i : ℕ) → 0 < i → mostSeals < getD l (i - 1) blank .seals → sealsFit i l ≡ false
-  unfolding sealsFit sealTest
-  seals-stop i h k = stops sealTest (λ (j : ℕ). sealsFit j l) refl (λ j. refl) i h (lt-leb _ _ k)
+  pub seals-over : (m k p : ℕ) → mostSeals ≤ k → p < m → k < getD l p blank .seals → sealsFit m l ≡ false
+  seals-over m k p hk hp over = go (sealsFit m l) refl
+    where
+      go : (b : Bool) → sealsFit m l ≡ b → b ≡ false
+      go true e = absurd (omega (arith, seals-each m e p hp, hk, over))
+      go false e = refl
 
   pub seals-go-on : (i : ℕ) → 0 < i → getD l (i - 1) blank .seals ≤ mostSeals → sealsFit i l ≡ sealsFit (i - 1) l
   unfolding sealsFit sealTest

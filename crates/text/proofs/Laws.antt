@@ -9,7 +9,7 @@ use lib.ListN.{length, take, drop, set, take-append-drop, length-append, length-
 use lib.Seq.{length-take-le, take-length, drop-length, take-at, drop-at, drop-drop, set-split, take-append-add, drop-append-add, drop-append-le}
 use lib.Dec.{ltb}
 use borrow.Author.Tests.{lt-ltb, le-ltb}
-use Rattle.text.specs.Text.{digits, digit, written}
+use Rattle.text.specs.Text.{digit, digits, mostDigits, decimal, written}
 
 -- a byte is a text of one
 pub one-byte : (l : List ℕ) (at b : ℕ) → at < length l → set l at b ≡ written l at (b ∷ [])
@@ -64,6 +64,23 @@ written-twice l at s t h =
     ∙ ap (λ (k : ℕ). drop k l) (add-assoc at (length s) (length t) ∙ ap (λ (k : ℕ). at + k) (sym (length-append s t))) in
     rw (a, b) (simp append-assoc)
 
+-- a text put at a place: the next place, and the buffer afterwards
+pub record Put (l : List ℕ) (at : ℕ) (text : List ℕ) (r : ℕ) (m : List ℕ) : Type 0 where
+  pub next : r ≡ at + length text
+  pub after : m ≡ written l at text
+
+-- a text, and another put after it
+pub put-then :
+    {l m k : List ℕ} {at r q : ℕ} {s t : List ℕ} → Put l at s r m → at + length s ≤ length l → Put m r t q k → Put l at (s ++ t) q k
+put-then {l} {m} {k} {at} {r} {q} {s} {t} a room b = record {
+  next = b .next ∙ ap (λ (i : ℕ). i + length t) (a .next) ∙ simp length-append (omega arith);
+  after =
+      b .after
+      ∙ ap (λ (x : List ℕ). written x r t) (a .after)
+      ∙ ap (λ (i : ℕ). written (written l at s) i t) (a .next)
+      ∙ written-twice l at s t room;
+}
+
 -- ## The digits of a number
 
 pub small : (most x : ℕ) → 0 < most → x < 10 → digits most x ≡ digit x ∷ []
@@ -90,11 +107,11 @@ digits-length (suc most) x = go (ltb x 10) (digits-length most (x / 10))
     go true h = omega arith
     go false h = simp length-append (omega arith)
 
--- a number written, by how many digits may be left
+pub decimal-length : (x : ℕ) → length (decimal x) ≤ mostDigits
+unfolding decimal
+decimal-length x = digits-length mostDigits x
 
-pub record Put (l : List ℕ) (at : ℕ) (text : List ℕ) (r : ℕ) (m : List ℕ) : Type 0 where
-  pub next : r ≡ at + length text
-  pub after : m ≡ written l at text
+-- a number written, by how many digits may be left
 
 pub put-nothing : (l : List ℕ) (at most x : ℕ) → most ≡ 0 → Put l at (digits most x) at l
 unfolding digits written
@@ -117,14 +134,7 @@ pub put-large :
 put-large l at most x next r m₁ m p h room e₁ w₁ e w =
     let n = digits-length (most - 1) (x / 10) in
     rw (large most x p h)
-    (record {
-      next = e ∙ ap (λ (k : ℕ). k + 1) e₁ ∙ simp length-append (omega arith);
-      after =
-          w
-          ∙ ap (λ (k : List ℕ). written k next ((48 + x % 10) ∷ [])) w₁
-          ∙ ap (λ (k : ℕ). written (written l at (digits (most - 1) (x / 10))) k ((48 + x % 10) ∷ [])) e₁
-          ∙ written-twice l at (digits (most - 1) (x / 10)) ((48 + x % 10) ∷ []) (omega arith);
-    })
+    (put-then (record { next = e₁; after = w₁ }) (omega arith) (record { next = e; after = w }))
 
 -- there is room for the last digit
 pub room-for-digit :

@@ -27,7 +27,7 @@ pub fn put_text(buffer: &mut [u8], at: usize, text: &[u8]) -> usize
 }
 
 // Writes a number of at most so many digits, and returns the next place.
-fn put_digits(buffer: &mut [u8], at: usize, most: usize, x: u32) -> usize
+fn put_digits(buffer: &mut [u8], at: usize, most: usize, x: usize) -> usize
     requires { ⌜ at + most ≤ length (now buffer) ⌝ }
     ensures { λ r. ⌜ r ≡ at + length (digits most x) ⌝ }
     ensures { λ _. ⌜ now (buffer .exit) ≡ written (now (buffer .entry)) at (digits most x) ⌝ }
@@ -43,7 +43,7 @@ fn put_digits(buffer: &mut [u8], at: usize, most: usize, x: u32) -> usize
 }
 
 // Writes a number in decimal, and returns the next place.
-pub fn put_decimal(buffer: &mut [u8], at: usize, x: u32) -> usize
+pub fn put_decimal(buffer: &mut [u8], at: usize, x: usize) -> usize
     requires { ⌜ at + 5 ≤ length (now buffer) ⌝ }
     ensures { λ r. ⌜ r ≡ at + length (decimal x) ⌝ }
     ensures { λ _. ⌜ now (buffer .exit) ≡ written (now (buffer .entry)) at (decimal x) ⌝ }

@@ -52,9 +52,10 @@ trailer-in-requires c κs = let e = c .before .before in
 trailer-right-requires : tie.Need-trailer-right-requires
 trailer-right-requires c κs = let e = c .before .before .before in
     let h = length-right _ (told (e .before .length-wrong .ensures) (e .if1 .left)) in
-    let f = now (e .before .before .before .args .file) in
-    (rw (c .before .step-count .ensures, c .before .before .steps-in .ensures) (few-steps f h),
-    rw (c .trailer-in .ensures, trailer-length f (h .least)) (omega arith))
+    let f = now (e .before .before .before .args .file) in (
+      rw (c .before .step-count .ensures, c .before .before .steps-in .ensures) (few-steps f h),
+      rw (c .trailer-in .ensures, trailer-length f (h .least)) (omega arith),
+    )
 
 -- src/lib.rt:59:9
 refused-requires-2 : tie.Need-refused-requires-2

@@ -54,8 +54,13 @@ returns-3 : tie.Need-returns-3
 unfolding trailerRight
 returns-3 c = let e = c .before .before in
     let b = e .before .before in
-    rw (told-yes (b .before .mark-right .ensures) (b .if1 .left), ← e .before .four-at .ensures, eq-eqb _ _ (e .if2 .left), ← c .before .four-at2 .ensures,
-    ne-eqb _ _ (c .if3 .taken))
+    rw (
+      told-yes (b .before .mark-right .ensures) (b .if1 .left),
+      ← e .before .four-at .ensures,
+      eq-eqb _ _ (e .if2 .left),
+      ← c .before .four-at2 .ensures,
+      ne-eqb _ _ (c .if3 .taken),
+    )
 
 -- src/tests.rt:59:5
 four-at-requires-3 : tie.Need-four-at-requires-3
@@ -71,8 +76,14 @@ unfolding trailerRight
 returns-4 c = let g = c .before in
     let e = g .before .before in
     let b = e .before .before in
-    rw (told-yes (b .before .mark-right .ensures) (b .if1 .left), ← e .before .four-at .ensures, eq-eqb _ _ (e .if2 .left), ← g .before .four-at2 .ensures,
-    eq-eqb _ _ (g .if3 .left), ← c .four-at3 .ensures)
+    rw (
+      told-yes (b .before .mark-right .ensures) (b .if1 .left),
+      ← e .before .four-at .ensures,
+      eq-eqb _ _ (e .if2 .left),
+      ← g .before .four-at2 .ensures,
+      eq-eqb _ _ (g .if3 .left),
+      ← c .four-at3 .ensures,
+    )
 
 pub trailer-right-spec : {M : Type 1} → statement M
 trailer-right-spec =

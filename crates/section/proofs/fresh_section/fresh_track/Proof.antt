@@ -58,7 +58,9 @@ returns c =
     in-place (x .n) (x .track) (b .before .blank .ensures) (b .fresh-start .ensures) (c .permitted .ensures ∙ ap (permitted true) (c .before .blank2 .ensures))
 
 returns-2 : tie.Need-returns-2
-returns-2 c = let x = c .before .before .before .args in past-the-end (x .n) (x .track) (c .before .before .blank .ensures) (c .before .fresh-start .ensures) (c .if1 .left)
+returns-2 c =
+    let x = c .before .before .before .args in
+    past-the-end (x .n) (x .track) (c .before .before .blank .ensures) (c .before .fresh-start .ensures) (c .if1 .left)
 
 pub fresh-track-spec : {M : Type 1} → statement M
 fresh-track-spec =

@@ -4,7 +4,7 @@ use mathlib.Core.Bool.{_&&_}
 use mathlib.Core.Path.{_≡_, sym, _∙_}
 use native.Mathlib.Omega.{arith}
 use Rattle.section.specs.Range.{sealsFit, numbersFit}
-use Rattle.section.proofs.Laws.{seals-stop, seals-go-on, cells, cells-stop, cells-go-on}
+use Rattle.section.proofs.Laws.{seals-over, seals-go-on, cells, cells-stop, cells-go-on}
 use Rattle.section.proofs.Told.{told-false, told-true}
 use Rattle.section.proofs.state_range.cells_fit.Statement.{statement}
 use Rattle.section.proofs.state_range.cells_fit.Tie as tie
@@ -31,12 +31,12 @@ element-copy-out-if1 c = omega arith
 returns : tie.Need-returns Inv-loop μ-loop
 returns c =
     let a = c .before .args in
-    rw (seals-stop (a .t2 .posts) (a .n) (omega arith) (c .if1 .taken))
+    rw (seals-over (a .t2 .posts) (a .n) _ _ (omega arith) (omega arith) (c .if1 .taken))
 
 loop-holds : tie.Need-loop-holds Inv-loop μ-loop
 loop-holds c =
     let a = c .before .args in
-    (omega arith, rw (seals-go-on (a .t2 .posts) (a .n) (omega arith) (c .if1 .left)))
+    (omega arith, rw (seals-go-on (a .t2 .posts) (a .n) (omega arith) (omega arith)))
 
 sub-i-2 : tie.Need-sub-i-2 Inv-loop μ-loop
 sub-i-2 c = omega arith
@@ -67,20 +67,18 @@ post-and-block-fit-requires c κs = tt
 returns-2 : tie.Need-returns-2 Inv-loop μ-loop
 returns-2 c =
     let b = c .before .before .before .before in
-    sym
-    (b .before .loop .inv .1
-    ∙ cells-stop (b .before .before .before .args .t2) (b .before .loop .i) (b .loop-test .taken) (told-false (c .before .post-and-block-fit .ensures) (c .if2 .taken)))
+    let failed = told-false (c .before .post-and-block-fit .ensures) (c .if2 .taken) in
+    sym (b .before .loop .inv .1 ∙ cells-stop (b .before .before .before .args .t2) (b .before .loop .i) (b .loop-test .taken) failed)
 
 loop-less : tie.Need-loop-less Inv-loop μ-loop
 loop-less c = omega arith
 
 loop-again : tie.Need-loop-again Inv-loop μ-loop
 loop-again c =
-    let b = c .before .before .before .before in (
-      omega arith,
-      b .before .loop .inv .1
-          ∙ cells-go-on (b .before .before .before .args .t2) (b .before .loop .i) (b .loop-test .taken) (told-true (c .before .post-and-block-fit .ensures) (c .if2 .left)),
-    )
+    let b = c .before .before .before .before in
+    let passed = told-true (c .before .post-and-block-fit .ensures) (c .if2 .left) in
+    let rest = cells-go-on (b .before .before .before .args .t2) (b .before .loop .i) (b .loop-test .taken) passed in
+    (omega arith, b .before .loop .inv .1 ∙ rest)
 
 returns-3 : tie.Need-returns-3 Inv-loop μ-loop
 unfolding sealsFit numbersFit

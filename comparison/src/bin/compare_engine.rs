@@ -1,0 +1,30 @@
+//! Compares the engines, on single sections and along days.
+
+use comparison::engine::days::DayComparison;
+use comparison::engine::sections::SectionComparison;
+use comparison::report::{run, Outcome, Run};
+use std::process::ExitCode;
+
+fn main() -> ExitCode {
+    run(compare_engine)
+}
+
+fn compare_engine(run: &Run) -> Outcome {
+    let mut sections = SectionComparison::new(run.rng(2));
+    let mut days = DayComparison::new(run.rng(3));
+    for _ in 0..run.times {
+        sections.all()?;
+        days.all()?;
+    }
+    sections.tally.print("sections");
+    days.tally.print("days");
+    sections.tally.fits_table("sections")?;
+    days.tally.fits_table("days")?;
+    println!("sections: {} steps compared", sections.tally.total());
+    println!(
+        "days: {} steps compared, {} fresh sections",
+        days.tally.total(),
+        days.fresh_sections
+    );
+    Ok(())
+}

@@ -1,0 +1,7 @@
+//! Parts b and c: the engine, on sections of any kind and along days.
+
+pub mod days;
+pub mod judging;
+pub mod offers;
+pub mod sections;
+pub mod tally;

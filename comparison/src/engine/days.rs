@@ -1,0 +1,192 @@
+//! Part c: days from fresh.
+
+use super::judging::Both;
+use super::offers::offer;
+use super::tally::Tally;
+use crate::files::bounds::settings_at_bounds;
+use crate::image::{image_of, IMAGE_LENGTH, PERMISSION_B_0};
+use crate::lent::Lent;
+use crate::proved;
+use crate::report::{hex, same, same_bytes, Failure, Outcome};
+use reference::generate::{random_settings, Rng};
+use reference::section::{Section, MOST_SEALS};
+use reference::settings::Settings;
+use reference::step::{encode, Step, STEP_LENGTH};
+
+const DAYS: u32 = 800;
+const MOST_STEPS_OF_DAY: u64 = 500;
+const BUFFER_TOO_SHORT: u8 = 5;
+
+pub struct DayComparison {
+    rng: Rng,
+    pub tally: Tally,
+    pub fresh_sections: u64,
+}
+
+struct Day {
+    settings: Settings,
+    both: Both,
+    /// The steps offered, but for those of a wrong length.
+    steps: Vec<u8>,
+    accepted: u64,
+}
+
+impl DayComparison {
+    pub fn new(rng: Rng) -> DayComparison {
+        DayComparison {
+            rng,
+            tally: Tally::default(),
+            fresh_sections: 0,
+        }
+    }
+
+    pub fn all(&mut self) -> Outcome {
+        self.fresh_at_bounds()?;
+        for _ in 0..DAYS {
+            self.random_day()?;
+        }
+        self.day_of_keys()
+    }
+
+    /// Settings in and out of range, and a step on each, which is refused 6 for the latter.
+    fn fresh_at_bounds(&mut self) -> Outcome {
+        for settings in settings_at_bounds() {
+            for room in [0, IMAGE_LENGTH - 1, IMAGE_LENGTH + 1, IMAGE_LENGTH + 40] {
+                self.fresh(&settings, room)?;
+            }
+            let mut day = self.begin(settings)?;
+            self.take_any_step(&mut day)?;
+            same_count_accepted(&day)?;
+        }
+        Ok(())
+    }
+
+    fn random_day(&mut self) -> Outcome {
+        let settings = random_settings(&mut self.rng);
+        let mut day = self.begin(settings)?;
+        for _ in 0..self.rng.below(MOST_STEPS_OF_DAY) {
+            self.take_any_step(&mut day)?;
+        }
+        let rest = self.rng.below(STEP_LENGTH as u64) as usize;
+        day.steps.extend(vec![0; rest]);
+        same_count_accepted(&day)
+    }
+
+    /// Reversals there and back by the emergency button, until its seals are used up.
+    fn day_of_keys(&mut self) -> Outcome {
+        let track = self.rng.flag();
+        let settings = Settings {
+            n: 2,
+            form: self.rng.flag(),
+            mask: 3,
+            line: 1,
+        };
+        let mut day = self.begin(settings)?;
+        for post in [0, 1] {
+            self.take(&mut day, &encode(track, &Step::MeasuresOn { post }))?;
+            self.take(&mut day, &encode(track, &Step::FaultOn { post, fault: 2 }))?;
+        }
+        for reversal in 0..=MOST_SEALS {
+            let sending_end = track ^ (reversal & 1) as u8;
+            for step in reversal_by_key(sending_end) {
+                self.take(&mut day, &encode(track, &step))?;
+            }
+        }
+        same_count_accepted(&day)
+    }
+
+    /// The fresh section in a buffer, compared.
+    fn fresh(&mut self, settings: &Settings, room: usize) -> Result<Lent, Failure> {
+        let mut image = Lent::patterned(room);
+        let mut expected = image.clone();
+        let input = || format!("{settings:?}\nbuffer: {room} bytes");
+        let proved = proved::engine::fresh(settings, image.part());
+        let second = second_fresh(settings, expected.part());
+        same("the answer to fresh", proved, second, &input)?;
+        if settings.n == 0 && second == 0 {
+            leave_open_without_posts(&mut image, &mut expected);
+        }
+        same_bytes(
+            "the fresh section's image (16 bytes of guard first)",
+            image.with_guards(),
+            expected.with_guards(),
+            &input,
+        )?;
+        self.fresh_sections += 1;
+        Ok(image)
+    }
+
+    fn begin(&mut self, settings: Settings) -> Result<Day, Failure> {
+        let image = self.fresh(&settings, IMAGE_LENGTH)?;
+        Ok(Day {
+            settings,
+            both: Both {
+                image,
+                section: Some(Section::fresh(settings)),
+            },
+            steps: Vec::new(),
+            accepted: 0,
+        })
+    }
+
+    fn take_any_step(&mut self, day: &mut Day) -> Outcome {
+        let section = day.both.section.unwrap_or(Section::fresh(day.settings));
+        let step = offer(&mut self.rng, &section);
+        self.take(day, &step)
+    }
+
+    fn take(&mut self, day: &mut Day, step: &[u8]) -> Outcome {
+        let refusal = day.both.judge(&mut self.rng, step, &mut self.tally)?;
+        day.accepted += u64::from(refusal == 0);
+        if step.len() == STEP_LENGTH {
+            day.steps.extend(step);
+        }
+        Ok(())
+    }
+}
+
+fn second_fresh(settings: &Settings, buffer: &mut [u8]) -> u8 {
+    match buffer.get_mut(..IMAGE_LENGTH) {
+        Some(front) => {
+            front.copy_from_slice(&image_of(&Section::fresh(*settings)));
+            0
+        }
+        None => BUFFER_TOO_SHORT,
+    }
+}
+
+/// With no posts, which one is the sending end of B is left open, and so is the permission of its post 0.
+fn leave_open_without_posts(proved: &mut Lent, second: &mut Lent) {
+    for image in [proved, second] {
+        let permission = &mut image.part()[PERMISSION_B_0];
+        if *permission == 1 {
+            *permission = 0;
+        }
+    }
+}
+
+/// The proved loop over the whole day against the steps judged one by one.
+fn same_count_accepted(day: &Day) -> Outcome {
+    same(
+        "how many steps are accepted",
+        proved::engine::accepted(&day.settings, &day.steps),
+        day.accepted,
+        &|| format!("{:?}\nsteps: {}", day.settings, hex(&day.steps)),
+    )
+}
+
+/// For two posts.
+fn reversal_by_key(sending_end: u8) -> [Step; 5] {
+    let receiving_end = 1 - sending_end;
+    [
+        Step::Order { post: sending_end },
+        Step::Key { post: sending_end },
+        Step::Announce { post: sending_end },
+        Step::Acknowledge {
+            post: receiving_end,
+        },
+        Step::Key {
+            post: receiving_end,
+        },
+    ]
+}

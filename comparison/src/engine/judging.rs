@@ -1,0 +1,96 @@
+//! One step judged by both engines, and what all posts show after it.
+
+use crate::engine::tally::Tally;
+use crate::image::{cell_name, image_of};
+use crate::lent::Lent;
+use crate::proved;
+use crate::report::{hex, same, same_bytes, Failure, Outcome};
+use reference::engine::judge_in_place;
+use reference::generate::Rng;
+use reference::indications::indications;
+use reference::section::Section;
+
+const NO_SECTION: u8 = 6;
+
+/// The proved side's image and the second implementation's section, `None` where the image
+/// stands for no section. A step moves both on.
+pub struct Both {
+    pub image: Lent,
+    pub section: Option<Section>,
+}
+
+impl Both {
+    /// The refusal, 0 for none.
+    pub fn judge(&mut self, rng: &mut Rng, step: &[u8], tally: &mut Tally) -> Result<u8, Failure> {
+        let before = self.image.clone();
+        let input = || format!("image: {}\nstep:  {}", hex(before.content()), hex(step));
+        let proved = proved::engine::judge(self.image.part(), step);
+        let (refusal, said) = self.second_answer(step);
+        let second = (u16::from(refusal), u16::from(said));
+        same("refusal and what is said", proved, second, &input)?;
+        let expected = self.expected_image(&before, refusal);
+        self.same_image(&expected, &input)?;
+        self.compare_indications(rng, &input)?;
+        tally.count(step, refusal, said);
+        Ok(refusal)
+    }
+
+    fn second_answer(&mut self, step: &[u8]) -> (u8, u8) {
+        match &mut self.section {
+            Some(section) => judge_in_place(section, step),
+            None => (NO_SECTION, 0),
+        }
+    }
+
+    /// A refused image is unchanged.
+    fn expected_image(&self, before: &Lent, refusal: u8) -> Lent {
+        match &self.section {
+            Some(section) if refusal == 0 => Lent::holding(&image_of(section)),
+            _ => before.clone(),
+        }
+    }
+
+    fn same_image(&self, expected: &Lent, input: &dyn Fn() -> String) -> Outcome {
+        if self.image.with_guards() == expected.with_guards() {
+            return Ok(());
+        }
+        let differs = |place: &usize| self.image.content()[*place] != expected.content()[*place];
+        let cell = (0..expected.content().len()).find(differs).map(cell_name);
+        same_bytes(
+            &format!(
+                "the image after (16 bytes of guard first), {}",
+                cell.as_deref().unwrap_or("guard")
+            ),
+            self.image.with_guards(),
+            expected.with_guards(),
+            input,
+        )
+    }
+
+    /// Every post and one past, on each track and one past, and any other pair.
+    fn compare_indications(&self, rng: &mut Rng, input: &dyn Fn() -> String) -> Outcome {
+        let n = self.image.content().first().copied().unwrap_or(0);
+        for track in 0..=2 {
+            for post in 0..=n {
+                self.same_indications(track, post, input)?;
+            }
+        }
+        self.same_indications(rng.byte(), rng.byte(), input)
+    }
+
+    fn same_indications(&self, track: u8, post: u8, input: &dyn Fn() -> String) -> Outcome {
+        let proved = proved::engine::indications(self.image.content(), track, post);
+        let (circulation, troncon, permission) = match &self.section {
+            Some(section) => indications(section, track, post),
+            None => (0, 0, 0),
+        };
+        let second = (
+            u16::from(circulation),
+            u16::from(troncon),
+            u16::from(permission),
+        );
+        same("indications after the step", proved, second, &|| {
+            format!("{}\ntrack: {track}\npost:  {post}", input())
+        })
+    }
+}

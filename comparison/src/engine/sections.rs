@@ -1,0 +1,109 @@
+//! Part b: single steps on sections in range, reachable or not, and out of range.
+
+use super::judging::Both;
+use super::offers::offer;
+use super::tally::Tally;
+use crate::image::{fill_unread_bytes, image_of, make_representable, section_of, IMAGE_LENGTH};
+use crate::lent::Lent;
+use crate::report::Outcome;
+use reference::generate::{put_out_of_range, random_in_range_section, Rng};
+use reference::section::Section;
+
+const IN_RANGE: u32 = 150_000;
+const OUT_OF_RANGE: u32 = 10_000;
+const CHANGED: u32 = 20_000;
+const OTHER_LENGTHS: u32 = 500;
+
+pub struct SectionComparison {
+    rng: Rng,
+    pub tally: Tally,
+}
+
+impl SectionComparison {
+    pub fn new(rng: Rng) -> SectionComparison {
+        SectionComparison {
+            rng,
+            tally: Tally::default(),
+        }
+    }
+
+    pub fn all(&mut self) -> Outcome {
+        for _ in 0..IN_RANGE {
+            let section = self.section_in_range();
+            self.compare_section(&section)?;
+        }
+        for _ in 0..OUT_OF_RANGE {
+            let mut section = self.section_in_range();
+            self.spoil(&mut section);
+            self.compare_section(&section)?;
+        }
+        for _ in 0..CHANGED {
+            self.changed_image()?;
+        }
+        for _ in 0..OTHER_LENGTHS {
+            self.image_of_other_length()?;
+        }
+        Ok(())
+    }
+
+    fn section_in_range(&mut self) -> Section {
+        let mut section = random_in_range_section(&mut self.rng);
+        make_representable(&mut section);
+        section
+    }
+
+    /// One field out of its range, or a signalled post that isn't there.
+    fn spoil(&mut self, section: &mut Section) {
+        let n = section.settings.n;
+        if n < 16 && self.rng.chance(1, 16) {
+            let above = n + self.rng.below(u64::from(16 - n)) as u8;
+            section.settings.mask |= 1 << above;
+        } else {
+            put_out_of_range(&mut self.rng, section);
+        }
+    }
+
+    fn compare_section(&mut self, section: &Section) -> Outcome {
+        let mut image = image_of(section);
+        if self.rng.chance(1, 4) {
+            fill_unread_bytes(&mut self.rng, &mut image);
+        }
+        self.compare(&image, section)
+    }
+
+    /// One byte changed anywhere, past the last post too; the section may stay in range.
+    fn changed_image(&mut self) -> Outcome {
+        let section = self.section_in_range();
+        let mut image = image_of(&section);
+        let place = self.rng.below(IMAGE_LENGTH as u64) as usize;
+        image[place] = match self.rng.below(3) {
+            0 => self.rng.byte(),
+            1 => self.rng.pick(&[0, 1, 2, 3, 4, 7, 8]),
+            _ => image[place].wrapping_add(1),
+        };
+        self.compare(&image, &section)
+    }
+
+    fn image_of_other_length(&mut self) -> Outcome {
+        let section = self.section_in_range();
+        let mut image = image_of(&section).to_vec();
+        let length = match self.rng.below(3) {
+            0 => self.rng.below(IMAGE_LENGTH as u64) as usize,
+            1 => IMAGE_LENGTH - 1,
+            _ => IMAGE_LENGTH + 1 + self.rng.below(20) as usize,
+        };
+        image.resize(length, 0);
+        self.compare(&image, &section)
+    }
+
+    /// With a step that is likely for the section given.
+    fn compare(&mut self, image: &[u8], likely: &Section) -> Outcome {
+        let step = offer(&mut self.rng, likely);
+        let mut both = Both {
+            image: Lent::holding(image),
+            section: section_of(image),
+        };
+        both.judge(&mut self.rng, &step, &mut self.tally)?;
+        Ok(())
+    }
+}

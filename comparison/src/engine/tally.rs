@@ -1,0 +1,153 @@
+//! How often each kind of step was answered how.
+
+use crate::report::{none, Outcome};
+use reference::step::STEP_LENGTH;
+
+const KINDS: [&str; 14] = [
+    "other bytes",
+    "order",
+    "set",
+    "announce",
+    "acknowledge",
+    "start",
+    "pass",
+    "leave",
+    "measures on",
+    "measures off",
+    "fault on",
+    "fault off",
+    "release",
+    "key",
+];
+
+/// The refusals from the state in the row of each kind, in document 01's order.
+const ROWS: [&[u8]; 14] = [
+    &[],
+    &[11, 12, 14, 13],
+    &[15, 13, 18, 16, 19],
+    &[15],
+    &[15],
+    &[11, 12, 17, 13, 18],
+    &[12, 17, 13],
+    &[12, 17],
+    &[21],
+    &[21, 16],
+    &[21],
+    &[21],
+    &[15, 12, 21, 13, 17],
+    &[15, 21, 13, 18, 16, 20],
+];
+
+const SAID: [&str; 5] = ["nothing", "CVT", "CVTz", "VNS", "VNSz"];
+const FROM_INPUT: [u8; 2] = [4, 6];
+const ANSWERS: [u8; 14] = [0, 4, 6, 11, 12, 13, 14, 15, 16, 17, 18, 19, 20, 21];
+
+#[derive(Default)]
+pub struct Tally {
+    /// By kind, then by refusal.
+    answers: [[u64; 22]; 14],
+    said: [u64; 5],
+}
+
+impl Tally {
+    pub fn count(&mut self, step: &[u8], refusal: u8, said: u8) {
+        self.answers[kind_of(step)][usize::from(refusal)] += 1;
+        if refusal == 0 {
+            self.said[usize::from(said)] += 1;
+        }
+    }
+
+    pub fn total(&self) -> u64 {
+        self.answers.iter().flatten().sum()
+    }
+
+    fn given(&self, refusal: u8) -> u64 {
+        self.answers
+            .iter()
+            .map(|row| row[usize::from(refusal)])
+            .sum()
+    }
+
+    pub fn print(&self, part: &str) {
+        let share = 100.0 * self.given(0) as f64 / self.total().max(1) as f64;
+        println!("{part}: {share:.1} % accepted; refusals by kind (0 accepted):");
+        print!("{:12}", "");
+        ANSWERS.iter().for_each(|answer| print!("{answer:>8}"));
+        println!();
+        for (kind, row) in KINDS.iter().zip(&self.answers) {
+            print!("{kind:12}");
+            for answer in ANSWERS {
+                print!("{:>8}", shown(row[usize::from(answer)]));
+            }
+            println!();
+        }
+        print!("said:");
+        for (word, times) in SAID.iter().zip(self.said) {
+            print!("  {word} {times}");
+        }
+        println!();
+    }
+
+    /// Every answer of the table came up, and for each kind no refusal that isn't in its row.
+    pub fn fits_table(&self, part: &str) -> Outcome {
+        let missing = [
+            self.all_kinds(Tally::missing_answers),
+            self.missing_refusals(),
+            self.missing_words(),
+        ];
+        none(&format!("NEVER SEEN, {part}"), &missing.concat())?;
+        let strange = self.all_kinds(Tally::strange_answers);
+        none(&format!("NOT IN THE TABLE, {part}"), &strange)
+    }
+
+    fn all_kinds(&self, look: impl Fn(&Tally, usize) -> Vec<String>) -> Vec<String> {
+        (1..KINDS.len()).flat_map(|kind| look(self, kind)).collect()
+    }
+
+    fn missing_answers(&self, kind: usize) -> Vec<String> {
+        [0].iter()
+            .chain(ROWS[kind])
+            .filter(|&&answer| self.answers[kind][usize::from(answer)] == 0)
+            .map(|answer| format!("{} answered {answer}", KINDS[kind]))
+            .collect()
+    }
+
+    fn strange_answers(&self, kind: usize) -> Vec<String> {
+        (1..=21)
+            .filter(|answer| !ROWS[kind].contains(answer) && !FROM_INPUT.contains(answer))
+            .filter(|&answer| self.answers[kind][usize::from(answer)] > 0)
+            .map(|answer| format!("{} answered {answer}", KINDS[kind]))
+            .collect()
+    }
+
+    fn missing_refusals(&self) -> Vec<String> {
+        FROM_INPUT
+            .into_iter()
+            .filter(|&refusal| self.given(refusal) == 0)
+            .map(|refusal| format!("refusal {refusal}"))
+            .collect()
+    }
+
+    fn missing_words(&self) -> Vec<String> {
+        SAID.iter()
+            .zip(self.said)
+            .filter(|&(_, times)| times == 0)
+            .map(|(word, _)| format!("{word} said"))
+            .collect()
+    }
+}
+
+/// 0 for bytes that are no step of a kind.
+fn kind_of(step: &[u8]) -> usize {
+    match step.first() {
+        Some(&kind @ 1..=13) if step.len() == STEP_LENGTH => usize::from(kind),
+        _ => 0,
+    }
+}
+
+fn shown(times: u64) -> String {
+    match times {
+        0 => ".".to_string(),
+        _ => times.to_string(),
+    }
+}

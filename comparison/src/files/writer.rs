@@ -1,0 +1,174 @@
+//! Settings, steps and buffers offered to both writers.
+
+use super::bounds::{settings_at_bounds, steps_at_bounds};
+use super::{
+    among_sound_steps, any_steps, random_bytes, settings_for, sound_step, sound_steps, Refusals,
+};
+use crate::lent::Lent;
+use crate::proved;
+use crate::report::{hex, same, same_bytes, Outcome};
+use reference::dayfile::{self, MOST_STEPS, TAIL_LENGTH};
+use reference::generate::{random_settings, Rng};
+use reference::settings::Settings;
+use reference::step::STEP_LENGTH;
+
+pub struct WriterComparison {
+    rng: Rng,
+    pub seen: Refusals,
+}
+
+impl WriterComparison {
+    pub fn new(rng: Rng) -> WriterComparison {
+        WriterComparison {
+            rng,
+            seen: Refusals::default(),
+        }
+    }
+
+    pub fn all(&mut self) -> Outcome {
+        self.settings_at_bounds()?;
+        self.steps_at_bounds()?;
+        self.buffers_of_every_length()?;
+        self.incomplete_steps()?;
+        self.random_calls()?;
+        self.long_files()
+    }
+
+    /// With the answer, the whole buffer is compared, refused calls included.
+    fn compare(&mut self, settings: &Settings, steps: &[u8], room: usize) -> Outcome {
+        let mut proved_buffer = Lent::patterned(room);
+        let mut second_buffer = proved_buffer.clone();
+        let proved = proved::files::write(settings, steps, proved_buffer.part());
+        let second = second_writing(settings, steps, second_buffer.part());
+        let input = || format!("{settings:?}\nsteps: {}\nbuffer: {room} bytes", hex(steps));
+        same("the writer's answer", proved, second, &input)?;
+        same_bytes(
+            "the writer's buffer (16 bytes of guard first)",
+            proved_buffer.with_guards(),
+            second_buffer.with_guards(),
+            &input,
+        )?;
+        self.seen.count(second.0 as usize);
+        Ok(())
+    }
+
+    /// Room for the file, more or less.
+    fn some_room(&mut self, steps: &[u8]) -> usize {
+        let length = steps.len() + TAIL_LENGTH;
+        match self.rng.below(8) {
+            0 => length - 1,
+            1 => self.rng.below(length as u64) as usize,
+            2 => length + 1,
+            3 => length + self.rng.below(40) as usize,
+            _ => length,
+        }
+    }
+
+    /// With steps that may be malformed and buffers that may be short, so that 3 comes before 4 and 5.
+    fn settings_at_bounds(&mut self) -> Outcome {
+        for settings in settings_at_bounds() {
+            for _ in 0..4 {
+                let steps = any_steps(&mut self.rng, settings.n.max(1));
+                let room = self.some_room(&steps);
+                self.compare(&settings, &steps, room)?;
+            }
+        }
+        Ok(())
+    }
+
+    /// With sound steps before and behind, and buffers that may be short, so that 4 comes before 5.
+    fn steps_at_bounds(&mut self) -> Outcome {
+        for n in [2, 3, 16] {
+            for step in steps_at_bounds(n) {
+                let settings = settings_for(&mut self.rng, n);
+                let steps = among_sound_steps(&mut self.rng, n, step);
+                let room = self.some_room(&steps);
+                self.compare(&settings, &steps, room)?;
+            }
+        }
+        Ok(())
+    }
+
+    /// From 0 to nine bytes past the file.
+    fn buffers_of_every_length(&mut self) -> Outcome {
+        for count in 0..=6 {
+            for _ in 0..50 {
+                let settings = random_settings(&mut self.rng);
+                let steps = sound_steps(&mut self.rng, settings.n, count, count);
+                for room in 0..=steps.len() + TAIL_LENGTH + 9 {
+                    self.compare(&settings, &steps, room)?;
+                }
+            }
+        }
+        Ok(())
+    }
+
+    /// The rest is the beginning of a sound step, or anything.
+    fn incomplete_steps(&mut self) -> Outcome {
+        for whole in 0..=4 {
+            for rest in 1..STEP_LENGTH {
+                for round in 0..100 {
+                    let settings = random_settings(&mut self.rng);
+                    let mut steps = sound_steps(&mut self.rng, settings.n, whole, whole);
+                    let last = match round % 2 {
+                        0 => sound_step(&mut self.rng, settings.n),
+                        _ => self.rng.next_u64().to_le_bytes(),
+                    };
+                    steps.extend(&last[..rest]);
+                    for room in [0, whole * STEP_LENGTH + TAIL_LENGTH, 100] {
+                        self.compare(&settings, &steps, room)?;
+                    }
+                }
+            }
+        }
+        Ok(())
+    }
+
+    fn random_calls(&mut self) -> Outcome {
+        for _ in 0..20_000 {
+            let settings = random_settings(&mut self.rng);
+            let steps = any_steps(&mut self.rng, settings.n);
+            let room = self.some_room(&steps);
+            self.compare(&settings, &steps, room)?;
+            let steps = random_bytes(&mut self.rng, 40);
+            let room = self.some_room(&steps);
+            self.compare(&settings, &steps, room)?;
+        }
+        Ok(())
+    }
+
+    /// Around 4,096 steps: whole and incomplete, sound and malformed on either side of the limit.
+    fn long_files(&mut self) -> Outcome {
+        for count in [MOST_STEPS - 1, MOST_STEPS, MOST_STEPS + 1, MOST_STEPS + 20] {
+            let settings = random_settings(&mut self.rng);
+            let steps = sound_steps(&mut self.rng, settings.n, count + 1, count + 1);
+            for rest in [0, 1, 7] {
+                let given = &steps[..count * STEP_LENGTH + rest];
+                self.long_file(&settings, given)?;
+                for index in [0, MOST_STEPS - 2, MOST_STEPS, count - 1] {
+                    let mut spoiled = given.to_vec();
+                    if let Some(kind) = spoiled.get_mut(index * STEP_LENGTH) {
+                        *kind = 0;
+                    }
+                    self.long_file(&settings, &spoiled)?;
+                }
+            }
+        }
+        Ok(())
+    }
+
+    fn long_file(&mut self, settings: &Settings, steps: &[u8]) -> Outcome {
+        let length = steps.len() + TAIL_LENGTH;
+        for room in [0, length - 1, length, length + 1, length + 9, 40_000] {
+            self.compare(settings, steps, room)?;
+        }
+        Ok(())
+    }
+}
+
+fn second_writing(settings: &Settings, steps: &[u8], buffer: &mut [u8]) -> (u64, u64) {
+    match dayfile::write(settings, steps, buffer) {
+        Ok(length) => (0, length as u64),
+        Err(refusal) => (u64::from(refusal.number), u64::from(refusal.index)),
+    }
+}

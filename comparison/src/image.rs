@@ -1,0 +1,226 @@
+//! The image of a section, 392 bytes, in which the proved engine takes and gives a state.
+
+use reference::generate::Rng;
+use reference::section::{Post, Section, Track, NO_REVERSAL};
+use reference::settings::Settings;
+
+pub const IMAGE_LENGTH: usize = 392;
+const TRACKS: [usize; 2] = [8, 200];
+const TURN: usize = 2;
+const POSTS: usize = 4;
+const TRAINS: usize = 132;
+const LAST: usize = 162;
+const POST_LENGTH: usize = 8;
+/// The start permission of post 0 on track B.
+pub const PERMISSION_B_0: usize = TRACKS[1] + POSTS + 1;
+const MOST_FAULTS: u8 = 7;
+const MOST_ACTS: u8 = 3;
+
+pub fn image_of(section: &Section) -> [u8; IMAGE_LENGTH] {
+    let mut image = [0; IMAGE_LENGTH];
+    image[..8].copy_from_slice(&section.settings.encode());
+    for (track, start) in section.tracks.iter().zip(TRACKS) {
+        put_track(track, &mut image[start..]);
+    }
+    image
+}
+
+fn put_track(track: &Track, image: &mut [u8]) {
+    image[0] = track.direction;
+    image[1] = track.act;
+    image[TURN] = track.turn;
+    for (post, cell) in track
+        .posts
+        .iter()
+        .zip(image[POSTS..].chunks_exact_mut(POST_LENGTH))
+    {
+        cell.copy_from_slice(&post_bytes(post));
+    }
+    put_trains(&track.trains, &mut image[TRAINS..]);
+    put_trains(&track.last, &mut image[LAST..]);
+}
+
+fn post_bytes(post: &Post) -> [u8; POST_LENGTH] {
+    let [seals_low, seals_high] = post.seals.to_le_bytes();
+    [
+        post.device,
+        post.permission,
+        post.measures,
+        post.faults,
+        post.mark,
+        0,
+        seals_low,
+        seals_high,
+    ]
+}
+
+fn put_trains(trains: &[u16], image: &mut [u8]) {
+    for (train, cell) in trains.iter().zip(image.chunks_exact_mut(2)) {
+        cell.copy_from_slice(&train.to_le_bytes());
+    }
+}
+
+/// `None` for a wrong length or a byte that stands for no value.
+pub fn section_of(image: &[u8]) -> Option<Section> {
+    if image.len() != IMAGE_LENGTH {
+        return None;
+    }
+    let tracks = TRACKS.map(|start| track_of(&image[start..]));
+    let settings = Settings {
+        n: image[0],
+        form: image[1],
+        mask: word(&image[2..]),
+        line: word(&image[4..]),
+    };
+    tracks
+        .iter()
+        .all(has_values)
+        .then_some(Section { settings, tracks })
+}
+
+fn track_of(image: &[u8]) -> Track {
+    let mut track = Track {
+        direction: image[0],
+        act: image[1],
+        turn: image[TURN],
+        ..Track::default()
+    };
+    if track.act == NO_REVERSAL {
+        track.turn = 0;
+    }
+    for (post, cell) in track
+        .posts
+        .iter_mut()
+        .zip(image[POSTS..].chunks_exact(POST_LENGTH))
+    {
+        *post = post_of(cell);
+    }
+    take_trains(&mut track.trains, &image[TRAINS..]);
+    take_trains(&mut track.last, &image[LAST..]);
+    track
+}
+
+fn post_of(cell: &[u8]) -> Post {
+    Post {
+        device: cell[0],
+        permission: cell[1],
+        measures: cell[2],
+        faults: cell[3],
+        mark: cell[4],
+        seals: word(&cell[6..]),
+    }
+}
+
+fn take_trains(trains: &mut [u16], image: &[u8]) {
+    for (train, cell) in trains.iter_mut().zip(image.chunks_exact(2)) {
+        *train = word(cell);
+    }
+}
+
+fn word(bytes: &[u8]) -> u16 {
+    u16::from_le_bytes([bytes[0], bytes[1]])
+}
+
+/// Looks at all sixteen posts.
+fn has_values(track: &Track) -> bool {
+    track.direction <= 1 && track.act <= MOST_ACTS && track.posts.iter().all(post_has_values)
+}
+
+fn post_has_values(post: &Post) -> bool {
+    (post.device | post.permission | post.measures | post.mark) <= 1 && post.faults <= MOST_FAULTS
+}
+
+/// Gives the posts past the last one values that an image can hold.
+pub fn make_representable(section: &mut Section) {
+    let n = usize::from(section.settings.n);
+    for post in section
+        .tracks
+        .iter_mut()
+        .flat_map(|track| track.posts.iter_mut().skip(n))
+    {
+        post.device &= 1;
+        post.permission &= 1;
+        post.measures &= 1;
+        post.mark &= 1;
+        post.faults &= MOST_FAULTS;
+    }
+}
+
+/// Puts anything into the bytes that aren't looked at.
+pub fn fill_unread_bytes(rng: &mut Rng, image: &mut [u8; IMAGE_LENGTH]) {
+    let mut unread = vec![6, 7];
+    for start in TRACKS {
+        unread.push(start + 3);
+        if image[start + 1] == NO_REVERSAL {
+            unread.push(start + TURN);
+        }
+        unread.extend((start + POSTS + 5..start + TRAINS).step_by(POST_LENGTH));
+    }
+    for place in unread {
+        image[place] = rng.byte();
+    }
+}
+
+/// Where in a section a byte of its image belongs.
+pub fn cell_name(place: usize) -> String {
+    let Some((track, start)) = ["A", "B"]
+        .into_iter()
+        .zip(TRACKS)
+        .rfind(|&(_, start)| place >= start)
+    else {
+        return format!("settings byte {place}");
+    };
+    let cell = match place - start {
+        at @ 0..POSTS => ["direction", "act", "turn", "zero byte"][at].to_string(),
+        at @ POSTS..TRAINS => post_cell_name(at - POSTS),
+        at @ TRAINS..LAST => format!("train of block section {}", (at - TRAINS) / 2),
+        at => format!("last train of block section {}", (at - LAST) / 2),
+    };
+    format!("track {track} {cell}")
+}
+
+fn post_cell_name(at: usize) -> String {
+    let field = [
+        "device",
+        "permission",
+        "measures",
+        "faults",
+        "mark",
+        "zero byte",
+        "seals",
+        "seals",
+    ][at % POST_LENGTH];
+    format!("post {} {field}", at / POST_LENGTH)
+}
+
+#[cfg(test)]
+mod tests {
+    use super::*;
+    use reference::generate::random_in_range_section;
+
+    #[test]
+    fn there_and_back() {
+        let mut rng = Rng::new(1);
+        for _ in 0..2_000 {
+            let mut section = random_in_range_section(&mut rng);
+            make_representable(&mut section);
+            let mut image = image_of(&section);
+            fill_unread_bytes(&mut rng, &mut image);
+            assert_eq!(section_of(&image), Some(section));
+        }
+    }
+
+    #[test]
+    fn names_of_cells() {
+        for (place, name) in [
+            (4, "settings byte 4"),
+            (8, "track A direction"),
+            (202, "track B turn"),
+            (12 + 8 * 15 + 7, "track A post 15 seals"),
+            (200 + 132, "track B train of block section 0"),
+            (391, "track B last train of block section 14"),
+        ] {
+            assert_eq!(cell_name(place), name);
+        }
+    }
+}

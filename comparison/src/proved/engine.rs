@@ -1,0 +1,57 @@
+//! The engine, over images of sections.
+
+use reference::settings::Settings;
+
+extern "C" {
+    fn bsr_fresh(n: u8, form: u8, mask: u16, line: u16, image: *mut u8, image_length: usize) -> u8;
+    fn bsr_judge(image: *mut u8, image_length: usize, step: *const u8, step_length: usize) -> u16;
+    fn bsr_indications(image: *const u8, image_length: usize, track: u8, post: u8) -> u16;
+    fn bsr_accepted(
+        n: u8,
+        form: u8,
+        mask: u16,
+        line: u16,
+        steps: *const u8,
+        steps_length: usize,
+    ) -> u64;
+}
+
+/// 0, or 5 for a buffer too short.
+pub fn fresh(settings: &Settings, image: &mut [u8]) -> u8 {
+    unsafe {
+        bsr_fresh(
+            settings.n,
+            settings.form,
+            settings.mask,
+            settings.line,
+            image.as_mut_ptr(),
+            image.len(),
+        )
+    }
+}
+
+/// The refusal (0 for none) and what is said.
+pub fn judge(image: &mut [u8], step: &[u8]) -> (u16, u16) {
+    let answer = unsafe { bsr_judge(image.as_mut_ptr(), image.len(), step.as_ptr(), step.len()) };
+    (answer & 0xff, answer >> 8)
+}
+
+/// CIRCULATION, TRONÇON and the start permission.
+pub fn indications(image: &[u8], track: u8, post: u8) -> (u16, u16, u16) {
+    let answer = unsafe { bsr_indications(image.as_ptr(), image.len(), track, post) };
+    (answer & 7, answer >> 3 & 7, answer >> 6)
+}
+
+/// How many of the whole steps are accepted from fresh.
+pub fn accepted(settings: &Settings, steps: &[u8]) -> u64 {
+    unsafe {
+        bsr_accepted(
+            settings.n,
+            settings.form,
+            settings.mask,
+            settings.line,
+            steps.as_ptr(),
+            steps.len(),
+        )
+    }
+}

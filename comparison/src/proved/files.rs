@@ -1,0 +1,52 @@
+//! Reader and writer of day files.
+
+use reference::settings::Settings;
+
+extern "C" {
+    fn bsr_read(file: *const u8, file_length: usize) -> u32;
+    fn bsr_settings(file: *const u8, file_length: usize) -> u64;
+    fn bsr_steps_length(file: *const u8, file_length: usize, count: u64) -> u64;
+    fn bsr_write(
+        n: u8,
+        form: u8,
+        mask: u16,
+        line: u16,
+        steps: *const u8,
+        steps_length: usize,
+        buffer: *mut u8,
+        buffer_length: usize,
+    ) -> u64;
+}
+
+/// The refusal, and the count of steps (refusal 0) or the index.
+pub fn read(file: &[u8]) -> (u32, u32) {
+    let answer = unsafe { bsr_read(file.as_ptr(), file.len()) };
+    (answer >> 16, answer & 0xffff)
+}
+
+/// n + form × 2^8 + mask × 2^16 + line × 2^32; 0 for a refused file.
+pub fn settings(file: &[u8]) -> u64 {
+    unsafe { bsr_settings(file.as_ptr(), file.len()) }
+}
+
+/// The length of the part that holds so many steps.
+pub fn steps_length(file: &[u8], count: u64) -> u64 {
+    unsafe { bsr_steps_length(file.as_ptr(), file.len(), count) }
+}
+
+/// The refusal, and the length written (refusal 0) or the index.
+pub fn write(settings: &Settings, steps: &[u8], buffer: &mut [u8]) -> (u64, u64) {
+    let answer = unsafe {
+        bsr_write(
+            settings.n,
+            settings.form,
+            settings.mask,
+            settings.line,
+            steps.as_ptr(),
+            steps.len(),
+            buffer.as_mut_ptr(),
+            buffer.len(),
+        )
+    };
+    (answer & 0xff, answer >> 8)
+}

@@ -1,0 +1,97 @@
+//! What a run is told, what it finds, and how it ends.
+
+use reference::generate::Rng;
+use std::fmt::Debug;
+use std::process::ExitCode;
+
+const SEED: u64 = 1966;
+
+/// A difference, or something that should have come up and didn't.
+pub struct Failure(pub String);
+
+pub type Outcome = Result<(), Failure>;
+
+/// The arguments of a program.
+pub struct Run {
+    pub times: u64,
+    pub seed: u64,
+}
+
+impl Run {
+    /// Its own generator for each part.
+    pub fn rng(&self, part: u64) -> Rng {
+        Rng::new(self.seed.wrapping_add(part))
+    }
+}
+
+/// Runs a program's work and turns its outcome into the exit status.
+pub fn run(work: impl FnOnce(&Run) -> Outcome) -> ExitCode {
+    let Some(run) = arguments(std::env::args().skip(1)) else {
+        eprintln!("arguments: [times, from 1] [seed]");
+        return ExitCode::from(2);
+    };
+    println!("seed {}, times {}", run.seed, run.times);
+    match work(&run) {
+        Ok(()) => ExitCode::SUCCESS,
+        Err(Failure(text)) => {
+            eprintln!("{text}");
+            ExitCode::FAILURE
+        }
+    }
+}
+
+fn arguments(mut given: impl Iterator<Item = String>) -> Option<Run> {
+    let mut number = |default: u64| given.next().map_or(Some(default), |text| text.parse().ok());
+    let times = number(1).filter(|&times| times > 0)?;
+    let seed = number(SEED)?;
+    given.next().is_none().then_some(Run { times, seed })
+}
+
+/// A failure unless both implementations gave the same.
+pub fn same<T: PartialEq + Debug>(
+    what: &str,
+    proved: T,
+    second: T,
+    input: &dyn Fn() -> String,
+) -> Outcome {
+    if proved == second {
+        return Ok(());
+    }
+    Err(Failure(format!(
+        "DIFFERENCE: {what}\n{}\nproved: {proved:?}\nsecond: {second:?}",
+        input()
+    )))
+}
+
+/// A failure unless both implementations left the same bytes.
+pub fn same_bytes(what: &str, proved: &[u8], second: &[u8], input: &dyn Fn() -> String) -> Outcome {
+    if proved == second {
+        return Ok(());
+    }
+    let place = first_difference(proved, second);
+    Err(Failure(format!(
+        "DIFFERENCE: {what}, from byte {place} on\n{}\nproved: {}\nsecond: {}",
+        input(),
+        hex(proved.get(place..).unwrap_or_default()),
+        hex(second.get(place..).unwrap_or_default())
+    )))
+}
+
+fn first_difference(proved: &[u8], second: &[u8]) -> usize {
+    let shared = proved.len().min(second.len());
+    (0..shared)
+        .find(|&place| proved[place] != second[place])
+        .unwrap_or(shared)
+}
+
+/// A failure that names what there is of a kind of which there should be nothing.
+pub fn none(kind: &str, found: &[String]) -> Outcome {
+    match found.is_empty() {
+        true => Ok(()),
+        false => Err(Failure(format!("{kind}: {}", found.join("; ")))),
+    }
+}
+
+pub fn hex(bytes: &[u8]) -> String {
+    bytes.iter().map(|byte| format!("{byte:02x}")).collect()
+}

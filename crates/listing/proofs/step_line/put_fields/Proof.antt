@@ -1,0 +1,41 @@
+use borrow.Author.Needs.{needs}
+use denote.Ref.{now}
+use native.Mathlib.Omega.{arith}
+use Rattle.listing.proofs.Puts.{number-length, verdict-length, number-then, then}
+use Rattle.listing.specs.Listing.{verdictFields, fields}
+use Rattle.listing.proofs.step_line.put_fields.Statement.{statement}
+use Rattle.listing.proofs.step_line.put_fields.Tie as tie
+
+put-number-requires : tie.Need-put-number-requires
+put-number-requires c κs = search needs
+
+put-verdict-requires : tie.Need-put-verdict-requires
+put-verdict-requires c κs = omega (arith, number-length (c .before .before .before .before .before .before .args .index) 32)
+
+slice-aggregate-put-text : tie.Need-slice-aggregate-put-text
+slice-aggregate-put-text c = search needs
+
+put-text-requires : tie.Need-put-text-requires
+put-text-requires c κs = let a = c .before .before .before .before .before .before .before .before .before .before .before .args in omega (arith, number-length (a .index) 32, verdict-length (a .verdict))
+
+same-length : tie.Need-same-length
+same-length c = search needs
+
+returns : tie.Need-returns
+unfolding fields
+returns c =
+    let a = c .before .before .before .before .before .before .before .before .before .before .before .before .before .before .args in
+    number-then (now (a .buffer)) _ _ (a .at) _ _ (a .index) 32 _ (omega arith) (c .before .before .before .before .before .before .before .before .before .before .before .put-number .ensures)
+    (then _ _ _ _ _ _ (verdictFields (a .verdict)) _ (omega (arith, number-length (a .index) 32, verdict-length (a .verdict)))
+    (c .before .before .before .before .before .before .before .put-verdict .ensures) (c .before .before .put-text .ensures))
+
+pub put-fields-spec : {M : Type 1} → statement M
+put-fields-spec =
+    tie.close
+    (tie.spec
+    put-number-requires
+    put-verdict-requires
+    slice-aggregate-put-text
+    put-text-requires
+    same-length
+    returns)

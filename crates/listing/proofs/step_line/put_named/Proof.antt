@@ -1,0 +1,23 @@
+use borrow.Author.Needs.{needs}
+use denote.Ref.{now}
+use native.Mathlib.Omega.{arith}
+use Rattle.listing.proofs.Puts.{then, number-length}
+use Rattle.listing.proofs.step_line.put_named.Statement.{statement}
+use Rattle.listing.proofs.step_line.put_named.Tie as tie
+
+put-text-requires : tie.Need-put-text-requires
+put-text-requires c κs = search needs
+
+put-number-requires : tie.Need-put-number-requires
+put-number-requires c κs = search needs
+
+same-length : tie.Need-same-length
+same-length c = search needs
+
+returns : tie.Need-returns
+returns c =
+    let a = c .before .before .before .before .before .before .before .before .before .before .args in
+    then (now (a .buffer)) _ _ (a .at) _ _ (now (a .name)) _ (omega arith) (c .before .before .before .before .before .before .put-text .ensures) (c .before .before .put-number .ensures)
+
+pub put-named-spec : {M : Type 1} → statement M
+put-named-spec = tie.close (tie.spec put-text-requires put-number-requires same-length returns)

@@ -1,0 +1,33 @@
+use borrow.Author.Needs.{needs}
+use denote.Ref.{now}
+use native.Mathlib.Omega.{arith}
+use mathlib.Core.List.{[], _∷_, _++_}
+use Rattle.listing.proofs.Puts.{named-length, named-then}
+use Rattle.text.specs.Text.{decimal}
+use Rattle.listing.specs.Listing.{refusedLine}
+use Rattle.listing.proofs.step_line.put_refused.Statement.{statement}
+use Rattle.listing.proofs.step_line.put_refused.Tie as tie
+
+slice-aggregate-put-named : tie.Need-slice-aggregate-put-named
+slice-aggregate-put-named c = search needs
+
+put-named-requires : tie.Need-put-named-requires
+put-named-requires c κs = search needs
+
+put-number-requires : tie.Need-put-number-requires
+put-number-requires c κs = omega (arith, named-length (114 ∷ 101 ∷ 102 ∷ 117 ∷ 115 ∷ 101 ∷ 100 ∷ 32 ∷ []) (c .before .before .before .before .before .before .before .args .number) 32)
+
+same-length : tie.Need-same-length
+same-length c = search needs
+
+returns : tie.Need-returns
+unfolding refusedLine
+returns c =
+    let a = c .before .before .before .before .before .before .before .before .before .before .args in
+    named-then (now (a .buffer)) _ _ (a .at) _ _ (114 ∷ 101 ∷ 102 ∷ 117 ∷ 115 ∷ 101 ∷ 100 ∷ 32 ∷ []) (a .number) 32 _ (omega arith)
+    (c .before .before .before .before .before .before .put-named .ensures) (c .before .before .put-number .ensures)
+
+pub put-refused-spec : {M : Type 1} → statement M
+put-refused-spec =
+    tie.close
+    (tie.spec slice-aggregate-put-named put-named-requires put-number-requires same-length returns)

@@ -1,0 +1,56 @@
+-- The bench listing of a file (document 01, "The bench listing"): from the file's bytes to the listing's bytes.
+use Prim.Native.Nat.{ℕ, zero, suc}
+use mathlib.Core.List.{List, [], _∷_, _++_}
+use Rattle.section.specs.declared.Answer.{Answer}
+use Rattle.section.specs.declared.Section.{Section}
+use Rattle.section.specs.declared.Settings.{Settings}
+use Rattle.section.specs.declared.Verdict.{Verdict}
+use Rattle.section.specs.Fresh.{freshSection}
+use Rattle.section.specs.Words.{refusalOf, saidBy}
+use Rattle.rules.specs.Judge.{judge}
+use Rattle.dayfile.specs.Layout.{stepAt, stepsIn}
+use Rattle.dayfile.specs.Tests.{readOf}
+use Rattle.dayfile.specs.declared.Reading.{Reading}
+use Rattle.dayfile.specs.declared.Reading.the-variants.{Day, Refused}
+use Rattle.text.specs.Text.{decimal}
+use Rattle.listing.specs.Text.{space, lineFeed, word, trackLetter, inTurn}
+
+-- "one line, `refused K I` (number, index)"
+unfoldable pub refusedLine : ℕ → ℕ → List ℕ
+refusedLine number index =
+    114 ∷ 101 ∷ 102 ∷ 117 ∷ 115 ∷ 101 ∷ 100 ∷ space ∷ (decimal number ++ (space ∷ (decimal index ++ (lineFeed ∷ []))))
+
+-- "a header (`posts`, n, `steps`, the count)"
+unfoldable pub header : ℕ → ℕ → List ℕ
+header n count =
+    112 ∷ 111 ∷ 115 ∷ 116 ∷ 115 ∷ space
+    ∷ (decimal n ++ (space ∷ 115 ∷ 116 ∷ 101 ∷ 112 ∷ 115 ∷ space ∷ (decimal count ++ (lineFeed ∷ []))))
+
+-- "0 or refusal, what is said or `-`"
+unfoldable pub verdictFields : Verdict → List ℕ
+verdictFields verdict = decimal (refusalOf verdict) ++ (space ∷ word (saidBy verdict))
+
+-- "index, 0 or refusal, what is said or `-`, tracks A and B after the step", "fields one space apart"
+unfoldable pub fields : ℕ → Verdict → ℕ → ℕ → List ℕ
+fields index verdict a b = decimal index ++ (space ∷ (verdictFields verdict ++ (space ∷ a ∷ space ∷ b ∷ lineFeed ∷ [])))
+
+unfoldable pub stepLine : ℕ → Answer → List ℕ
+stepLine index answer = fields index (answer .verdict) (trackLetter (answer .section .a)) (trackLetter (answer .section .b))
+
+-- the section that step i is judged on: the fresh one, then the one that the step before left
+unfoldable pub sectionBefore : Settings → List ℕ → ℕ → Section
+sectionBefore c steps zero = freshSection c
+sectionBefore c steps (suc i) = judge (sectionBefore c steps i) (stepAt steps i) .section
+
+unfoldable pub answerTo : Settings → List ℕ → ℕ → Answer
+answerTo c steps i = judge (sectionBefore c steps i) (stepAt steps i)
+
+-- what is printed of a file: "A refused file gives one line. Else a header, then a line per step." `line` gives a step's line from its
+-- index, its bytes and the answer to it.
+unfoldable pub printed : (ℕ → List ℕ → Answer → List ℕ) → Reading → Settings → List ℕ → List ℕ
+printed line (Refused number index) c steps = refusedLine number index
+printed line (Day count) c steps = header (c .posts) count ++ inTurn (λ i. line i (stepAt steps i) (answerTo c steps i)) count
+
+-- the listing of a file
+unfoldable pub listing : List ℕ → List ℕ
+listing file = printed (λ i bytes answer. stepLine i answer) (readOf file .reading) (readOf file .settings) (stepsIn file)

@@ -1,0 +1,33 @@
+-- The panel of a file: after each step a line with what every post shows on the step's track.
+use Prim.Native.Nat.{ℕ}
+use mathlib.Core.Bool.{cond}
+use mathlib.Core.List.{List, [], _∷_, _++_}
+use lib.Dec.{eqb}
+use Rattle.section.specs.declared.Answer.{Answer}
+use Rattle.section.specs.declared.Indications.{Indications}
+use Rattle.section.specs.declared.Section.{Section}
+use Rattle.section.specs.Bytes.{byte}
+use Rattle.rules.specs.Indications.{indications}
+use Rattle.dayfile.specs.Layout.{stepsIn}
+use Rattle.dayfile.specs.Tests.{readOf}
+use Rattle.text.specs.Text.{digit, decimal}
+use Rattle.listing.specs.Text.{space, lineFeed, inTurn}
+use Rattle.listing.specs.Listing.{printed}
+
+-- a post's CIRCULATION, TRONÇON and permission, a stroke between, after a space
+unfoldable pub lamps : Indications → List ℕ
+lamps l = space ∷ digit (l .circulation) ∷ 47 ∷ digit (l .troncon) ∷ 47 ∷ digit (l .permission) ∷ []
+
+-- those of every post, from post 0 on
+unfoldable pub lampsOf : Section → ℕ → List ℕ
+lampsOf s track = inTurn (λ p. lamps (indications s track p)) (s .settings .posts)
+
+-- the index, the step's track as a letter, and every post's lamps
+unfoldable pub panelLine : ℕ → List ℕ → Answer → List ℕ
+panelLine index bytes answer =
+    decimal index
+    ++ (space ∷ cond (eqb (byte bytes 1) 1) 66 65 ∷ (lampsOf (answer .section) (byte bytes 1) ++ (lineFeed ∷ [])))
+
+-- the panel of a file
+unfoldable pub panel : List ℕ → List ℕ
+panel file = printed panelLine (readOf file .reading) (readOf file .settings) (stepsIn file)

@@ -1,0 +1,130 @@
+-- What acceptance means: the bytes give a step, and every check of its row passed. Settings c are those of the section; they stand as a
+-- parameter, so that what follows is about tracks.
+use Prim.Native.Nat.{ℕ}
+use mathlib.Core.Bool.{Bool, true, false, cond}
+use mathlib.Core.Path.{_≡_, refl, sym, ap, _∙_, subst}
+use mathlib.Core.List.{List, [], _∷_}
+use lib.Dec.{T}
+use Rattle.section.specs.declared.Settings.{Settings}
+use Rattle.section.specs.declared.Track.{Track}
+use Rattle.section.specs.declared.Section.{Section}
+use Rattle.section.specs.declared.Decoded.{Decoded}
+use Rattle.section.specs.declared.Decoded.the-variants.{Well, Malformed}
+use Rattle.section.specs.declared.Said.{Said}
+use Rattle.section.specs.declared.Verdict.{Verdict}
+use Rattle.section.specs.declared.Verdict.the-variants.{Accepted, Refused}
+use Rattle.section.specs.declared.Answer.{Answer}
+use Rattle.section.specs.Range.{inRange}
+use Rattle.section.specs.Step.{decoded, postOf, numberOf}
+use Rattle.section.specs.Store.{trackOf, withTrack}
+use Rattle.rules.specs.Site.{siteOn, otherSettledOnVns, occupancyAt}
+use Rattle.rules.specs.Table.{Check, checks, effect, trackAfter}
+use Rattle.rules.specs.Judge.{verdictOf, answerOf, verdictOn, sectionAfter, judgeStep, judgeDecoded, judgeInRange, judge}
+use Rattle.rules.proofs.Facts.{T-true}
+use Rattle.rules.proofs.View.{View, flat, post-flat, Seen, shown, seen, shown-seen}
+use Rattle.rules.proofs.Reading.{Fits, decoded-says}
+
+-- ## The row of checks
+
+abbrev pub AllHold : List Check → Type 0
+AllHold [] = Unit {0}
+AllHold (k ∷ ks) = T (k .holds) × AllHold ks
+
+pub all-accepted : (ks : List Check) (w : Said) → AllHold ks → verdictOf ks w ≡ Accepted w
+unfolding verdictOf
+all-accepted [] w h = refl
+all-accepted (k ∷ ks) w h = rw (T-true (k .holds) (h .0)) (all-accepted ks w (h .1))
+
+pub data Ruled (ks : List Check) (w : Said) : Type 0 where
+  passed : AllHold ks → Ruled ks w
+  failed : (k : ℕ) → verdictOf ks w ≡ Refused k → Ruled ks w
+
+pub ruled : (ks : List Check) (w : Said) → Ruled ks w
+unfolding verdictOf
+ruled [] w = passed tt
+ruled (k ∷ ks) w = go (k .holds) refl (ruled ks w)
+  where
+    go : (x : Bool) → k .holds ≡ x → Ruled ks w → Ruled (k ∷ ks) w
+    go true e (passed h) = passed (subst T (sym e) tt, h)
+    go true e (failed n q) = failed n (rw e q)
+    go false e r = failed (k .refusal) (rw e refl)
+
+-- ## A step on a track: its checks, the track after it
+
+module _ (c : Settings) where
+  abbrev pub checksAt : Bool → Bool → ℕ → View → Track → List Check
+  checksAt v b p k t =
+      checks c (flat p k) (siteOn v b p t) (occupancyAt c (siteOn v b p t) (numberOf (flat p k)) (t .trains) (t .last))
+
+  abbrev pub moved : Bool → Bool → ℕ → View → Track → Track
+  moved v b p k t = trackAfter c (flat p k) (siteOn v b p t) t
+
+  pub record Passes (v b : Bool) (p : ℕ) (k : View) (t : Track) : Type 0 where
+    pub fits : Fits (c .posts) p k
+    pub held : AllHold (checksAt v b p k t)
+
+  -- ## A step on a section: that it is accepted, what it says, the section after it
+
+  unfoldable pub Ok : Section → Seen → Type 0
+  Ok s x = Passes (otherSettledOnVns s (x .track)) (x .track) (x .post) (x .kind) (trackOf s (x .track))
+
+  unfoldable pub word : Section → Seen → Said
+  word s x = effect c (flat (x .post) (x .kind)) (siteOn (otherSettledOnVns s (x .track)) (x .track) (x .post) (trackOf s (x .track))) .said
+
+  unfoldable pub next : Section → Seen → Section
+  next s x = withTrack s (x .track) (moved (otherSettledOnVns s (x .track)) (x .track) (x .post) (x .kind) (trackOf s (x .track)))
+
+  abbrev pub checksOf : Section → Seen → List Check
+  checksOf s x = checksAt (otherSettledOnVns s (x .track)) (x .track) (x .post) (x .kind) (trackOf s (x .track))
+
+  module _ (s : Section) (e : s .settings ≡ c) where
+    verdict-is : (x : Seen) → verdictOn s (shown x) ≡ verdictOf (checksOf s x) (word s x)
+    unfolding verdictOn word
+    verdict-is x = rw (e, post-flat (x .post) (x .kind)) refl
+
+    section-is : (x : Seen) → sectionAfter s (shown x) ≡ next s x
+    unfolding sectionAfter next
+    section-is x = rw (e, post-flat (x .post) (x .kind)) refl
+
+    -- a step whose checks all pass
+    step-accepted : (x : Seen) → Ok s x → judgeStep s (shown x) ≡ record { verdict = Accepted (word s x); section = next s x }
+    unfolding judgeStep answerOf Ok
+    step-accepted x h =
+        rw (verdict-is x, all-accepted (checksOf s x) (word s x) (h .held)) (ap (λ n. record { verdict = Accepted (word s x); section = n }) (section-is x))
+
+    step-refused : (x : Seen) (k : ℕ) → verdictOf (checksOf s x) (word s x) ≡ Refused k → judgeStep s (shown x) ≡ record { verdict = Refused k; section = s }
+    unfolding judgeStep answerOf
+    step-refused x k q = rw (verdict-is x, q) refl
+
+    -- bytes offered to a section in range
+    module _ (r : inRange s ≡ true) where
+      judge-well : (bytes : List ℕ) (x : Seen) → decoded (c .posts) bytes ≡ Well (shown x) → judge s bytes ≡ judgeStep s (shown x)
+      unfolding judge judgeInRange judgeDecoded
+      judge-well bytes x q = rw (r, e, q) refl
+
+      pub ok-judge : (bytes : List ℕ) (x : Seen) → decoded (c .posts) bytes ≡ Well (shown x) → Ok s x
+          → judge s bytes ≡ record { verdict = Accepted (word s x); section = next s x }
+      ok-judge bytes x q h = judge-well bytes x q ∙ step-accepted x h
+
+      judge-malformed : (bytes : List ℕ) → decoded (c .posts) bytes ≡ Malformed → judge s bytes ≡ record { verdict = Refused 4; section = s }
+      unfolding judge judgeInRange judgeDecoded
+      judge-malformed bytes q = rw (r, e, q) refl
+
+      -- they are refused, and nothing changes, or they say a step whose checks all pass
+      pub data Judged (bytes : List ℕ) : Type 0 where
+        refused : (k : ℕ) → judge s bytes ≡ record { verdict = Refused k; section = s } → Judged bytes
+        accepted : (x : Seen) → decoded (c .posts) bytes ≡ Well (shown x) → Ok s x
+            → judge s bytes ≡ record { verdict = Accepted (word s x); section = next s x } → Judged bytes
+
+      pub judged : (bytes : List ℕ) → Judged bytes
+      unfolding Ok
+      judged bytes = by-said (decoded (c .posts) bytes) refl
+        where
+          by-rule : (x : Seen) → decoded (c .posts) bytes ≡ Well (shown x) → Fits (c .posts) (x .post) (x .kind) → Ruled (checksOf s x) (word s x) → Judged bytes
+          by-rule x q f (passed h) = let ok : Ok s x = record { fits = f; held = h } in accepted x q ok (ok-judge bytes x q ok)
+          by-rule x q f (failed k z) = refused k (judge-well bytes x q ∙ step-refused x k z)
+
+          by-said : (d : Decoded) → decoded (c .posts) bytes ≡ d → Judged bytes
+          by-said (Well y) q =
+              by-rule (seen y) (q ∙ ap Well (sym (shown-seen y))) (decoded-says (c .posts) bytes y q .fields .fits) (ruled (checksOf s (seen y)) (word s (seen y)))
+          by-said Malformed q = refused 4 (judge-malformed bytes q)

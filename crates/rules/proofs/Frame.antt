@@ -1,0 +1,121 @@
+-- What a step leaves alone, by its kind.
+use Prim.Native.Nat.{ℕ, zero, suc}
+use mathlib.Core.Bool.{Bool, true, false}
+use mathlib.Core.Path.{_≡_, refl, ap, subst, sym}
+use mathlib.Core.List.{List}
+use lib.ListN.{length, length-set}
+use lib.Dec.{T, eqb, eqb→eq}
+use Rattle.section.specs.declared.Settings.{Settings}
+use Rattle.section.specs.declared.Fault.the-variants.{One, Two, Three}
+use Rattle.section.specs.declared.Act.{Act}
+use Rattle.section.specs.declared.Act.the-variants as act
+use Rattle.section.specs.declared.Walk.{Walk}
+use Rattle.section.specs.declared.Walk.the-variants.{Settled, Turn}
+use Rattle.section.specs.declared.Said.the-variants.{Nothing}
+use Rattle.section.specs.declared.Post.{Post}
+use Rattle.rules.specs.declared.Site.{Site}
+use Rattle.rules.specs.declared.Effect.{Effect}
+use Rattle.rules.specs.declared.Movement.{Movement}
+use Rattle.rules.specs.declared.Movement.the-variants.{Stays, Enters, Moves, Leaves}
+use Rattle.rules.specs.Site.{sameAct, isTurn, isSettled}
+use Rattle.rules.specs.Table.{effect, trainsAfter, lastAfter}
+use Rattle.rules.proofs.Facts.{and-l, and-r}
+use Rattle.rules.proofs.View.{Reversal, order, setDevice, announce, acknowledge, key, Motion, start, pass, leave, Condition, measures, fault, View, walks, runs, notes, releases, flat}
+
+-- moves no train
+abbrev pub still : View → Bool
+still (walks r) = true
+still (runs m z) = false
+still (notes k) = true
+still (releases z) = true
+
+-- leaves the walk, the running direction and the permission alone, and says nothing
+abbrev pub calm : View → Bool
+calm (walks r) = false
+calm (runs m z) = true
+calm (notes k) = true
+calm (releases z) = true
+
+-- goes on with a train that is on the track already
+abbrev pub onward : Motion → Bool
+onward start = false
+onward pass = true
+onward leave = true
+
+-- ## Tests on the walk
+
+same-act : (a a′ : Act) → T (sameAct a a′) → a ≡ a′
+same-act act.Set act.Set h = refl
+same-act act.Set act.Announce h = absurd h
+same-act act.Set act.Acknowledge h = absurd h
+same-act act.Announce act.Set h = absurd h
+same-act act.Announce act.Announce h = refl
+same-act act.Announce act.Acknowledge h = absurd h
+same-act act.Acknowledge act.Set h = absurd h
+same-act act.Acknowledge act.Announce h = absurd h
+same-act act.Acknowledge act.Acknowledge h = refl
+
+pub is-turn : (w : Walk) (p : ℕ) (a : Act) → T (isTurn w p a) → w ≡ Turn p a
+is-turn Settled p a h = absurd h
+is-turn (Turn q a′) p a h =
+    rw (eqb→eq q p (and-l (eqb q p) (sameAct a′ a) h), same-act a′ a (and-r (eqb q p) (sameAct a′ a) h)) refl
+
+pub is-settled : (w : Walk) → T (isSettled w) → w ≡ Settled
+is-settled Settled h = refl
+is-settled (Turn p a) h = absurd h
+
+-- ## Lengths
+
+module _ (c : Settings) where
+  pub trains-length : (m : Movement) (e : Site) (l : List ℕ) → length (trainsAfter c m e l) ≡ length l
+  unfolding trainsAfter
+  trains-length Stays e l = refl
+  trains-length (Enters z) e l = simp length-set
+  trains-length (Moves z) e l = simp length-set
+  trains-length Leaves e l = simp length-set
+
+  pub last-length : (m : Movement) (e : Site) (l : List ℕ) → length (lastAfter c m e l) ≡ length l
+  unfolding lastAfter
+  last-length Stays e l = refl
+  last-length (Enters z) e l = simp length-set
+  last-length (Moves z) e l = simp length-set
+  last-length Leaves e l = refl
+
+  -- ## Effects
+
+  pub still-train : (p : ℕ) (k : View) (e : Site) → T (still k) → effect c (flat p k) e .train ≡ Stays
+  unfolding effect flat
+  still-train p (walks order) e i = refl
+  still-train p (walks setDevice) e i = refl
+  still-train p (walks announce) e i = refl
+  still-train p (walks acknowledge) e i = refl
+  still-train p (walks key) e i = refl
+  still-train p (runs m z) e i = absurd i
+  still-train p (notes (measures true)) e i = refl
+  still-train p (notes (measures false)) e i = refl
+  still-train p (notes (fault true f)) e i = refl
+  still-train p (notes (fault false f)) e i = refl
+  still-train p (releases z) e i = refl
+
+  pub record Calm (e : Site) (x : Effect) : Type 0 where
+    pub walk : x .walk ≡ e .walk
+    pub cvt : x .cvt ≡ e .cvt
+    pub said : x .said ≡ Nothing
+    pub permission : x .own .permission ≡ e .own .permission
+    pub seals : x .own .seals ≡ e .own .seals
+
+  pub calm-effect : (p : ℕ) (k : View) (e : Site) → T (calm k) → Calm e (effect c (flat p k) e)
+  unfolding effect flat
+  calm-effect p (walks r) e i = absurd i
+  calm-effect p (runs start z) e i = record { walk = refl; cvt = refl; said = refl; permission = refl; seals = refl }
+  calm-effect p (runs pass z) e i = record { walk = refl; cvt = refl; said = refl; permission = refl; seals = refl }
+  calm-effect p (runs leave z) e i = record { walk = refl; cvt = refl; said = refl; permission = refl; seals = refl }
+  calm-effect p (notes (measures true)) e i = record { walk = refl; cvt = refl; said = refl; permission = refl; seals = refl }
+  calm-effect p (notes (measures false)) e i = record { walk = refl; cvt = refl; said = refl; permission = refl; seals = refl }
+  calm-effect p (notes (fault true One)) e i = record { walk = refl; cvt = refl; said = refl; permission = refl; seals = refl }
+  calm-effect p (notes (fault true Two)) e i = record { walk = refl; cvt = refl; said = refl; permission = refl; seals = refl }
+  calm-effect p (notes (fault true Three)) e i = record { walk = refl; cvt = refl; said = refl; permission = refl; seals = refl }
+  calm-effect p (notes (fault false One)) e i = record { walk = refl; cvt = refl; said = refl; permission = refl; seals = refl }
+  calm-effect p (notes (fault false Two)) e i = record { walk = refl; cvt = refl; said = refl; permission = refl; seals = refl }
+  calm-effect p (notes (fault false Three)) e i = record { walk = refl; cvt = refl; said = refl; permission = refl; seals = refl }
+  calm-effect p (releases z) e i = record { walk = refl; cvt = refl; said = refl; permission = refl; seals = refl }

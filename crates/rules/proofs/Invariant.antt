@@ -1,0 +1,247 @@
+-- What holds of a track in every state reached: kept by every accepted step.
+use Prim.Native.Nat.{ℕ, zero, suc, _+_, _-_, _≤_, _<_}
+use mathlib.Core.Bool.{Bool, true, false, cond, not, _&&_, _||_}
+use mathlib.Core.Path.{_≡_, refl, sym, ap, ap₂, _∙_, subst}
+use mathlib.Core.Logic.{_≢_}
+use mathlib.Core.List.{List, [], _∷_}
+use native.Mathlib.Omega.{arith}
+use native.Mathlib.Decide.{ℕ-discrete, decLt}
+use lib.ListN.{getD, set, length, length-set}
+use lib.Seq.{getD-set-other, getD-set-same}
+use lib.Dec.{T, eqb, eqb→eq}
+use Rattle.section.specs.declared.Settings.{Settings}
+use Rattle.section.specs.declared.Post.{Post}
+use Rattle.section.specs.declared.Act.{Act}
+use Rattle.section.specs.declared.Act.the-variants as act
+use Rattle.section.specs.declared.Walk.{Walk}
+use Rattle.section.specs.declared.Walk.the-variants.{Settled, Turn}
+use Rattle.section.specs.declared.Track.{Track}
+use Rattle.section.specs.Geometry.{upward, rank, block, isLast}
+use Rattle.section.specs.Numbers.{mostPosts, mostBlocks}
+use Rattle.section.specs.Post.{blank}
+use Rattle.section.specs.Store.{postOn}
+use Rattle.rules.specs.declared.Site.{Site}
+use Rattle.rules.specs.Site.{siteOn, isTurn, atSendingEnd, atReceivingEnd, blockAhead, blockBefore, nextPost, trainAt, watchedOccupied, occupancyAt}
+use Rattle.rules.specs.Table.{checks, effect, trainsAfter, lastAfter, trackAfter}
+use Rattle.rules.specs.Indications.{setCount}
+use Rattle.rules.proofs.Facts.{true-T, false-T, notnot, nor-l, nor-r, rank-lt, rank-inj, block-inj, block-lt, block-block, first-rank, not-first-rank, last-rank, not-last-rank, next-rank, far-end, set-zero}
+use Rattle.rules.proofs.View.{order, setDevice, announce, acknowledge, key, Motion, start, pass, leave, View, walks, runs, notes, releases, flat}
+use Rattle.rules.proofs.Frame.{is-turn, is-settled, still, calm, calm-effect, still-train, trains-length, last-length}
+use Rattle.rules.proofs.Accept.{Passes, moved}
+use Rattle.rules.proofs.Ranges.{rankOn, TurnFits, InRange, announce-next, in-range-kept}
+
+module _ (c : Settings) (b : Bool) where
+  -- ## What is kept
+
+  -- the block sections of a rank below this are empty: as many as posts have set in the reversal
+  abbrev pub limit : Bool → Walk → ℕ
+  limit cvt w = setCount (c .posts) (upward b cvt) w
+
+  pub limit-turn : (cvt : Bool) (p : ℕ) (a : Act) → rankOn c b cvt p ≤ limit cvt (Turn p a)
+  unfolding setCount
+  limit-turn cvt p act.Set = omega arith
+  limit-turn cvt p act.Announce = omega arith
+  limit-turn cvt p act.Acknowledge = omega arith
+
+  abbrev pub Low : Bool → Walk → List ℕ → Type 0
+  Low cvt w l = (j : ℕ) → j < limit cvt w → suc j < c .posts → trainAt c b cvt l j ≡ 0
+
+  -- a post of that rank may have permission: the sending end, while no reversal is under way
+  abbrev pub MayHold : Walk → ℕ → Type 0
+  MayHold Settled r = r ≡ 0
+  MayHold (Turn p a) r = ⊥
+
+  abbrev pub Permits : Bool → Walk → List Post → Type 0
+  Permits cvt w l = (p : ℕ) → p < c .posts → T (getD l p blank .permission) → MayHold w (rankOn c b cvt p)
+
+  pub record Sizes (t : Track) : Type 0 where
+    pub posts : length (t .posts) ≡ mostPosts
+    pub trains : length (t .trains) ≡ mostBlocks
+    pub last : length (t .last) ≡ mostBlocks
+
+  pub record Sound (t : Track) : Type 0 where
+    pub low : Low (t .cvt) (t .walk) (t .trains)
+    pub permits : Permits (t .cvt) (t .walk) (t .posts)
+    pub sizes : Sizes t
+    pub ranges : InRange c b t
+
+  module _ (v : Bool) (t : Track) (p : ℕ) where
+    abbrev e : Site
+    e = siteOn v b p t
+
+    abbrev r : ℕ
+    r = rankOn c b (t .cvt) p
+
+    -- ## Low
+
+    -- the block section ahead, of a post that is not the last
+    pub ahead-free : T (not (isLast (c .posts) (upward b (t .cvt)) p)) → T (not (watchedOccupied c e (t .trains))) → trainAt c b (t .cvt) (t .trains) r ≡ 0
+    unfolding watchedOccupied
+    ahead-free n h = eqb→eq (trainAt c b (t .cvt) (t .trains) r) 0 (go (isLast (c .posts) (upward b (t .cvt)) p) n h)
+      where
+        go : (last : Bool) → T (not last) → T (not (not last && not (eqb (trainAt c b (t .cvt) (t .trains) r) 0))) → T (eqb (trainAt c b (t .cvt) (t .trains) r) 0)
+        go true x y = absurd x
+        go false x y = notnot (eqb (trainAt c b (t .cvt) (t .trains) r) 0) y
+
+    low-set : (last : Bool) → isLast (c .posts) (upward b (t .cvt)) p ≡ last → T (isTurn (t .walk) p act.Set) → T (not (watchedOccupied c e (t .trains)))
+        → Low (t .cvt) (t .walk) (t .trains) → Low (cond last (not (t .cvt)) (t .cvt)) (cond last Settled (Turn p act.Announce)) (t .trains)
+    unfolding setCount
+    low-set true q hw ha low j h k = absurd (omega arith)
+    low-set false q hw ha low j h k = go (ℕ-discrete j r)
+      where
+        before : Low (t .cvt) (Turn p act.Set) (t .trains)
+        before = subst (λ (w : Walk). Low (t .cvt) w (t .trains)) (is-turn (t .walk) p act.Set hw) low
+
+        go : Dec (j ≡ r) → trainAt c b (t .cvt) (t .trains) j ≡ 0
+        go (yes x) = rw x (ahead-free (false-T (isLast (c .posts) (upward b (t .cvt)) p) q) ha)
+        go (no ne) = before j (omega arith) k
+
+    -- a train before a post stands at or past the limit
+    pub past-limit : (z : ℕ) → p < c .posts → r ≢ 0 → 0 < z → T (eqb (trainAt c b (t .cvt) (t .trains) (r - 1)) z)
+        → Low (t .cvt) (t .walk) (t .trains) → limit (t .cvt) (t .walk) < r
+    past-limit z p<n r0 z0 hb low = go (decLt (limit (t .cvt) (t .walk)) r)
+      where
+        go : Dec (limit (t .cvt) (t .walk) < r) → limit (t .cvt) (t .walk) < r
+        go (yes h) = h
+        go (no h) =
+            let r<n : r < c .posts = rank-lt (c .posts) (upward b (t .cvt)) p p<n in
+            let e0 : trainAt c b (t .cvt) (t .trains) (r - 1) ≡ 0 = low (r - 1) (omega arith) (omega arith) in
+            let ez : trainAt c b (t .cvt) (t .trains) (r - 1) ≡ z = eqb→eq (trainAt c b (t .cvt) (t .trains) (r - 1)) z hb in
+            absurd (omega arith)
+
+    low-pass : (z : ℕ) → p < c .posts → r ≢ 0 → suc r < c .posts → 0 < z → T (eqb (trainAt c b (t .cvt) (t .trains) (r - 1)) z)
+        → Low (t .cvt) (t .walk) (t .trains) → Low (t .cvt) (t .walk) (set (set (t .trains) (blockBefore c e) 0) (blockAhead c e) z)
+    low-pass z p<n r0 rn z0 hb low j h k =
+        let lim : limit (t .cvt) (t .walk) < r = past-limit z p<n r0 z0 hb low in
+        getD-set-other (set (t .trains) (blockBefore c e) 0) (blockAhead c e) (block (c .posts) (upward b (t .cvt)) j) z 0
+        (λ q. absurd (omega (arith, block-inj (c .posts) (upward b (t .cvt)) j r k rn q)))
+        ∙ set-zero (t .trains) (blockBefore c e) (block (c .posts) (upward b (t .cvt)) j) (low j h k)
+
+    -- a step that moves no train and leaves walk and direction alone
+    low-calm : (k : View) → T (still k) → T (calm k) → Low (t .cvt) (t .walk) (t .trains)
+        → Low (moved c v b p k t .cvt) (moved c v b p k t .walk) (moved c v b p k t .trains)
+    unfolding trackAfter trainsAfter
+    low-calm k i j low = rw (still-train c p k e i, calm-effect c p k e j .walk, calm-effect c p k e j .cvt) low
+
+    low-kept : (k : View) → Passes c v b p k t → Low (t .cvt) (t .walk) (t .trains) → TurnFits c b (t .cvt) (t .walk)
+        → Low (moved c v b p k t .cvt) (moved c v b p k t .walk) (moved c v b p k t .trains)
+    unfolding checks occupancyAt trackAfter effect trainsAfter flat setCount
+    low-kept (walks order) h low f = λ j l m. absurd (omega (arith, first-rank (c .posts) (upward b (t .cvt)) p (h .held .1 .0)))
+    low-kept (walks setDevice) h low f = low-set (atReceivingEnd c e) refl (h .held .0) (h .held .1 .0) low
+    low-kept (walks announce) h low f = λ j l m.
+        subst (λ (w : Walk). Low (t .cvt) w (t .trains)) (is-turn (t .walk) p act.Announce (h .held .0)) low j
+        (rw (next-rank (c .posts) (upward b (t .cvt)) p (h .fits .below) (announce-next c b v t p (h .held .0) f)) at l) m
+    low-kept (walks acknowledge) h low f = subst (λ (w : Walk). Low (t .cvt) w (t .trains)) (is-turn (t .walk) p act.Acknowledge (h .held .0)) low
+    low-kept (walks key) h low f = low-set (atReceivingEnd c e) refl (h .held .0) (h .held .1 .1 .0) low
+    low-kept (runs start z) h low f = λ j l m. absurd (omega (arith, rw (is-settled (t .walk) (h .held .0)) at l))
+    low-kept (runs pass z) h low f =
+        low-pass z (h .fits .below) (not-first-rank (c .posts) (upward b (t .cvt)) p (nor-l (atSendingEnd c e) (atReceivingEnd c e) (h .held .0)))
+        (not-last-rank (c .posts) (upward b (t .cvt)) p (h .fits .below) (nor-r (atSendingEnd c e) (atReceivingEnd c e) (h .held .0)))
+        (h .fits .number .0) (h .held .1 .0) low
+    low-kept (runs leave z) h low f = λ j l m. set-zero (t .trains) (blockBefore c e) (block (c .posts) (upward b (t .cvt)) j) (low j l m)
+    low-kept (notes k) h low f = low-calm (notes k) tt tt low
+    low-kept (releases z) h low f = low
+
+    -- ## Permission
+
+    own-at : (o : Post) → Sizes t → p < c .posts → c .posts ≤ mostPosts → getD (set (t .posts) p o) p blank ≡ o
+    own-at o z p<n n16 = getD-set-same (t .posts) p o blank (omega (arith, z .posts))
+
+    module _ (n16 : c .posts ≤ mostPosts) (z : Sizes t) where
+      -- a step that gives its post no permission
+      permit-same : (o : Post) (w : Walk) → p < c .posts → (T (o .permission) → T (e .own .permission))
+          → ((r : ℕ) → MayHold (t .walk) r → MayHold w r) → Permits (t .cvt) (t .walk) (t .posts) → Permits (t .cvt) w (set (t .posts) p o)
+      permit-same o w p<n f g old q q<n h = go (ℕ-discrete q p)
+        where
+          go : Dec (q ≡ p) → MayHold w (rankOn c b (t .cvt) q)
+          go (yes x) = g (rankOn c b (t .cvt) q) (old q q<n (rw x (f (rw (x, own-at o z p<n n16) at h))))
+          go (no ne) = g (rankOn c b (t .cvt) q) (old q q<n (rw (getD-set-other (t .posts) p q o blank ne) at h))
+
+      -- an order takes the one permission away
+      permit-order : (o : Post) (w : Walk) → p < c .posts → (T (o .permission) → ⊥) → r ≡ 0 → t .walk ≡ Settled
+          → Permits (t .cvt) (t .walk) (t .posts) → Permits (t .cvt) w (set (t .posts) p o)
+      permit-order o w p<n f e0 ew old q q<n h = go (ℕ-discrete q p)
+        where
+          go : Dec (q ≡ p) → MayHold w (rankOn c b (t .cvt) q)
+          go (yes x) = absurd (f (rw (x, own-at o z p<n n16) at h))
+          go (no ne) =
+              let r0 : rankOn c b (t .cvt) q ≡ 0 =
+              subst (λ (v : Walk). MayHold v (rankOn c b (t .cvt) q)) ew (old q q<n (rw (getD-set-other (t .posts) p q o blank ne) at h)) in
+              absurd (ne (rank-inj (c .posts) (upward b (t .cvt)) q p q<n p<n (r0 ∙ sym e0)))
+
+      -- the last set or key gives it to the last post
+      permit-set : (last : Bool) → isLast (c .posts) (upward b (t .cvt)) p ≡ last → p < c .posts → T (isTurn (t .walk) p act.Set)
+          → (o : Post) → o .permission ≡ (last || e .own .permission) → Permits (t .cvt) (t .walk) (t .posts)
+          → Permits (cond last (not (t .cvt)) (t .cvt)) (cond last Settled (Turn p act.Announce)) (set (t .posts) p o)
+      permit-set true ew p<n hw o eo old q q<n h = go (ℕ-discrete q p)
+        where
+          go : Dec (q ≡ p) → rankOn c b (not (t .cvt)) q ≡ 0
+          go (yes x) = rw x (far-end (c .posts) b (t .cvt) p p<n (last-rank (c .posts) (upward b (t .cvt)) p (true-T (isLast (c .posts) (upward b (t .cvt)) p) ew)))
+          go (no ne) =
+              absurd (subst (λ (v : Walk). MayHold v (rankOn c b (t .cvt) q)) (is-turn (t .walk) p act.Set hw) (old q q<n (rw (getD-set-other (t .posts) p q o blank ne) at h)))
+      permit-set false ew p<n hw o eo old q q<n h =
+          permit-same o (Turn p act.Announce) p<n (λ u. rw eo at u) (λ r m. subst (λ (v : Walk). MayHold v r) (is-turn (t .walk) p act.Set hw) m) old q q<n h
+
+      permit-calm : (k : View) → Passes c v b p k t → T (calm k) → Permits (t .cvt) (t .walk) (t .posts)
+          → Permits (moved c v b p k t .cvt) (moved c v b p k t .walk) (moved c v b p k t .posts)
+      unfolding trackAfter
+      permit-calm k h i old =
+          rw (calm-effect c p k e i .walk, calm-effect c p k e i .cvt)
+          (permit-same (effect c (flat p k) e .own) (t .walk) (h .fits .below) (λ u. rw (calm-effect c p k e i .permission) at u) (λ r m. m) old)
+
+      permits-kept : (k : View) → Passes c v b p k t → Permits (t .cvt) (t .walk) (t .posts)
+          → Permits (moved c v b p k t .cvt) (moved c v b p k t .walk) (moved c v b p k t .posts)
+      unfolding checks trackAfter effect flat
+      permits-kept (walks order) h old =
+          permit-order (effect c (flat p (walks order)) e .own) (Turn p act.Set) (h .fits .below) (λ u. u)
+          (first-rank (c .posts) (upward b (t .cvt)) p (h .held .1 .0)) (is-settled (t .walk) (h .held .0)) old
+      permits-kept (walks setDevice) h old =
+          permit-set (atReceivingEnd c e) refl (h .fits .below) (h .held .0) (effect c (flat p (walks setDevice)) e .own) refl old
+      permits-kept (walks announce) h old =
+          permit-same (e .own) (Turn (nextPost c e) act.Acknowledge) (h .fits .below) (λ u. u)
+          (λ r m. subst (λ (v : Walk). MayHold v r) (is-turn (t .walk) p act.Announce (h .held .0)) m) old
+      permits-kept (walks acknowledge) h old =
+          permit-same (e .own) (Turn p act.Set) (h .fits .below) (λ u. u)
+          (λ r m. subst (λ (v : Walk). MayHold v r) (is-turn (t .walk) p act.Acknowledge (h .held .0)) m) old
+      permits-kept (walks key) h old =
+          permit-set (atReceivingEnd c e) refl (h .fits .below) (h .held .0) (effect c (flat p (walks key)) e .own) refl old
+      permits-kept (runs m y) h old = permit-calm (runs m y) h tt old
+      permits-kept (notes k) h old = permit-calm (notes k) h tt old
+      permits-kept (releases y) h old = permit-calm (releases y) h tt old
+
+    -- ## The whole
+
+    sizes-kept : (k : View) → Sizes t → Sizes (moved c v b p k t)
+    unfolding trackAfter
+    sizes-kept k z = record {
+      posts = simp length-set (z .posts);
+      trains = trains-length c (effect c (flat p k) e .train) e (t .trains) ∙ z .trains;
+      last = last-length c (effect c (flat p k) e .train) e (t .last) ∙ z .last;
+    }
+
+    pub sound-kept : c .posts ≤ mostPosts → (k : View) → Passes c v b p k t → Sound t → Sound (moved c v b p k t)
+    sound-kept n16 k h s = record {
+      low = low-kept k h (s .low) (s .ranges .turn);
+      permits = permits-kept n16 (s .sizes) k h (s .permits);
+      sizes = sizes-kept k (s .sizes);
+      ranges = in-range-kept c b v t p k h (s .ranges);
+    }
+
+-- ## The last set or key finds no train on the track
+
+abbrev pub NoTrain : Settings → Track → Type 0
+NoTrain c t = (i : ℕ) → suc i < c .posts → getD (t .trains) i 0 ≡ 0
+
+pub all-free : (c : Settings) (b : Bool) (t : Track) (p : ℕ) → T (isLast (c .posts) (upward b (t .cvt)) p)
+    → Low c b (t .cvt) (Turn p act.Set) (t .trains) → NoTrain c t
+unfolding setCount
+all-free c b t p hr low i h =
+    let e : suc (rankOn c b (t .cvt) p) ≡ c .posts = last-rank (c .posts) (upward b (t .cvt)) p hr in
+    let l : suc (block (c .posts) (upward b (t .cvt)) i) < c .posts = block-lt (c .posts) (upward b (t .cvt)) i h in
+    rw (block-block (c .posts) (upward b (t .cvt)) i h) at (low (block (c .posts) (upward b (t .cvt)) i) (omega arith) l)
+
+-- a turn at the last post, with its act set
+pub last-free : (c : Settings) (b : Bool) (t : Track) (p : ℕ) → T (isLast (c .posts) (upward b (t .cvt)) p) → T (isTurn (t .walk) p act.Set)
+    → Low c b (t .cvt) (t .walk) (t .trains) → NoTrain c t
+last-free c b t p hr hw low =
+    all-free c b t p hr (subst (λ (w : Walk). Low c b (t .cvt) w (t .trains)) (is-turn (t .walk) p act.Set hw) low)

@@ -1,0 +1,207 @@
+-- The ranges of a track, as facts, and that every accepted step keeps them.
+use Prim.Native.Nat.{ℕ, zero, suc, _+_, _-_, _≤_, _<_}
+use mathlib.Core.Bool.{Bool, true, false, cond, not, _&&_, _||_}
+use mathlib.Core.Path.{_≡_, refl, sym, ap, ap₂, _∙_, subst}
+use mathlib.Core.Logic.{_≢_}
+use mathlib.Core.List.{List, [], _∷_}
+use native.Mathlib.Omega.{arith}
+use lib.ListN.{getD, set}
+use lib.Dec.{T, eqb, ltb, leb, eqb→eq, ltb→lt, leb→le, lt→ltb, le→leb}
+use Rattle.section.specs.declared.Settings.{Settings}
+use Rattle.section.specs.declared.Post.{Post}
+use Rattle.section.specs.declared.Act.{Act}
+use Rattle.section.specs.declared.Act.the-variants as act
+use Rattle.section.specs.declared.Walk.{Walk}
+use Rattle.section.specs.declared.Walk.the-variants.{Settled, Turn}
+use Rattle.section.specs.declared.Track.{Track}
+use Rattle.section.specs.Geometry.{upward, rank, isFirst, isLast}
+use Rattle.section.specs.Numbers.{mostSeals, largestTrain}
+use Rattle.section.specs.Post.{blank}
+use Rattle.section.specs.Range.{sealsFit, numbersFit, actFits, walkFits, trackFits}
+use Rattle.section.specs.Store.{postOn}
+use Rattle.rules.specs.declared.Site.{Site}
+use Rattle.rules.specs.declared.Movement.{Movement}
+use Rattle.rules.specs.declared.Movement.the-variants.{Stays, Enters, Moves, Leaves}
+use Rattle.rules.specs.Site.{siteOn, isTurn, atReceivingEnd, blockAhead, blockBefore}
+use Rattle.rules.specs.Table.{checks, effect, trainsAfter, lastAfter, trackAfter}
+use Rattle.rules.proofs.Facts.{and-l, and-r, and-i, neqb→ne, false-T, rank-lt, next-rank, next-lt, not-first-rank, rank-not-first, not-last-rank, rank-not-last, set-keeps, below-suc}
+use Rattle.rules.proofs.View.{order, setDevice, announce, acknowledge, key, Motion, start, pass, leave, View, walks, runs, notes, releases, flat}
+use Rattle.rules.proofs.Frame.{is-turn, calm, still, calm-effect, still-train}
+use Rattle.rules.proofs.Accept.{Passes, moved}
+
+-- ## Tests of the first m cells
+
+seals-in : (m : ℕ) (l : List Post) → T (sealsFit m l) → (p : ℕ) → p < m → getD l p blank .seals ≤ mostSeals
+unfolding sealsFit
+seals-in zero l h = λ p k. absurd (omega arith)
+seals-in (suc m) l h =
+    below-suc (λ p. getD l p blank .seals ≤ mostSeals) m (leb→le (getD l m blank .seals) mostSeals (and-l (leb (getD l m blank .seals) mostSeals) (sealsFit m l) h))
+    (seals-in m l (and-r (leb (getD l m blank .seals) mostSeals) (sealsFit m l) h))
+
+seals-out : (m : ℕ) (l : List Post) → ((p : ℕ) → p < m → getD l p blank .seals ≤ mostSeals) → T (sealsFit m l)
+unfolding sealsFit
+seals-out zero l h = tt
+seals-out (suc m) l h =
+    and-i (leb (getD l m blank .seals) mostSeals) (sealsFit m l) (le→leb (getD l m blank .seals) mostSeals (h m (omega arith))) (seals-out m l (λ p k. h p (omega arith)))
+
+numbers-in : (m : ℕ) (l : List ℕ) → T (numbersFit m l) → (i : ℕ) → i < m → getD l i 0 ≤ largestTrain
+unfolding numbersFit
+numbers-in zero l h = λ i k. absurd (omega arith)
+numbers-in (suc m) l h =
+    below-suc (λ i. getD l i 0 ≤ largestTrain) m (leb→le (getD l m 0) largestTrain (and-l (leb (getD l m 0) largestTrain) (numbersFit m l) h))
+    (numbers-in m l (and-r (leb (getD l m 0) largestTrain) (numbersFit m l) h))
+
+numbers-out : (m : ℕ) (l : List ℕ) → ((i : ℕ) → i < m → getD l i 0 ≤ largestTrain) → T (numbersFit m l)
+unfolding numbersFit
+numbers-out zero l h = tt
+numbers-out (suc m) l h =
+    and-i (leb (getD l m 0) largestTrain) (numbersFit m l) (le→leb (getD l m 0) largestTrain (h m (omega arith))) (numbers-out m l (λ i k. h i (omega arith)))
+
+module _ (c : Settings) (b : Bool) where
+  -- the rank of post p on the track
+  abbrev pub rankOn : Bool → ℕ → ℕ
+  rankOn cvt p = rank (c .posts) (upward b cvt) p
+
+  -- ## The turn
+
+  abbrev pub TurnFits : Bool → Walk → Type 0
+  TurnFits cvt Settled = Unit {0}
+  TurnFits cvt (Turn p act.Set) = p < c .posts
+  TurnFits cvt (Turn p act.Announce) = (p < c .posts) × (suc (rankOn cvt p) < c .posts)
+  TurnFits cvt (Turn p act.Acknowledge) = (p < c .posts) × (0 < rankOn cvt p)
+
+  turn-in : (cvt : Bool) (w : Walk) → T (walkFits (c .posts) (upward b cvt) w) → TurnFits cvt w
+  unfolding walkFits actFits
+  turn-in cvt Settled h = tt
+  turn-in cvt (Turn p act.Set) h = ltb→lt p (c .posts) (and-l (ltb p (c .posts)) true h)
+  turn-in cvt (Turn p act.Announce) h =
+      let p<n : p < c .posts = ltb→lt p (c .posts) (and-l (ltb p (c .posts)) (not (isLast (c .posts) (upward b cvt) p)) h) in
+      (p<n, not-last-rank (c .posts) (upward b cvt) p p<n (and-r (ltb p (c .posts)) (not (isLast (c .posts) (upward b cvt) p)) h))
+  turn-in cvt (Turn p act.Acknowledge) h = (
+    ltb→lt p (c .posts) (and-l (ltb p (c .posts)) (not (isFirst (c .posts) (upward b cvt) p)) h),
+    omega (arith, not-first-rank (c .posts) (upward b cvt) p (and-r (ltb p (c .posts)) (not (isFirst (c .posts) (upward b cvt) p)) h)),
+  )
+
+  turn-out : (cvt : Bool) (w : Walk) → TurnFits cvt w → T (walkFits (c .posts) (upward b cvt) w)
+  unfolding walkFits actFits
+  turn-out cvt Settled h = tt
+  turn-out cvt (Turn p act.Set) h = and-i (ltb p (c .posts)) true (lt→ltb p (c .posts) h) tt
+  turn-out cvt (Turn p act.Announce) h =
+      and-i (ltb p (c .posts)) (not (isLast (c .posts) (upward b cvt) p)) (lt→ltb p (c .posts) (h .0)) (rank-not-last (c .posts) (upward b cvt) p (h .1))
+  turn-out cvt (Turn p act.Acknowledge) h =
+      and-i (ltb p (c .posts)) (not (isFirst (c .posts) (upward b cvt) p)) (lt→ltb p (c .posts) (h .0)) (rank-not-first (c .posts) (upward b cvt) p (omega arith))
+
+  -- ## The track
+
+  pub record InRange (t : Track) : Type 0 where
+    pub seals : (p : ℕ) → p < c .posts → postOn t p .seals ≤ mostSeals
+    pub trains : (i : ℕ) → i < c .posts - 1 → getD (t .trains) i 0 ≤ largestTrain
+    pub last : (i : ℕ) → i < c .posts - 1 → getD (t .last) i 0 ≤ largestTrain
+    pub turn : TurnFits (t .cvt) (t .walk)
+
+  pub track-in : (t : Track) → T (trackFits (c .posts) b t) → InRange t
+  unfolding trackFits
+  track-in t h =
+      let h₁ = and-r (sealsFit (c .posts) (t .posts)) _ h in
+      let h₂ = and-r (numbersFit (c .posts - 1) (t .trains)) _ h₁ in
+      record {
+        seals = seals-in (c .posts) (t .posts) (and-l (sealsFit (c .posts) (t .posts)) _ h);
+        trains = numbers-in (c .posts - 1) (t .trains) (and-l (numbersFit (c .posts - 1) (t .trains)) _ h₁);
+        last = numbers-in (c .posts - 1) (t .last) (and-l (numbersFit (c .posts - 1) (t .last)) _ h₂);
+        turn = turn-in (t .cvt) (t .walk) (and-r (numbersFit (c .posts - 1) (t .last)) _ h₂);
+      }
+
+  pub track-out : (t : Track) → InRange t → T (trackFits (c .posts) b t)
+  unfolding trackFits
+  track-out t r =
+      and-i (sealsFit (c .posts) (t .posts)) _ (seals-out (c .posts) (t .posts) (r .seals))
+      (and-i (numbersFit (c .posts - 1) (t .trains)) _ (numbers-out (c .posts - 1) (t .trains) (r .trains))
+      (and-i (numbersFit (c .posts - 1) (t .last)) _ (numbers-out (c .posts - 1) (t .last) (r .last)) (turn-out (t .cvt) (t .walk) (r .turn))))
+
+  -- ## Kept by an accepted step
+
+  -- a number stored where a train moves
+  MovementFits : Movement → Type 0
+  MovementFits Stays = Unit {0}
+  MovementFits (Enters z) = z ≤ largestTrain
+  MovementFits (Moves z) = z ≤ largestTrain
+  MovementFits Leaves = Unit {0}
+
+  AllFit : List ℕ → Type 0
+  AllFit l = (i : ℕ) → i < c .posts - 1 → getD l i 0 ≤ largestTrain
+
+  set-fits : (l : List ℕ) (j z : ℕ) → z ≤ largestTrain → AllFit l → AllFit (set l j z)
+  unfolding AllFit
+  set-fits l j z h f i k = set-keeps (λ (w : ℕ). w ≤ largestTrain) l j i z 0 (f i k) h
+
+  trains-fit : (m : Movement) (e : Site) (l : List ℕ) → MovementFits m → AllFit l → AllFit (trainsAfter c m e l)
+  unfolding trainsAfter MovementFits
+  trains-fit Stays e l h f = f
+  trains-fit (Enters z) e l h f = set-fits l (blockAhead c e) z h f
+  trains-fit (Moves z) e l h f = set-fits (set l (blockBefore c e) 0) (blockAhead c e) z h (set-fits l (blockBefore c e) 0 (omega arith) f)
+  trains-fit Leaves e l h f = set-fits l (blockBefore c e) 0 (omega arith) f
+
+  last-fit : (m : Movement) (e : Site) (l : List ℕ) → MovementFits m → AllFit l → AllFit (lastAfter c m e l)
+  unfolding lastAfter MovementFits
+  last-fit Stays e l h f = f
+  last-fit (Enters z) e l h f = set-fits l (blockAhead c e) z h f
+  last-fit (Moves z) e l h f = set-fits l (blockAhead c e) z h f
+  last-fit Leaves e l h f = f
+
+  module _ (v : Bool) (t : Track) (p : ℕ) where
+    abbrev e : Site
+    e = siteOn v b p t
+
+    movement-fits : (k : View) → Passes c v b p k t → MovementFits (effect c (flat p k) e .train)
+    unfolding MovementFits effect flat
+    movement-fits (walks r) h = rw (still-train c p (walks r) e tt) tt
+    movement-fits (runs start z) h = h .fits .number .1
+    movement-fits (runs pass z) h = h .fits .number .1
+    movement-fits (runs leave z) h = tt
+    movement-fits (notes k) h = rw (still-train c p (notes k) e tt) tt
+    movement-fits (releases z) h = tt
+
+    -- a key is refused at 999
+    seals-fit : (k : View) → Passes c v b p k t → e .own .seals ≤ mostSeals → effect c (flat p k) e .own .seals ≤ mostSeals
+    unfolding checks effect flat
+    seals-fit (walks order) h o = o
+    seals-fit (walks setDevice) h o = o
+    seals-fit (walks announce) h o = o
+    seals-fit (walks acknowledge) h o = o
+    seals-fit (walks key) h o = omega (arith, neqb→ne (e .own .seals) mostSeals (h .held .1 .1 .1 .1 .1 .0))
+    seals-fit (runs m z) h o = rw (calm-effect c p (runs m z) e tt .seals) o
+    seals-fit (notes k) h o = rw (calm-effect c p (notes k) e tt .seals) o
+    seals-fit (releases z) h o = o
+
+    -- set or key: announce is next, unless it was at the last post
+    set-turn : (last : Bool) → isLast (c .posts) (upward b (t .cvt)) p ≡ last → p < c .posts
+        → TurnFits (cond last (not (t .cvt)) (t .cvt)) (cond last Settled (Turn p act.Announce))
+    set-turn true q p<n = tt
+    set-turn false q p<n = (p<n, not-last-rank (c .posts) (upward b (t .cvt)) p p<n (false-T (isLast (c .posts) (upward b (t .cvt)) p) q))
+
+    -- the post after the one that announces
+    pub announce-next : T (isTurn (t .walk) p act.Announce) → TurnFits (t .cvt) (t .walk) → suc (rankOn (t .cvt) p) < c .posts
+    announce-next h f = (subst (TurnFits (t .cvt)) (is-turn (t .walk) p act.Announce h) f) .1
+
+    turn-kept : (k : View) → Passes c v b p k t → TurnFits (t .cvt) (t .walk) → TurnFits (effect c (flat p k) e .cvt) (effect c (flat p k) e .walk)
+    unfolding checks effect flat
+    turn-kept (walks order) h f = h .fits .below
+    turn-kept (walks setDevice) h f = set-turn (atReceivingEnd c e) refl (h .fits .below)
+    turn-kept (walks announce) h f =
+        let n : suc (rankOn (t .cvt) p) < c .posts = announce-next (h .held .0) f in
+        (next-lt (c .posts) (upward b (t .cvt)) p (h .fits .below) n, omega (arith, next-rank (c .posts) (upward b (t .cvt)) p (h .fits .below) n))
+    turn-kept (walks acknowledge) h f = h .fits .below
+    turn-kept (walks key) h f = set-turn (atReceivingEnd c e) refl (h .fits .below)
+    turn-kept (runs m z) h f = rw (calm-effect c p (runs m z) e tt .walk, calm-effect c p (runs m z) e tt .cvt) f
+    turn-kept (notes k) h f = rw (calm-effect c p (notes k) e tt .walk, calm-effect c p (notes k) e tt .cvt) f
+    turn-kept (releases z) h f = f
+
+    pub in-range-kept : (k : View) → Passes c v b p k t → InRange t → InRange (moved c v b p k t)
+    unfolding trackAfter AllFit
+    in-range-kept k h r = record {
+      seals = λ q q<n. set-keeps (λ (o : Post). o .seals ≤ mostSeals) (t .posts) p q (effect c (flat p k) e .own) blank (r .seals q q<n)
+          (seals-fit k h (r .seals p (h .fits .below)));
+      trains = trains-fit (effect c (flat p k) e .train) e (t .trains) (movement-fits k h) (r .trains);
+      last = last-fit (effect c (flat p k) e .train) e (t .last) (movement-fits k h) (r .last);
+      turn = turn-kept k h (r .turn);
+    }

@@ -1,0 +1,165 @@
+-- The invariant of the sections that are reached from a fresh one.
+use Prim.Native.Nat.{ℕ, zero, suc, _+_, _-_, _≤_, _<_}
+use mathlib.Core.Bool.{Bool, true, false, cond, not, _&&_, _||_}
+use mathlib.Core.Path.{_≡_, refl, sym, ap, ap₂, _∙_, subst}
+use mathlib.Core.Logic.{_≢_}
+use mathlib.Core.List.{List, [], _∷_}
+use native.Mathlib.Omega.{arith}
+use native.Mathlib.Decide.{ℕ-discrete}
+use lib.ListN.{getD, set, length-set, replicate, getD-replicate}
+use lib.Seq.{getD-set-other}
+use lib.Dec.{T, eqb}
+use Rattle.section.specs.declared.Settings.{Settings}
+use Rattle.section.specs.declared.Post.{Post}
+use Rattle.section.specs.declared.Act.{Act}
+use Rattle.section.specs.declared.Act.the-variants as act
+use Rattle.section.specs.declared.Walk.{Walk}
+use Rattle.section.specs.declared.Walk.the-variants.{Settled, Turn}
+use Rattle.section.specs.declared.Track.{Track}
+use Rattle.section.specs.declared.Section.{Section}
+use Rattle.section.specs.Bytes.{within}
+use Rattle.section.specs.Fresh.{freshTrack, freshSection}
+use Rattle.section.specs.Geometry.{upward, rank}
+use Rattle.section.specs.Numbers.{leastPosts, mostPosts, mostBlocks, mostSeals, largestTrain}
+use Rattle.section.specs.Post.{blank, permitted}
+use Rattle.section.specs.Range.{trackFits, inRange}
+use Rattle.section.specs.Settings.{settingsRight}
+use Rattle.section.specs.Store.{trackOf}
+use Rattle.rules.specs.Site.{isSettled, settledOnVns, otherSettledOnVns}
+use Rattle.rules.specs.Table.{checks, effect, trackAfter}
+use Rattle.rules.specs.Indications.{setCount}
+use Rattle.rules.specs.Judge.{judge}
+use Rattle.rules.proofs.Facts.{and-l, and-r, and-i, T-true, true-T, or-right, or-swap, within→, by-track, set-keeps, replicate-keeps}
+use Rattle.rules.proofs.View.{order, setDevice, announce, acknowledge, key, View, walks, runs, notes, releases, flat, Seen, on}
+use Rattle.rules.proofs.Frame.{is-turn, is-settled, calm-effect}
+use Rattle.rules.proofs.Accept.{Passes, moved, Ok, word, next, Judged, refused, accepted, judged}
+use Rattle.rules.proofs.RangeLaw.{section-out}
+use Rattle.rules.proofs.Invariant.{Sound, sound-kept}
+use Rattle.rules.proofs.Exchange.{here-after, there-after, settings-after, calm-vns}
+
+-- the number of posts of settings in their ranges
+pub posts-right : (c : Settings) → settingsRight c ≡ true → (leastPosts ≤ c .posts) × (c .posts ≤ mostPosts)
+unfolding settingsRight
+posts-right c h = within→ leastPosts mostPosts (c .posts) (and-l (within leastPosts mostPosts (c .posts)) _ (true-T (settingsRight c) h))
+
+module _ (c : Settings) where
+  pub record Reached (s : Section) : Type 0 where
+    pub settings : s .settings ≡ c
+    pub sound : (b : Bool) → Sound c b (trackOf s b)
+    -- at most one track is not settled on VNS
+    pub single : (b : Bool) → T (settledOnVns (trackOf s b) || otherSettledOnVns s b)
+
+  -- ## Kept by every accepted step
+
+  single-kept : (v b : Bool) (p : ℕ) (k : View) (t : Track) → Passes c v b p k t → T (settledOnVns t || v) → T (settledOnVns (moved c v b p k t) || v)
+  unfolding checks trackAfter effect flat
+  single-kept v b p (walks order) t h o = go (t .cvt) (h .held .1 .1 .0) (rw (is-settled (t .walk) (h .held .0)) at o)
+    where
+      go : (d : Bool) → T (d || v) → T (not d || v) → T v
+      go true u w = w
+      go false u w = u
+  single-kept v b p (walks setDevice) t h o = or-right (settledOnVns (moved c v b p (walks setDevice) t)) v (rw (is-turn (t .walk) p act.Set (h .held .0)) at o)
+  single-kept v b p (walks announce) t h o = rw (is-turn (t .walk) p act.Announce (h .held .0)) at o
+  single-kept v b p (walks acknowledge) t h o = rw (is-turn (t .walk) p act.Acknowledge (h .held .0)) at o
+  single-kept v b p (walks key) t h o = or-right (settledOnVns (moved c v b p (walks key) t)) v (rw (is-turn (t .walk) p act.Set (h .held .0)) at o)
+  single-kept v b p (runs m z) t h o = rw (calm-vns c v b p (runs m z) t tt) o
+  single-kept v b p (notes k) t h o = rw (calm-vns c v b p (notes k) t tt) o
+  single-kept v b p (releases z) t h o = o
+
+  other-other : (s : Section) (b : Bool) → trackOf s (not (not b)) ≡ trackOf s b
+  other-other s true = refl
+  other-other s false = refl
+
+  pub reached-kept : c .posts ≤ mostPosts → (s : Section) (x : Seen) → Ok c s x → Reached s → Reached (next c s x)
+  unfolding Ok
+  reached-kept n16 s x h r = record {
+    settings = settings-after c s x ∙ r .settings;
+    sound = by-track (λ d. Sound c d (trackOf after d)) b (rw here (sound-kept c b v (trackOf s b) p n16 k h (r .sound b))) (rw there (r .sound (not b)));
+    single = by-track (λ d. T (settledOnVns (trackOf after d) || otherSettledOnVns after d)) b (rw (here, there) one)
+        (rw (other-other after b, here, there) (or-swap (settledOnVns (moved c v b p k (trackOf s b))) v one));
+  }
+    where
+      b : Bool
+      b = x .track
+
+      p : ℕ
+      p = x .post
+
+      k : View
+      k = x .kind
+
+      v : Bool
+      v = otherSettledOnVns s b
+
+      after : Section
+      after = next c s x
+
+      here : trackOf after b ≡ moved c v b p k (trackOf s b)
+      here = here-after c s b p k
+
+      there : trackOf after (not b) ≡ trackOf s (not b)
+      there = there-after c s b p k
+
+      one : T (settledOnVns (moved c v b p k (trackOf s b)) || v)
+      one = single-kept v b p k (trackOf s b) h (r .single b)
+
+  -- ## The fresh section
+
+  fresh-only : (e p : ℕ) (o : Post) → p < mostPosts → T (getD (set (replicate mostPosts blank) e o) p blank .permission) → p ≡ e
+  fresh-only e p o h t = go (ℕ-discrete p e)
+    where
+      go : Dec (p ≡ e) → p ≡ e
+      go (yes q) = q
+      go (no ne) = absurd (rw (getD-set-other (replicate mostPosts blank) e p o blank ne, getD-replicate mostPosts p blank blank h) at t)
+
+  module _ (n2 : leastPosts ≤ c .posts) (n16 : c .posts ≤ mostPosts) where
+    fresh-permits : (b : Bool) (p : ℕ) → p < c .posts → T (getD (freshTrack (c .posts) b .posts) p blank .permission) → rank (c .posts) (upward b false) p ≡ 0
+    unfolding freshTrack rank upward
+    fresh-permits false p p<n h = fresh-only 0 p (permitted true blank) (omega arith) h
+    fresh-permits true p p<n h = omega (arith, fresh-only (c .posts - 1) p (permitted true blank) (omega arith) h)
+
+    fresh-sound : (b : Bool) → Sound c b (freshTrack (c .posts) b)
+    unfolding freshTrack setCount
+    fresh-sound b = record {
+      low = λ j h k. absurd (omega arith);
+      permits = λ p p<n h. fresh-permits b p p<n h;
+      sizes = record { posts = length-set (replicate mostPosts blank) (cond b (c .posts - 1) 0) (permitted true blank); trains = refl; last = refl };
+      ranges = record {
+        seals = λ p p<n. set-keeps (λ (o : Post). o .seals ≤ mostSeals) (replicate mostPosts blank) (cond b (c .posts - 1) 0) p (permitted true blank) blank
+            (replicate-keeps (λ (o : Post). o .seals ≤ mostSeals) mostPosts p blank (omega arith)) (omega arith);
+        trains = λ i h. replicate-keeps (λ (w : ℕ). w ≤ largestTrain) mostBlocks i 0 (omega arith);
+        last = λ i h. replicate-keeps (λ (w : ℕ). w ≤ largestTrain) mostBlocks i 0 (omega arith);
+        turn = tt;
+      };
+    }
+
+    fresh-single : (b : Bool) → T (settledOnVns (trackOf (freshSection c) b) || otherSettledOnVns (freshSection c) b)
+    unfolding freshSection freshTrack
+    fresh-single true = tt
+    fresh-single false = tt
+
+    pub fresh-reached : Reached (freshSection c)
+    unfolding freshSection
+    fresh-reached = record {
+      settings = refl;
+      sound = by-track (λ d. Sound c d (trackOf (freshSection c) d)) true (fresh-sound true) (fresh-sound false);
+      single = fresh-single;
+    }
+
+  pub fresh-settled : (b : Bool) → trackOf (freshSection c) b .walk ≡ Settled
+  unfolding freshSection freshTrack
+  fresh-settled true = refl
+  fresh-settled false = refl
+
+  -- ## Judging
+
+  pub reached-in-range : settingsRight c ≡ true → (s : Section) → Reached s → inRange s ≡ true
+  reached-in-range w s r =
+      section-out s (record { settings = rw (r .settings) (true-T (settingsRight c) w); tracks = rw (r .settings) (λ b. r .sound b .ranges) })
+
+  pub reached-judge : settingsRight c ≡ true → (s : Section) (bytes : List ℕ) → Reached s → Reached (judge s bytes .section)
+  reached-judge w s bytes r = go (judged c s (r .settings) (reached-in-range w s r) bytes)
+    where
+      go : Judged c s (r .settings) (reached-in-range w s r) bytes → Reached (judge s bytes .section)
+      go (refused k e) = rw e r
+      go (accepted x d h e) = rw e (reached-kept (posts-right c w .1) s x h r)

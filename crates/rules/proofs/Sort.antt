@@ -1,0 +1,408 @@
+-- The accepted steps put in the new order: the steps of a reversal under way are held back, all else goes before them.
+use Prim.Native.Nat.{ℕ, zero, suc, _+_, _-_, _≤_, _<_}
+use mathlib.Core.Bool.{Bool, true, false, cond, not, _&&_, _||_, Bool·beq}
+use mathlib.Core.Path.{_≡_, refl, sym, ap, ap₂, _∙_, subst}
+use mathlib.Core.Logic.{_≢_, _⊎_, inl, inr}
+use mathlib.Core.List.{List, [], _∷_, _++_, append-assoc}
+use native.Mathlib.Omega.{arith}
+use native.Mathlib.Decide.{decLe}
+use lib.Dec.{T, eqb, eqb→eq}
+use Rattle.section.specs.declared.Settings.{Settings}
+use Rattle.section.specs.declared.Act.{Act}
+use Rattle.section.specs.declared.Act.the-variants as act
+use Rattle.section.specs.declared.Walk.{Walk}
+use Rattle.section.specs.declared.Walk.the-variants.{Settled, Turn}
+use Rattle.section.specs.declared.Track.{Track}
+use Rattle.section.specs.declared.Section.{Section}
+use Rattle.section.specs.Fresh.{freshSection}
+use Rattle.section.specs.Geometry.{upward, rank}
+use Rattle.section.specs.Numbers.{mostPosts}
+use Rattle.section.specs.Store.{trackOf}
+use Rattle.rules.specs.Site.{isSettled, isTurn, siteOn, otherSettledOnVns, atSendingEnd, atReceivingEnd, nextPost}
+use Rattle.rules.specs.Table.{checks, effect, trackAfter}
+use Rattle.rules.specs.Demand3.{Taken, All, keep, isOfPost, isOfTrain, isSpoken, isAnnouncement}
+use Rattle.rules.proofs.Facts.{and-l, and-r, or-false, true-T, ne→neqb, T-false, by-track, next-rank}
+use Rattle.rules.proofs.View.{Reversal, order, setDevice, announce, acknowledge, key, Motion, start, pass, leave, Condition, View, walks, runs, notes, releases, flat, post-flat, Seen, on, shown}
+use Rattle.rules.proofs.Reading.{Says}
+use Rattle.rules.proofs.Frame.{is-turn, is-settled, still, calm, onward, still-train}
+use Rattle.rules.proofs.Accept.{Passes, moved, Ok, word, next}
+use Rattle.rules.proofs.Ranges.{rankOn, announce-next}
+use Rattle.rules.proofs.Invariant.{limit, limit-turn, Low, Sound, past-limit, NoTrain, last-free}
+use Rattle.rules.proofs.Swap.{onward-facts}
+use Rattle.rules.proofs.Exchange.{here-after, there-after, calm-walk, calm-cvt, calm-walks, calm-cvts, calm-word, Exchanged, exchange-note, exchange-onward, exchange-other}
+use Rattle.rules.proofs.Reached.{Reached, fresh-settled}
+use Rattle.rules.proofs.TrainSteps.{ofTrain, train-test}
+use Rattle.rules.proofs.Lists.{all-last, all-map, keep-none, Owner, aPost, aTrain, announcers, owns, Reordered, reordered-nil, reordered-last, reordered-insert}
+use Rattle.rules.proofs.Play.{Deed, stepOf, takenOf, taken-last, taken-all, Plays, done, plays-append, plays-one, LateStep, Late, late-last, late-still, late-plays, goes-first}
+
+turn-post : (w : Walk) (p q : ℕ) (a a′ : Act) → w ≡ Turn p a → w ≡ Turn q a′ → q ≡ p
+turn-post w p q a a′ e f = cc
+
+module _ (c : Settings) where
+  -- ## What an accepted step can be
+
+  -- on a settled track: a calm one, or an order
+  settled-kind : (v b : Bool) (p : ℕ) (k : View) (t : Track) → Passes c v b p k t → t .walk ≡ Settled → T (calm k) ⊎ (k ≡ walks order)
+  unfolding checks flat
+  settled-kind v b p (walks order) t h e = inr refl
+  settled-kind v b p (walks setDevice) t h e = absurd (rw e at (h .held .0))
+  settled-kind v b p (walks announce) t h e = absurd (rw e at (h .held .0))
+  settled-kind v b p (walks acknowledge) t h e = absurd (rw e at (h .held .0))
+  settled-kind v b p (walks key) t h e = absurd (rw e at (h .held .0))
+  settled-kind v b p (runs m z) t h e = inl tt
+  settled-kind v b p (notes k) t h e = inl tt
+  settled-kind v b p (releases z) t h e = inl tt
+
+  -- at post q, on a track whose turn is at p: a train rolls on past the turn's post, a condition is noted, the turn's post does something, or
+  -- the reversal ends on an empty track
+  data Doing (v b : Bool) (t : Track) (p q : ℕ) (k : View) : Type 0 where
+    rolling : (m : Motion) (z : ℕ) → k ≡ runs m z → T (onward m) → rankOn c b (t .cvt) p < rankOn c b (t .cvt) q → Doing v b t p q k
+    noting : (n : Condition) → k ≡ notes n → Doing v b t p q k
+    turning : T (still k) → q ≡ p → (p′ : ℕ) (a′ : Act) → moved c v b q k t .walk ≡ Turn p′ a′ → moved c v b q k t .cvt ≡ t .cvt
+        → rankOn c b (t .cvt) p ≤ rankOn c b (t .cvt) p′ → Doing v b t p q k
+    closing : moved c v b q k t .walk ≡ Settled → NoTrain c t → Doing v b t p q k
+
+  module _ (v b : Bool) (n2 : 2 ≤ c .posts) (t : Track) (p : ℕ) (a : Act) (e : t .walk ≡ Turn p a) (so : Sound c b t) where
+    do-set : (q : ℕ) (k : Reversal) (last : Bool) → atReceivingEnd c (siteOn v b q t) ≡ last → T (isTurn (t .walk) q act.Set)
+        → moved c v b q (walks k) t .walk ≡ cond (atReceivingEnd c (siteOn v b q t)) Settled (Turn q act.Announce)
+        → moved c v b q (walks k) t .cvt ≡ cond (atReceivingEnd c (siteOn v b q t)) (not (t .cvt)) (t .cvt) → Doing v b t p q (walks k)
+    do-set q k true er hw ew ec =
+        closing (ew ∙ ap (λ r. cond r Settled (Turn q act.Announce)) er)
+        (last-free c b t q (true-T (atReceivingEnd c (siteOn v b q t)) er) hw (so .low))
+    do-set q k false er hw ew ec =
+        let eq : q ≡ p = turn-post (t .walk) p q a act.Set e (is-turn (t .walk) q act.Set hw) in
+        turning tt eq q act.Announce (ew ∙ ap (λ r. cond r Settled (Turn q act.Announce)) er)
+        (ec ∙ ap (λ r. cond r (not (t .cvt)) (t .cvt)) er) (omega (arith, ap (rankOn c b (t .cvt)) eq))
+
+    do-onward : (q : ℕ) (m : Motion) (z : ℕ) → T (onward m) → Passes c v b q (runs m z) t → Doing v b t p q (runs m z)
+    do-onward q m z o h =
+        let f = onward-facts c v b n2 m z q t o h in
+        let l : rankOn c b (t .cvt) p ≤ limit c b (t .cvt) (t .walk) =
+        subst (λ (w : Walk). rankOn c b (t .cvt) p ≤ limit c b (t .cvt) w) (sym e) (limit-turn c b (t .cvt) p a) in
+        let g : limit c b (t .cvt) (t .walk) < rankOn c b (t .cvt) q = past-limit c b v t q z (f .below) (f .not-first) (f .number) (f .before) (so .low) in
+        rolling m z refl o (before (rankOn c b (t .cvt) p) (limit c b (t .cvt) (t .walk)) (rankOn c b (t .cvt) q) l g)
+      where
+        before : (x y z : ℕ) → x ≤ y → y < z → x < z
+        before x y z h k = omega arith
+
+    release-turn : (q : ℕ) → T (isTurn (t .walk) q act.Set || (isSettled (t .walk) && atSendingEnd c (siteOn v b q t))) → q ≡ p
+    release-turn q h =
+        let g : T (isTurn (Turn p a) q act.Set || false) = rw e at h in
+        turn-post (Turn p a) p q a act.Set refl (is-turn (Turn p a) q act.Set (or-false (isTurn (Turn p a) q act.Set) g))
+
+    doing : (k : View) (q : ℕ) → Passes c v b q k t → Doing v b t p q k
+    unfolding checks trackAfter effect flat
+    doing (walks order) q h = absurd (rw e at (h .held .0))
+    doing (walks setDevice) q h = do-set q setDevice (atReceivingEnd c (siteOn v b q t)) refl (h .held .0) refl refl
+    doing (walks announce) q h =
+        let eq : q ≡ p = turn-post (t .walk) p q a act.Announce e (is-turn (t .walk) q act.Announce (h .held .0)) in
+        turning tt eq (nextPost c (siteOn v b q t)) act.Acknowledge refl refl
+        (omega (arith, next-rank (c .posts) (upward b (t .cvt)) q (h .fits .below) (announce-next c b v t q (h .held .0) (so .ranges .turn)), ap (rankOn c b (t .cvt)) eq))
+    doing (walks acknowledge) q h =
+        let eq : q ≡ p = turn-post (t .walk) p q a act.Acknowledge e (is-turn (t .walk) q act.Acknowledge (h .held .0)) in
+        turning tt eq q act.Set refl refl (omega (arith, ap (rankOn c b (t .cvt)) eq))
+    doing (walks key) q h = do-set q key (atReceivingEnd c (siteOn v b q t)) refl (h .held .0) refl refl
+    doing (runs start z) q h = absurd (rw e at (h .held .0))
+    doing (runs pass z) q h = do-onward q pass z tt h
+    doing (runs leave z) q h = do-onward q leave z tt h
+    doing (notes k) q h = noting k refl
+    doing (releases z) q h = turning tt (release-turn q (h .held .0)) p a e refl (omega arith)
+
+  -- ## The order so far
+
+  -- a reversal is under way: `first` is performed with no reversal, and then `late`, its steps at posts up to the turn's
+  pub record Going (s : Section) (ds : List Taken) : Type 0 where
+    pub track : Bool
+    pub post : ℕ
+    pub act : Act
+    pub first : List Taken
+    pub late : List (Deed c track)
+    pub base : Section
+    pub performed : Plays c (freshSection c) first base
+    pub rested : (b : Bool) → trackOf base b .walk ≡ Settled
+    pub held : Late c track base late s
+    pub turns : trackOf s track .walk ≡ Turn post act
+    pub under : All (λ (i : Deed c track). rankOn c track (trackOf s track .cvt) (i .post) ≤ rankOn c track (trackOf s track .cvt) post) late
+    pub kept : Reordered ds (first ++ takenOf c track late)
+
+  pub data Progress (s : Section) (ds : List Taken) : Type 0 where
+    resting : (first : List Taken) → Plays c (freshSection c) first s → Reordered ds first → ((b : Bool) → trackOf s b .walk ≡ Settled) → Progress s ds
+    going : Going s ds → Progress s ds
+
+  -- what is proved of each accepted step
+  abbrev Onward : Section → List Taken → (b : Bool) → Deed c b → Type 0
+  Onward s ds b i = Progress (next c s (stepOf c b i)) (ds ++ i .taken ∷ [])
+
+  -- ## No owner in common
+
+  post-test : (b : Bool) (i : Deed c b) (b′ : Bool) (p′ : ℕ) → isOfPost b′ p′ (i .taken) ≡ (Bool·beq b b′ && eqb (i .post) p′)
+  post-test b i b′ p′ =
+      ap₂ (λ w q. Bool·beq w b′ && eqb q p′) (sym (i .says .track-is)) (sym (i .says .fields .post-is) ∙ post-flat (i .post) (i .kind))
+
+  still-no-train : (b : Bool) (i : Deed c b) → T (still (i .kind)) → (b′ : Bool) (z : ℕ) → T (not (isOfTrain b′ z (i .taken)))
+  still-no-train b i j b′ z = rw (train-test (c .posts) (i .taken) (stepOf c b i) (i .says) b′ z) (go (i .kind) (Bool·beq b b′) j)
+    where
+      go : (k : View) (w : Bool) → T (still k) → T (not (w && ofTrain z k))
+      go (walks r) true j = tt
+      go (walks r) false j = tt
+      go (runs m y) w j = absurd j
+      go (notes k) true j = tt
+      go (notes k) false j = tt
+      go (releases y) true j = tt
+      go (releases y) false j = tt
+
+  -- a step is of another post, or of another track, than a late one
+  abbrev Apart : (b : Bool) → Deed c b → (d : Bool) → Deed c d → Type 0
+  Apart b x d i = (b′ : Bool) (p′ : ℕ) → T (isOfPost b′ p′ (x .taken)) → T (not (isOfPost b′ p′ (i .taken)))
+
+  apart-post : (b : Bool) (x i : Deed c b) → i .post ≢ x .post → Apart b x b i
+  apart-post b x i ne b′ p′ t = rw (post-test b i b′ p′) (go (Bool·beq b b′) (rw (post-test b x b′ p′) at t))
+    where
+      go : (w : Bool) → T (w && eqb (x .post) p′) → T (not (w && eqb (i .post) p′))
+      go true u = ne→neqb (i .post) p′ (λ e. ne (e ∙ sym (eqb→eq (x .post) p′ u)))
+      go false u = tt
+
+  apart-track : (b : Bool) (x : Deed c (not b)) (i : Deed c b) → Apart (not b) x b i
+  apart-track b x i b′ p′ t = rw (post-test b i b′ p′) (go b b′ (eqb (x .post) p′) (eqb (i .post) p′) (rw (post-test (not b) x b′ p′) at t))
+    where
+      go : (b b′ u w : Bool) → T (Bool·beq (not b) b′ && u) → T (not (Bool·beq b b′ && w))
+      go true true u w t = absurd t
+      go true false u w t = tt
+      go false true u w t = tt
+      go false false u w t = absurd t
+
+  module _ (s : Section) (ds : List Taken) (g : Going s ds) where
+    -- a calm step has no owner in common with the late ones
+    no-owner : (b : Bool) (x : Deed c b) → T (calm (x .kind)) → word c s (stepOf c b x) ≡ x .taken .said → All (Apart b x (g .track)) (g .late)
+        → (o : Owner) → T (owns o (x .taken)) → keep (owns o) (takenOf c (g .track) (g .late)) ≡ []
+    no-owner b x j said h (aPost b′ p′) t =
+        keep-none (isOfPost b′ p′) (takenOf c (g .track) (g .late))
+        (taken-all c (g .track) (Apart b x (g .track)) (λ d. T (not (isOfPost b′ p′ d))) (λ i f. f b′ p′ t) (g .late) h)
+    no-owner b x j said h (aTrain b′ z) t =
+        keep-none (isOfTrain b′ z) (takenOf c (g .track) (g .late))
+        (taken-all c (g .track) (λ (i : Deed c (g .track)). T (still (i .kind))) (λ d. T (not (isOfTrain b′ z d))) (λ i f. still-no-train (g .track) i f b′ z) (g .late)
+        (late-still c (g .track) (g .late) (g .base) s (g .held)))
+    no-owner b x j said h announcers t =
+        absurd (subst (λ w. T (isSpoken w)) (sym said ∙ calm-word c s b (x .post) (x .kind) j) t)
+
+    -- ## A step goes before the late ones, or is held back with them
+
+    goes-before : (b : Bool) (x : Deed c b) → T (calm (x .kind)) → word c s (stepOf c b x) ≡ x .taken .said → All (Apart b x (g .track)) (g .late)
+        → Ok c (g .base) (stepOf c b x) × Late c (g .track) (next c (g .base) (stepOf c b x)) (g .late) (next c s (stepOf c b x)) → Onward s ds b x
+    goes-before b x j said al r = going (record {
+      track = g .track;
+      post = g .post;
+      act = g .act;
+      first = g .first ++ x .taken ∷ [];
+      late = g .late;
+      base = next c (g .base) (stepOf c b x);
+      performed = plays-append c (x .taken ∷ []) (g .performed)
+          (plays-one c (g .base) b x (r .0) (calm-word c (g .base) b (x .post) (x .kind) j ∙ sym (calm-word c s b (x .post) (x .kind) j) ∙ said) ws);
+      rested = ws;
+      held = r .1;
+      turns = calm-walks c s b (x .post) (x .kind) j (g .track) ∙ g .turns;
+      under = rw (calm-cvts c s b (x .post) (x .kind) j (g .track)) (g .under);
+      kept = reordered-insert ds (g .first) (takenOf c (g .track) (g .late)) (x .taken) (no-owner b x j said al) (g .kept);
+    })
+      where
+        ws : (d : Bool) → trackOf (next c (g .base) (stepOf c b x)) d .walk ≡ Settled
+        ws d = calm-walks c (g .base) b (x .post) (x .kind) j d ∙ g .rested d
+
+    -- ranks on the track that reverses
+    abbrev rk : ℕ → ℕ
+    rk p = rankOn c (g .track) (trackOf s (g .track) .cvt) p
+
+    abbrev after : Deed c (g .track) → Track
+    after x = moved c (otherSettledOnVns s (g .track)) (g .track) (x .post) (x .kind) (trackOf s (g .track))
+
+    held-back : (x : Deed c (g .track)) → T (still (x .kind)) → Ok c s (stepOf c (g .track) x) → word c s (stepOf c (g .track) x) ≡ x .taken .said
+        → (p′ : ℕ) (a′ : Act) → after x .walk ≡ Turn p′ a′ → after x .cvt ≡ trackOf s (g .track) .cvt → rk (g .post) ≤ rk p′ → rk (x .post) ≤ rk (g .post)
+        → Onward s ds (g .track) x
+    held-back x j h said p′ a′ ew ec le ql = going (record {
+      track = g .track;
+      post = p′;
+      act = a′;
+      first = g .first;
+      late = g .late ++ x ∷ [];
+      base = g .base;
+      performed = g .performed;
+      rested = g .rested;
+      held = late-last c (g .track) (g .late) (g .base) s x (g .held) (record { ok = h; said = said; moves-none = j; cvt-kept = ed });
+      turns = ap (λ t. t .walk) (here-after c s (g .track) (x .post) (x .kind)) ∙ ew;
+      under = rw ed (all-last (λ (i : Deed c (g .track)). rk (i .post) ≤ rk p′) (g .late) x
+          (all-map (λ (i : Deed c (g .track)). rk (i .post) ≤ rk (g .post)) (λ (i : Deed c (g .track)). rk (i .post) ≤ rk p′) (g .late) (λ i u. omega arith) (g .under))
+          (omega arith));
+      kept = rw (taken-last c (g .track) (g .late) x, ← (append-assoc (g .first) (takenOf c (g .track) (g .late)) (x .taken ∷ [])))
+          (reordered-last ds (g .first ++ takenOf c (g .track) (g .late)) (x .taken) (g .kept));
+    })
+      where
+        ed : trackOf (next c s (stepOf c (g .track) x)) (g .track) .cvt ≡ trackOf s (g .track) .cvt
+        ed = ap (λ t. t .cvt) (here-after c s (g .track) (x .post) (x .kind)) ∙ ec
+
+  -- ## While one track is reversing, the other is settled on VNS
+
+  other-vns : (s : Section) (b : Bool) (p : ℕ) (a : Act) → Reached c s → trackOf s b .walk ≡ Turn p a → T (otherSettledOnVns s b)
+  other-vns s b p a r e = go (trackOf s b .walk) e (r .single b)
+    where
+      go : (w : Walk) → w ≡ Turn p a → T (isSettled w && not (trackOf s b .cvt) || otherSettledOnVns s b) → T (otherSettledOnVns s b)
+      go Settled f h = let z : _≡_ {A = ℕ} 0 1 = cc in absurd (omega arith)
+      go (Turn q a′) f h = h
+
+  other-settled : (s : Section) (b : Bool) → T (otherSettledOnVns s b) → trackOf s (not b) .walk ≡ Settled
+  other-settled s b h = is-settled (trackOf s (not b) .walk) (and-l (isSettled (trackOf s (not b) .walk)) (not (trackOf s (not b) .cvt)) h)
+
+  -- so no order is accepted there
+  no-second : (s : Section) (b : Bool) (p : ℕ) (a : Act) (q : ℕ) (k : View) → k ≡ walks order → trackOf s b .walk ≡ Turn p a → T (otherSettledOnVns s b)
+      → Ok c s (on (not b) q k) → ⊥
+  unfolding Ok checks flat
+  no-second s b p a q k ek w v h =
+      let g : Ok c s (on (not b) q (walks order)) = rw ek at h in
+      let u : T (trackOf s (not b) .cvt || otherSettledOnVns s (not b)) = g .held .1 .1 .0 in
+      refuse (trackOf s (not b) .cvt) (and-r (isSettled (trackOf s (not b) .walk)) (not (trackOf s (not b) .cvt)) v) u
+    where
+      back : (b : Bool) → trackOf s b .walk ≡ Turn p a → T (otherSettledOnVns s (not b)) → ⊥
+      back true w t = rw w at t
+      back false w t = rw w at t
+
+      refuse : (d : Bool) → T (not d) → T (d || otherSettledOnVns s (not b)) → ⊥
+      refuse true x y = x
+      refuse false x y = back b w y
+
+  -- ## Each accepted step
+
+  order-moves : (v b : Bool) (p : ℕ) (t : Track) → (moved c v b p (walks order) t .walk ≡ Turn p act.Set) × (moved c v b p (walks order) t .cvt ≡ t .cvt)
+  unfolding trackAfter effect flat
+  order-moves v b p t = (refl, refl)
+
+  module _ (n2 : 2 ≤ c .posts) (s : Section) (ds : List Taken) (r : Reached c s) where
+    module _ (g : Going s ds) where
+      abbrev Under : Deed c (g .track) → Type 0
+      Under i = rk s ds g (i .post) ≤ rk s ds g (g .post)
+
+      -- the last set or key joins first and late
+      closes : (x : Deed c (g .track)) → Ok c s (stepOf c (g .track) x) → word c s (stepOf c (g .track) x) ≡ x .taken .said
+          → after s ds g x .walk ≡ Settled → NoTrain c (trackOf s (g .track)) → Onward s ds (g .track) x
+      closes x h said ew free =
+          resting ((g .first ++ takenOf c (g .track) (g .late)) ++ x .taken ∷ [])
+          (plays-append c (x .taken ∷ [])
+          (plays-append c (takenOf c (g .track) (g .late)) (g .performed) (late-plays c (g .track) (g .late) (g .base) s (g .held) (g .rested (not (g .track))) free))
+          (plays-one c s (g .track) x h said ws))
+          (reordered-last ds (g .first ++ takenOf c (g .track) (g .late)) (x .taken) (g .kept)) ws
+        where
+          ws : (d : Bool) → trackOf (next c s (stepOf c (g .track) x)) d .walk ≡ Settled
+          ws = by-track (λ d. trackOf (next c s (stepOf c (g .track) x)) d .walk ≡ Settled) (g .track)
+              (ap (λ t. t .walk) (here-after c s (g .track) (x .post) (x .kind)) ∙ ew)
+              (ap (λ t. t .walk) (there-after c s (g .track) (x .post) (x .kind))
+              ∙ other-settled s (g .track) (other-vns s (g .track) (g .post) (g .act) r (g .turns)))
+
+      -- a step on the track that reverses
+      same-track : (x : Deed c (g .track)) → Ok c s (stepOf c (g .track) x) → word c s (stepOf c (g .track) x) ≡ x .taken .said → Onward s ds (g .track) x
+      unfolding Ok
+      same-track x h said =
+          go (doing (otherSettledOnVns s (g .track)) (g .track) n2 (trackOf s (g .track)) (g .post) (g .act) (g .turns) (r .sound (g .track)) (x .kind) (x .post) h)
+        where
+          q : ℕ
+          q = x .post
+
+          differ : rk s ds g (g .post) < rk s ds g q → (i : Deed c (g .track)) → Under i → i .post ≢ q
+          differ lt i u e = omega (arith, ap (rk s ds g) e)
+
+          before : rk s ds g (g .post) < rk s ds g q → T (calm (x .kind))
+              → ((s₀ : Section) (i : Deed c (g .track)) → Under i → LateStep c (g .track) s₀ i → Ok c (next c s₀ (stepOf c (g .track) i)) (stepOf c (g .track) x)
+              → Exchanged c s₀ (stepOf c (g .track) i) (stepOf c (g .track) x))
+              → Onward s ds (g .track) x
+          before lt j f =
+              goes-before s ds g (g .track) x j said
+              (all-map Under (Apart (g .track) x (g .track)) (g .late) (λ i u. apart-post (g .track) x i (differ lt i u)) (g .under))
+              (goes-first c (g .track) (stepOf c (g .track) x) Under j f (g .late) (g .base) s (g .under) (g .held) h)
+
+          go : Doing (otherSettledOnVns s (g .track)) (g .track) (trackOf s (g .track)) (g .post) q (x .kind) → Onward s ds (g .track) x
+          go (rolling m z e o lt) =
+              before lt (rw e tt)
+              (λ s₀ i u st. subst (λ k. Ok c (next c s₀ (stepOf c (g .track) i)) (on (g .track) q k) → Exchanged c s₀ (stepOf c (g .track) i) (on (g .track) q k)) (sym e)
+              (exchange-onward c n2 (g .track) s₀ (i .post) (i .kind) q m z o (st .moves-none) (differ lt i u) (st .cvt-kept) (st .ok)))
+          go (noting n e) = decide (decLe (rk s ds g q) (rk s ds g (g .post)))
+            where
+              decide : Dec (rk s ds g q ≤ rk s ds g (g .post)) → Onward s ds (g .track) x
+              decide (yes le) =
+                  held-back s ds g x (rw e tt) h said (g .post) (g .act)
+                  (calm-walk c (otherSettledOnVns s (g .track)) (g .track) q (x .kind) (trackOf s (g .track)) (rw e tt) ∙ g .turns)
+                  (calm-cvt c (otherSettledOnVns s (g .track)) (g .track) q (x .kind) (trackOf s (g .track)) (rw e tt)) (omega arith) le
+              decide (no nle) =
+                  before (omega arith) (rw e tt)
+                  (λ s₀ i u st. subst (λ k. Ok c (next c s₀ (stepOf c (g .track) i)) (on (g .track) q k) → Exchanged c s₀ (stepOf c (g .track) i) (on (g .track) q k)) (sym e)
+                  (exchange-note c (g .track) s₀ (i .post) (i .kind) q n (differ (omega arith) i u) (st .ok)))
+          go (turning j eq p′ a′ ew ec le) = held-back s ds g x j h said p′ a′ ew ec le (omega (arith, ap (rk s ds g) eq))
+          go (closing ew free) = closes x h said ew free
+
+      -- a step on the other track
+      other-track : (x : Deed c (not (g .track))) → Ok c s (stepOf c (not (g .track)) x) → word c s (stepOf c (not (g .track)) x) ≡ x .taken .said
+          → Onward s ds (not (g .track)) x
+      unfolding Ok
+      other-track x h said =
+          go (settled-kind (otherSettledOnVns s (not (g .track))) (not (g .track)) (x .post) (x .kind) (trackOf s (not (g .track))) h (other-settled s (g .track) vns))
+        where
+          vns : T (otherSettledOnVns s (g .track))
+          vns = other-vns s (g .track) (g .post) (g .act) r (g .turns)
+
+          go : T (calm (x .kind)) ⊎ (x .kind ≡ walks order) → Onward s ds (not (g .track)) x
+          go (inl j) =
+              goes-before s ds g (not (g .track)) x j said
+              (all-map Under (Apart (not (g .track)) x (g .track)) (g .late) (λ i u. apart-track (g .track) x i) (g .under))
+              (goes-first c (g .track) (stepOf c (not (g .track)) x) Under j
+              (λ s₀ i u st hx. exchange-other c (g .track) s₀ (i .post) (i .kind) (x .post) (x .kind) j (st .ok) hx) (g .late) (g .base) s (g .under) (g .held) h)
+          go (inr e) = absurd (no-second s (g .track) (g .post) (g .act) (x .post) (x .kind) e (g .turns) vns h)
+
+    -- an order
+    begins : (first : List Taken) → Plays c (freshSection c) first s → Reordered ds first → ((b : Bool) → trackOf s b .walk ≡ Settled)
+        → (b : Bool) (x : Deed c b) → x .kind ≡ walks order → Ok c s (stepOf c b x) → word c s (stepOf c b x) ≡ x .taken .said → Onward s ds b x
+    begins first pf kp ws b x e h said = going (record {
+      track = b;
+      post = x .post;
+      act = act.Set;
+      first = first;
+      late = x ∷ [];
+      base = s;
+      performed = pf;
+      rested = ws;
+      held = (record { ok = h; said = said; moves-none = rw e tt; cvt-kept = cvt-same }, refl);
+      turns = ap (λ t. t .walk) (here-after c s b (x .post) (x .kind)) ∙ rw e (order-moves (otherSettledOnVns s b) b (x .post) (trackOf s b) .0);
+      under = (omega arith, tt);
+      kept = reordered-last ds first (x .taken) kp;
+    })
+      where
+        cvt-same : trackOf (next c s (stepOf c b x)) b .cvt ≡ trackOf s b .cvt
+        cvt-same = ap (λ t. t .cvt) (here-after c s b (x .post) (x .kind)) ∙ rw e (order-moves (otherSettledOnVns s b) b (x .post) (trackOf s b) .1)
+
+    pub progress : (b : Bool) (x : Deed c b) → Ok c s (stepOf c b x) → word c s (stepOf c b x) ≡ x .taken .said → Progress s ds → Onward s ds b x
+    unfolding Ok
+    progress b x h said (resting first pf kp ws) = go (settled-kind (otherSettledOnVns s b) b (x .post) (x .kind) (trackOf s b) h (ws b))
+      where
+        still-settled : T (calm (x .kind)) → (d : Bool) → trackOf (next c s (stepOf c b x)) d .walk ≡ Settled
+        still-settled j d = calm-walks c s b (x .post) (x .kind) j d ∙ ws d
+
+        go : T (calm (x .kind)) ⊎ (x .kind ≡ walks order) → Onward s ds b x
+        go (inl j) =
+            resting (first ++ x .taken ∷ []) (plays-append c (x .taken ∷ []) pf (plays-one c s b x h said (still-settled j)))
+            (reordered-last ds first (x .taken) kp) (still-settled j)
+        go (inr e) = begins first pf kp ws b x e h said
+    progress b x h said (going g) =
+        by-track (λ d. (x : Deed c d) → Ok c s (stepOf c d x) → word c s (stepOf c d x) ≡ x .taken .said → Onward s ds d x) (g .track) (same-track g) (other-track g) b x h said
+
+  -- ## The new order
+
+  pub record Sorted (s : Section) (ds : List Taken) : Type 0 where
+    pub order : List Taken
+    pub plays : Plays c (freshSection c) order s
+    pub kept : Reordered ds order
+
+  -- with no reversal under way
+  pub sorted : (s : Section) (ds : List Taken) → Progress s ds → ((b : Bool) → isSettled (trackOf s b .walk) ≡ true) → Sorted s ds
+  sorted s ds (resting first pf kp ws) h = record { order = first; plays = pf; kept = kp }
+  sorted s ds (going g) h = absurd (no-turn (trackOf s (g .track) .walk) (g .turns) (h (g .track)))
+    where
+      no-turn : (w : Walk) → w ≡ Turn (g .post) (g .act) → isSettled w ≡ true → ⊥
+      no-turn w e f = true-T (isSettled (Turn (g .post) (g .act))) (rw e at f)
+
+  pub fresh-progress : Progress (freshSection c) []
+  fresh-progress = resting [] done reordered-nil (fresh-settled c)

@@ -1,0 +1,100 @@
+-- Demand 3, and that 6 is never answered along a list from fresh.
+use Prim.Native.Nat.{ℕ, _≤_}
+use mathlib.Core.Bool.{Bool, true, false, not}
+use mathlib.Core.Path.{_≡_, refl, sym, _∙_}
+use mathlib.Core.List.{List, [], _∷_, _++_}
+use Rattle.section.specs.declared.Settings.{Settings}
+use Rattle.section.specs.declared.Section.{Section}
+use Rattle.section.specs.Fresh.{freshSection}
+use Rattle.section.specs.Numbers.{leastPosts, mostPosts}
+use Rattle.section.specs.Settings.{settingsRight}
+use Rattle.section.specs.Store.{trackOf}
+use Rattle.rules.specs.Judge.{judge}
+use Rattle.rules.specs.Site.{isSettled}
+use Rattle.rules.specs.Demand3.{stateAfter, Taken, acceptedSteps, underWay, OnTrack, NewOrder, Claim, Demand3}
+use Rattle.rules.specs.RangesKept.{NeverOutOfRange}
+use Rattle.rules.proofs.View.{Seen, shown}
+use Rattle.rules.proofs.Reading.{Says}
+use Rattle.rules.proofs.Accept.{Ok, next}
+use Rattle.rules.proofs.Reached.{posts-right, Reached, reached-kept, fresh-reached, reached-in-range}
+use Rattle.rules.proofs.Along.{acceptedAs, from-fresh}
+use Rattle.rules.proofs.Fates.{RunsRight, all-runs-right}
+use Rattle.rules.proofs.Lists.{aPost, aTrain, announcers}
+use Rattle.rules.proofs.UnderWay.{Agrees, agrees-kept, fresh-agrees, under-way}
+use Rattle.rules.proofs.Play.{plays-performs}
+use Rattle.rules.proofs.Sort.{Progress, progress, fresh-progress, Sorted, sorted}
+use Rattle.rules.proofs.Starts.{one-starter}
+
+module _ (c : Settings) (right : settingsRight c ≡ true) where
+  -- ## Along the list
+
+  record Kept (s : Section) (ds : List Taken) : Type 0 where
+    reached : Reached c s
+    progress : Progress c s ds
+    agrees : Agrees c s ds
+
+  kept : (s : Section) (ds : List Taken) (x : Seen) (bytes : List ℕ) → Reached c s → Says (c .posts) bytes (shown x) → Ok c s x → Kept s ds
+      → Kept (next c s x) (ds ++ acceptedAs c s x bytes ∷ [])
+  kept s ds x bytes r says ok k = record {
+    reached = reached-kept c (posts-right c right .1) s x ok r;
+    progress = progress c (posts-right c right .0) s ds r (x .track)
+        (record { post = x .post; kind = x .kind; taken = acceptedAs c s x bytes; says = says }) ok refl (k .progress);
+    agrees = agrees-kept c (posts-right c right .0) s ds (acceptedAs c s x bytes) x says ok (k .agrees);
+  }
+
+  all-kept : (offered : List (List ℕ)) → Kept (stateAfter (freshSection c) offered) (acceptedSteps (freshSection c) offered)
+  all-kept =
+      from-fresh c right Kept kept
+      (record { reached = fresh-reached c (posts-right c right .0) (posts-right c right .1); progress = fresh-progress c; agrees = fresh-agrees c })
+
+  pub reached-throughout : (offered : List (List ℕ)) → Reached c (stateAfter (freshSection c) offered)
+  reached-throughout offered = all-kept offered .reached
+
+  pub never-out-of-range : (offered : List (List ℕ)) → NeverOutOfRange c offered
+  unfolding judge
+  never-out-of-range offered bytes = rw (reached-in-range c right (stateAfter (freshSection c) offered) (reached-throughout offered)) refl
+
+  -- ## The claim
+
+  module _ (offered : List (List ℕ)) where
+    abbrev end : Section
+    end = stateAfter (freshSection c) offered
+
+    abbrev steps : List Taken
+    steps = acceptedSteps (freshSection c) offered
+
+    on-track : (b : Bool) → OnTrack c end steps b
+    on-track b =
+        let runs : RunsRight c end steps b = all-runs-right c right offered b in
+        record {
+          fates = runs .fates;
+          one-after-another = runs .one-after-another;
+          kept = runs .kept;
+          one-starter = one-starter c right end b (reached-throughout offered);
+          walk-agrees = under-way c end steps (all-kept offered .agrees) b;
+        }
+
+    new-order : Sorted c end steps → NewOrder c steps end
+    new-order o = record {
+      order = o .order;
+      each-once = o .kept .each-once;
+      posts-in-sequence = λ b p. o .kept .in-sequence (aPost b p);
+      trains-in-sequence = λ b z. o .kept .in-sequence (aTrain b z);
+      announcements = o .kept .in-sequence announcers;
+      performs = plays-performs c right [] (fresh-reached c (posts-right c right .0) (posts-right c right .1)) (fresh-agrees c) (o .plays);
+    }
+
+    all-settled : ((b : Bool) → underWay (c .posts) b steps ≡ false) → (b : Bool) → isSettled (trackOf end b .walk) ≡ true
+    all-settled h b = go (isSettled (trackOf end b .walk)) (sym (under-way c end steps (all-kept offered .agrees) b) ∙ h b)
+      where
+        go : (w : Bool) → not w ≡ false → w ≡ true
+        go true e = refl
+        go false e = sym e
+
+-- For well-formed settings and every list of byte strings offered singly from fresh, refused and malformed ones included.
+pub demand3 : (c : Settings) → settingsRight c ≡ true → (offered : List (List ℕ)) → Demand3 c offered
+unfolding Demand3
+demand3 c right offered = record {
+  tracks = on-track c right offered;
+  reordered = λ h. new-order c right offered (sorted c _ _ (all-kept c right offered .progress) (all-settled c right offered h));
+}

@@ -1,0 +1,75 @@
+-- A train's own steps, as the statement of demand 3 reads them off the bytes, in terms of the step's view.
+use Prim.Native.Nat.{ℕ}
+use mathlib.Core.Bool.{Bool, true, false, cond, _&&_, Bool·beq}
+use mathlib.Core.Path.{_≡_, refl, sym, ap, _∙_}
+use mathlib.Core.List.{List}
+use lib.Dec.{T, eqb}
+use Rattle.section.specs.Bytes.{within}
+use Rattle.section.specs.Step.{kindOf, numberOf}
+use Rattle.rules.specs.Demand3.{Taken, kind, post, number, isOfTrain, Run, noteStep}
+use Rattle.rules.proofs.View.{order, setDevice, announce, acknowledge, key, Motion, start, pass, leave, measures, fault}
+use Rattle.rules.proofs.View.{View, walks, runs, notes, releases, flat, post-flat, Seen, shown}
+use Rattle.rules.proofs.Reading.{Says}
+use Rattle.rules.proofs.Runs.{noteMotion}
+
+-- a step of train z
+abbrev pub ofTrain : ℕ → View → Bool
+ofTrain z (walks r) = false
+ofTrain z (runs m y) = eqb y z
+ofTrain z (notes k) = false
+ofTrain z (releases y) = false
+
+-- a train's step at post p, noted in its runs
+abbrev pub noteView : View → ℕ → List Run → List Run
+noteView (walks r) p rs = rs
+noteView (runs m y) p rs = noteMotion m p rs
+noteView (notes k) p rs = rs
+noteView (releases y) p rs = rs
+
+note-kind : (p : ℕ) (m : Motion) (y : ℕ) (rs : List Run) → noteStep (kindOf (flat p (runs m y))) p rs ≡ noteMotion m p rs
+unfolding kindOf flat
+note-kind p start y rs = refl
+note-kind p pass y rs = refl
+note-kind p leave y rs = refl
+
+-- kinds 5 to 7 are the motions
+train-kind : (p z number : ℕ) (k : View) → (T (within 5 7 (kindOf (flat p k))) → numberOf (flat p k) ≡ number)
+    → (within 5 7 (kindOf (flat p k)) && eqb number z) ≡ ofTrain z k
+unfolding within kindOf numberOf flat
+train-kind p z number (walks order) e = refl
+train-kind p z number (walks setDevice) e = refl
+train-kind p z number (walks announce) e = refl
+train-kind p z number (walks acknowledge) e = refl
+train-kind p z number (walks key) e = refl
+train-kind p z number (runs start y) e = rw (e tt) refl
+train-kind p z number (runs pass y) e = rw (e tt) refl
+train-kind p z number (runs leave y) e = rw (e tt) refl
+train-kind p z number (notes (measures true)) e = refl
+train-kind p z number (notes (measures false)) e = refl
+train-kind p z number (notes (fault true f)) e = refl
+train-kind p z number (notes (fault false f)) e = refl
+train-kind p z number (releases y) e = refl
+
+module _ (n : ℕ) (d : Taken) (x : Seen) (h : Says n (d .bytes) (shown x)) where
+  post-said : post d ≡ x .post
+  post-said = sym (h .fields .post-is) ∙ post-flat (x .post) (x .kind)
+
+  pub train-test : (b : Bool) (z : ℕ) → isOfTrain b z d ≡ (Bool·beq (x .track) b && ofTrain z (x .kind))
+  train-test b z =
+      rw (← h .track-is, ← h .fields .kind-is)
+      (ap (λ w. Bool·beq (x .track) b && w) (train-kind (x .post) z (number d) (x .kind) (rw (← h .fields .kind-is) at (h .fields .number-is))))
+
+  -- one that is of no train counts for nothing
+  pub note-test : (b : Bool) (z : ℕ) (rs : List Run)
+      → cond (isOfTrain b z d) (noteStep (kind d) (post d) rs) rs ≡ cond (Bool·beq (x .track) b && ofTrain z (x .kind)) (noteView (x .kind) (x .post) rs) rs
+  note-test b z rs = rw (train-test b z, post-said, ← h .fields .kind-is) (go (x .kind) (Bool·beq (x .track) b))
+    where
+      go : (k : View) (w : Bool)
+          → cond (w && ofTrain z k) (noteStep (kindOf (flat (x .post) k)) (x .post) rs) rs ≡ cond (w && ofTrain z k) (noteView k (x .post) rs) rs
+      go (walks r) false = refl
+      go (walks r) true = refl
+      go (runs m y) w = ap (λ l. cond (w && eqb y z) l rs) (note-kind (x .post) m y rs)
+      go (notes k) false = refl
+      go (notes k) true = refl
+      go (releases y) false = refl
+      go (releases y) true = refl

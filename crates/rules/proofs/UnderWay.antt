@@ -1,0 +1,165 @@
+-- A reversal is under way, over the accepted steps, where the walk says so. What is kept names the last post of the reversal too.
+use Prim.Native.Nat.{ℕ, zero, suc, _+_, _-_, _≤_, _<_}
+use mathlib.Core.Bool.{Bool, true, false, cond, not, _&&_, _||_, Bool·beq}
+use mathlib.Core.Path.{_≡_, refl, sym, ap, ap₂, _∙_, subst}
+use mathlib.Core.Logic.{_≢_}
+use mathlib.Core.List.{List, [], _∷_, _++_}
+use mathlib.Core.Option.{Option, none, some}
+use native.Mathlib.Omega.{arith}
+use lib.Dec.{T, eqb}
+use Rattle.section.specs.declared.Settings.{Settings}
+use Rattle.section.specs.declared.Act.{Act}
+use Rattle.section.specs.declared.Act.the-variants as act
+use Rattle.section.specs.declared.Walk.{Walk}
+use Rattle.section.specs.declared.Walk.the-variants.{Settled, Turn}
+use Rattle.section.specs.declared.Track.{Track}
+use Rattle.section.specs.declared.Section.{Section}
+use Rattle.section.specs.Fresh.{freshTrack, freshSection}
+use Rattle.section.specs.Geometry.{upward, rank, isLast}
+use Rattle.section.specs.Step.{kindOf}
+use Rattle.section.specs.Store.{trackOf}
+use Rattle.rules.specs.Site.{isSettled, isTurn, siteOn, otherSettledOnVns, atReceivingEnd}
+use Rattle.rules.specs.Table.{checks, effect, trackAfter}
+use Rattle.rules.specs.Demand3.{Taken, track, post, kind, keep, otherEnd, endsAt, noteReversal, reversalFrom, runs?, underWay}
+use Rattle.rules.proofs.Facts.{T-true, T-false, true-T, false-T, eq→eqb, ne→neqb, by-track, rank-lt, rank-rank, first-rank, last-rank, not-last-rank}
+use Rattle.rules.proofs.View.{order, setDevice, announce, acknowledge, key, start, pass, leave, measures, fault, View, walks, runs, notes, releases, flat, post-flat, Seen, on, shown}
+use Rattle.rules.proofs.Reading.{Says}
+use Rattle.rules.proofs.Frame.{is-turn, is-settled, calm}
+use Rattle.rules.proofs.Accept.{Passes, moved, Ok, next}
+use Rattle.rules.proofs.Exchange.{here-after, there-after, calm-walk, calm-cvt}
+use Rattle.rules.proofs.Lists.{keep-append}
+
+-- ## The ends
+
+-- the other end post of the sending end is the receiving end
+far-post : (n : ℕ) (up : Bool) (p : ℕ) → 2 ≤ n → p < n → rank n up p ≡ 0 → otherEnd n p ≡ rank n up (n - 1)
+unfolding rank
+far-post n true p n2 p<n e = rw (T-true (eqb p 0) (eq→eqb p 0 e)) refl
+far-post n false p n2 p<n e = rw (T-false (eqb p 0) (ne→neqb p 0 (omega arith))) (omega arith)
+
+-- a post is the receiving end, or it is not that post
+is-far-post : (n : ℕ) (up : Bool) (p : ℕ) → p < n → (last : Bool) → isLast n up p ≡ last → eqb p (rank n up (n - 1)) ≡ last
+unfolding isLast
+is-far-post n up p p<n true e =
+    let q : suc (rank n up p) ≡ n = last-rank n up p (true-T (isLast n up p) e) in
+    T-true (eqb p (rank n up (n - 1))) (eq→eqb p (rank n up (n - 1)) (sym (rank-rank n up p p<n) ∙ ap (rank n up) (omega arith)))
+is-far-post n up p p<n false e =
+    T-false (eqb p (rank n up (n - 1))) (ne→neqb p (rank n up (n - 1)) (λ q. omega (arith, not-last-rank n up p p<n (false-T (isLast n up p) e), ap (rank n up) q, rank-rank n up (n - 1) (omega arith))))
+
+-- ## One more step
+
+reversal-append : (n : ℕ) (r : Option ℕ) (a b : List Taken) → reversalFrom n r (a ++ b) ≡ reversalFrom n (reversalFrom n r a) b
+reversal-append n r [] b = refl
+reversal-append n r (d ∷ a) b = reversal-append n (noteReversal n d r) a b
+
+-- a step's kind and post, noted
+abbrev noteAt : ℕ → ℕ → ℕ → Option ℕ → Option ℕ
+noteAt n k p r = cond (eqb k 1) (some (otherEnd n p)) (cond (eqb k 2 || eqb k 13) (endsAt p r) r)
+
+module _ (c : Settings) where
+  -- the last post of the reversal that runs by the walk
+  abbrev pub lastPost : Bool → Bool → Walk → Option ℕ
+  lastPost b cvt Settled = none
+  lastPost b cvt (Turn p a) = some (rank (c .posts) (upward b cvt) (c .posts - 1))
+
+  abbrev pub reversalOn : Bool → List Taken → Option ℕ
+  reversalOn b ds = reversalFrom (c .posts) none (keep (λ (d : Taken). Bool·beq (track d) b) ds)
+
+  -- the accepted steps and the section agree on what is under way
+  abbrev pub Agrees : Section → List Taken → Type 0
+  Agrees s ds = (b : Bool) → reversalOn b ds ≡ lastPost b (trackOf s b .cvt) (trackOf s b .walk)
+
+  -- ## An accepted step on its own track
+
+  module _ (n2 : 2 ≤ c .posts) (v b : Bool) (p : ℕ) (t : Track) where
+    abbrev far : ℕ
+    far = rank (c .posts) (upward b (t .cvt)) (c .posts - 1)
+
+    set-noted : (last : Bool) → isLast (c .posts) (upward b (t .cvt)) p ≡ last → p < c .posts
+        → endsAt p (some far) ≡ lastPost b (cond last (not (t .cvt)) (t .cvt)) (cond last Settled (Turn p act.Announce))
+    set-noted true e p<n = rw (is-far-post (c .posts) (upward b (t .cvt)) p p<n true e) refl
+    set-noted false e p<n = rw (is-far-post (c .posts) (upward b (t .cvt)) p p<n false e) refl
+
+    turn-last : (a : Act) (w : Walk) → T (isTurn w p a) → lastPost b (t .cvt) w ≡ some far
+    turn-last a w h = rw (is-turn w p a h) refl
+
+    calm-noted : (k : View) → T (calm k) → noteAt (c .posts) (kindOf (flat p k)) p (lastPost b (t .cvt) (t .walk)) ≡ lastPost b (t .cvt) (t .walk)
+    unfolding flat kindOf
+    calm-noted (walks r) i = absurd i
+    calm-noted (runs start z) i = refl
+    calm-noted (runs pass z) i = refl
+    calm-noted (runs leave z) i = refl
+    calm-noted (notes (measures true)) i = refl
+    calm-noted (notes (measures false)) i = refl
+    calm-noted (notes (fault true f)) i = refl
+    calm-noted (notes (fault false f)) i = refl
+    calm-noted (releases z) i = refl
+
+    calm-kept : (k : View) → T (calm k)
+        → noteAt (c .posts) (kindOf (flat p k)) p (lastPost b (t .cvt) (t .walk)) ≡ lastPost b (moved c v b p k t .cvt) (moved c v b p k t .walk)
+    calm-kept k i = rw (calm-cvt c v b p k t i, calm-walk c v b p k t i) (calm-noted k i)
+
+    noted : (k : View) → Passes c v b p k t
+        → noteAt (c .posts) (kindOf (flat p k)) p (lastPost b (t .cvt) (t .walk)) ≡ lastPost b (moved c v b p k t .cvt) (moved c v b p k t .walk)
+    unfolding checks trackAfter effect flat kindOf
+    noted (walks order) h = ap some (far-post (c .posts) (upward b (t .cvt)) p n2 (h .fits .below) (first-rank (c .posts) (upward b (t .cvt)) p (h .held .1 .0)))
+    noted (walks setDevice) h = ap (endsAt p) (turn-last act.Set (t .walk) (h .held .0)) ∙ set-noted (atReceivingEnd c (siteOn v b p t)) refl (h .fits .below)
+    noted (walks announce) h = turn-last act.Announce (t .walk) (h .held .0)
+    noted (walks acknowledge) h = turn-last act.Acknowledge (t .walk) (h .held .0)
+    noted (walks key) h = ap (endsAt p) (turn-last act.Set (t .walk) (h .held .0)) ∙ set-noted (atReceivingEnd c (siteOn v b p t)) refl (h .fits .below)
+    noted (runs m z) h = calm-kept (runs m z) tt
+    noted (notes k) h = calm-kept (notes k) tt
+    noted (releases z) h = calm-kept (releases z) tt
+
+  -- ## The section
+
+  reversal-one : (w : Bool) (d : Taken) (r : Option ℕ) → reversalFrom (c .posts) r (cond w (d ∷ []) []) ≡ cond w (noteReversal (c .posts) d r) r
+  reversal-one true d r = refl
+  reversal-one false d r = refl
+
+  reversal-last : (b : Bool) (ds : List Taken) (d : Taken)
+      → reversalOn b (ds ++ d ∷ []) ≡ cond (Bool·beq (track d) b) (noteReversal (c .posts) d (reversalOn b ds)) (reversalOn b ds)
+  reversal-last b ds d =
+      ap (reversalFrom (c .posts) none) (keep-append (λ (d : Taken). Bool·beq (track d) b) ds (d ∷ []))
+      ∙ reversal-append (c .posts) none (keep (λ (d : Taken). Bool·beq (track d) b) ds) (keep (λ (d : Taken). Bool·beq (track d) b) (d ∷ []))
+      ∙ reversal-one (Bool·beq (track d) b) d (reversalOn b ds)
+
+  beq-same : (b : Bool) → Bool·beq b b ≡ true
+  beq-same true = refl
+  beq-same false = refl
+
+  beq-other : (b : Bool) → Bool·beq b (not b) ≡ false
+  beq-other true = refl
+  beq-other false = refl
+
+  pub agrees-kept : 2 ≤ c .posts → (s : Section) (ds : List Taken) (d : Taken) (x : Seen) → Says (c .posts) (d .bytes) (shown x) → Ok c s x
+      → Agrees s ds → Agrees (next c s x) (ds ++ d ∷ [])
+  unfolding Ok
+  agrees-kept n2 s ds d x h ok a =
+      by-track (λ b. reversalOn b (ds ++ d ∷ []) ≡ lastPost b (trackOf (next c s x) b .cvt) (trackOf (next c s x) b .walk)) (x .track)
+      (reversal-last (x .track) ds d
+      ∙ ap (λ w. cond w (noteReversal (c .posts) d (reversalOn (x .track) ds)) (reversalOn (x .track) ds)) (ap (λ w. Bool·beq w (x .track)) (sym (h .track-is)) ∙ beq-same (x .track))
+      ∙ ap (λ r. noteReversal (c .posts) d r) (a (x .track))
+      ∙ ap₂ (λ k p. noteAt (c .posts) k p (lastPost (x .track) (trackOf s (x .track) .cvt) (trackOf s (x .track) .walk))) (sym (h .fields .kind-is))
+      (sym (h .fields .post-is) ∙ post-flat (x .post) (x .kind))
+      ∙ noted n2 (otherSettledOnVns s (x .track)) (x .track) (x .post) (trackOf s (x .track)) (x .kind) ok
+      ∙ sym (ap (λ t. lastPost (x .track) (t .cvt) (t .walk)) (here-after c s (x .track) (x .post) (x .kind))))
+      (reversal-last (not (x .track)) ds d
+      ∙ ap (λ w. cond w (noteReversal (c .posts) d (reversalOn (not (x .track)) ds)) (reversalOn (not (x .track)) ds)) (ap (λ w. Bool·beq w (not (x .track))) (sym (h .track-is)) ∙ beq-other (x .track))
+      ∙ a (not (x .track))
+      ∙ sym (ap (λ t. lastPost (not (x .track)) (t .cvt) (t .walk)) (there-after c s (x .track) (x .post) (x .kind))))
+
+  pub fresh-agrees : Agrees (freshSection c) []
+  unfolding freshSection freshTrack
+  fresh-agrees true = refl
+  fresh-agrees false = refl
+
+  -- ## Under way
+
+  pub under-way : (s : Section) (ds : List Taken) → Agrees s ds → (b : Bool) → underWay (c .posts) b ds ≡ not (isSettled (trackOf s b .walk))
+  unfolding underWay
+  under-way s ds a b = ap runs? (a b) ∙ go (trackOf s b .walk)
+    where
+      go : (w : Walk) → runs? (lastPost b (trackOf s b .cvt) w) ≡ not (isSettled w)
+      go Settled = refl
+      go (Turn p a) = refl
