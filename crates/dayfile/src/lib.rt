@@ -10,6 +10,8 @@ ghost use Rattle.dayfile.specs.Layout.{stepsPart};
 ghost use Rattle.dayfile.specs.Tests.{notRead, readOf, writeVerdict, writtenInto};
 use layout::MOST_STEPS;
 use layout::SETTINGS_DISTANCE;
+pub use layout::pair_bytes;
+pub use layout::pair_of;
 use section::STEP_LENGTH;
 use section::Settings;
 

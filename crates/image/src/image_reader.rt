@@ -7,8 +7,8 @@ ghost use Rattle.image.specs.Image.{imageLength, trackLength, postLength
 ghost use Rattle.image.specs.Image.{numberAt, postAt, postsFrom, numbersFrom, walkOf, trackAt, sectionOf};
 use crate::LAST_TRAINS;
 use crate::NUMBER_LENGTH;
-use crate::POSTS;
 use crate::POST_LENGTH;
+use crate::POSTS;
 use crate::TRACK_A;
 use crate::TRACK_B;
 use crate::TRAINS;
@@ -19,17 +19,11 @@ use section::Settings;
 use section::Track;
 use section::Walk;
 
-fn wide(x: u8) -> u16
-    ensures { λ r. ⌜ r ≡ x ⌝ }
-{
-    x as u16
-}
-
 pub fn number_at(bytes: &[u8], at: usize) -> u16
     requires { ⌜ at + numberLength ≤ length (now bytes) ⌝ }
     ensures { λ r. ⌜ r ≡ numberAt (now (bytes .entry)) at ⌝ }
 {
-    wide(bytes[at]) + wide(bytes[at + 1]) * 256
+    dayfile::pair_of(bytes[at], bytes[at + 1])
 }
 
 pub fn post_at(bytes: &[u8], at: usize) -> Post

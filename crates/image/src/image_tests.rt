@@ -4,8 +4,8 @@ ghost use Prim.Native.Nat.{_+_, _≤_};
 ghost use lib.ListN.{length};
 ghost use Rattle.image.specs.Image.{trackLength, postLength, postsLength, postRight, postsRight, trackRight, imageRight};
 use crate::IMAGE_LENGTH;
-use crate::POSTS;
 use crate::POST_LENGTH;
+use crate::POSTS;
 use crate::TRACK_A;
 use crate::TRACK_B;
 

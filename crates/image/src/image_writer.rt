@@ -2,7 +2,7 @@
 ghost use mathlib.Core.Path.{_≡_};
 ghost use Prim.Native.Nat.{_+_, _*_, _≤_};
 ghost use lib.ListN.{length};
-ghost use Rattle.dayfile.specs.Layout.{pairBytes, settingsBytes};
+ghost use Rattle.dayfile.specs.Layout.{settingsBytes};
 ghost use Rattle.text.specs.Text.{written};
 ghost use Rattle.image.specs.Image.{imageLength, trackLength, postsLength, numbersLength, flag, faultsByte, postImage, postsImage};
 ghost use Rattle.image.specs.Image.{numbersImage, actNumber, walkImage, trackHead, trackImage, imageOf};
@@ -30,26 +30,27 @@ pub fn faults_byte(o: Post) -> u8
     flag(o.fault1) + flag(o.fault2) * 2 + flag(o.fault3) * 4
 }
 
-pub fn pair_bytes(x: u16) -> [u8; 2]
-    ensures { λ r. ⌜ r ≡ pairBytes x ⌝ }
-{
-    [(x % 256) as u8, (x / 256 % 256) as u8]
-}
-
 pub fn post_bytes(o: Post) -> [u8; 8]
     ensures { λ r. ⌜ r ≡ postImage o ⌝ }
 {
-    let seals = pair_bytes(o.seals);
+    let seals = dayfile::pair_bytes(o.seals);
     [
-        flag(o.cvt), flag(o.permission), flag(o.measures), faults_byte(o), flag(o.mark), 0, seals[0], seals[1],
+        flag(o.cvt),
+        flag(o.permission),
+        flag(o.measures),
+        faults_byte(o),
+        flag(o.mark),
+        0,
+        seals[0],
+        seals[1],
     ]
 }
 
 pub fn settings_bytes(c: Settings) -> [u8; 8]
     ensures { λ r. ⌜ r ≡ settingsBytes c ⌝ }
 {
-    let mask = pair_bytes(c.mask);
-    let line = pair_bytes(c.line);
+    let mask = dayfile::pair_bytes(c.mask);
+    let line = dayfile::pair_bytes(c.line);
     [c.posts, c.form, mask[0], mask[1], line[0], line[1], 0, 0]
 }
 
@@ -105,7 +106,7 @@ pub fn put_numbers(buffer: &mut [u8], at: usize, numbers: [u16; 15]) -> usize
     let mut next = at;
     let mut i = 0;
     while i < 15 {
-        let bytes = pair_bytes(numbers[i]);
+        let bytes = dayfile::pair_bytes(numbers[i]);
         next = text::put_text(buffer, next, &bytes);
         i += 1;
     }

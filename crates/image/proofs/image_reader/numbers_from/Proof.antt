@@ -1,54 +1,64 @@
+-- The first i elements of the array are the first i of the image.
+use Prim.Native.Nat.{ℕ, _+_, _*_, _-_, _≤_}
+use mathlib.Core.Path.{_≡_, refl, sym, _∙_}
+use native.Mathlib.Omega.{arith}
+use denote.Ref.{now}
+use lib.ListN.{length, take, length-set}
+use lib.Seq.{take-all}
+use Rattle.image.specs.Image.{numberLength, numberAt, numbersFrom}
+use Rattle.image.proofs.Laws.{filled-more}
 use Rattle.image.proofs.image_reader.numbers_from.Statement.{statement}
 use Rattle.image.proofs.image_reader.numbers_from.Tie as tie
-use Rattle.image.proofs.image_reader.numbers_from.Reads as reads
-use Rattle.image.proofs.image_reader.numbers_from.Lts as lts
-use Rattle.image.proofs.image_reader.number_at.Reads as number-at-reads
 
 abbrev Inv-loop : tie.InvT-loop
-Inv-loop bytes at numbers₀ i₀ numbers i = ?
+Inv-loop bytes at numbers₀ i₀ numbers i = (i ≤ 15) × ((length numbers ≡ 15) × (take i numbers ≡ numbersFrom bytes at i))
 
 abbrev μ-loop : tie.MeasureT-loop
-μ-loop bytes at numbers₀ i₀ numbers i = ?
+μ-loop bytes at numbers₀ i₀ numbers i = 15 - i
 
--- src/image_reader.rt:71:5
 loop-holds : tie.Need-loop-holds Inv-loop μ-loop
-loop-holds c = ?
+unfolding numbersFrom
+loop-holds c = (omega arith, (refl, refl))
 
--- src/image_reader.rt:72:44
 mul-number-at : tie.Need-mul-number-at Inv-loop μ-loop
-mul-number-at c = ?
+mul-number-at c = omega arith
 
--- src/image_reader.rt:72:39
 add-number-at : tie.Need-add-number-at Inv-loop μ-loop
-add-number-at c = ?
+add-number-at c = omega arith
 
--- src/image_reader.rt:72:22
 number-at-requires : tie.Need-number-at-requires Inv-loop μ-loop
-number-at-requires c κs = ?
+number-at-requires c κs = omega arith
 
--- src/image_reader.rt:72:9
 mul-numbers : tie.Need-mul-numbers Inv-loop μ-loop
-mul-numbers c = ?
+mul-numbers c = omega arith
 
--- src/image_reader.rt:72:9
 array-write-numbers : tie.Need-array-write-numbers Inv-loop μ-loop
-array-write-numbers c = ?
+array-write-numbers c = omega arith
 
--- src/image_reader.rt:73:9
 add-i : tie.Need-add-i Inv-loop μ-loop
-add-i c = ?
+add-i c = omega arith
 
--- src/image_reader.rt:71:5
 loop-less : tie.Need-loop-less Inv-loop μ-loop
-loop-less c = ?
+loop-less c = omega arith
 
--- src/image_reader.rt:71:5
 loop-again : tie.Need-loop-again Inv-loop μ-loop
-loop-again c = ?
+unfolding numbersFrom
+loop-again c =
+    let a = c .before .before .loop in
+    let x = c .before .before .before .before .args in
+    let h : a .i ≤ 15 = a .inv .0 in (
+      omega arith,
+      (
+        length-set (a .numbers) (a .i) (c .number-at .result) ∙ a .inv .1 .0,
+        filled-more (λ (m : ℕ). numberAt (now (x .bytes)) (x .at + numberLength * m)) (numbersFrom (now (x .bytes)) (x .at)) (λ m. refl) (a .numbers) (a .i) (c .number-at .result) (omega arith) (a .inv .1 .1) (c .number-at .ensures),
+      ),
+    )
 
--- src/image_reader.rt:65:1
 returns : tie.Need-returns Inv-loop μ-loop
-returns c = ?
+returns c =
+    let a = c .before .loop in
+    let e : a .i ≡ 15 = omega arith in
+    sym (take-all 15 (a .numbers) (omega arith)) ∙ (rw e at (a .inv .1 .1))
 
 pub numbers-from-spec : {M : Type 1} → statement M
 numbers-from-spec =

@@ -1,59 +1,67 @@
+-- The first i elements of the array are the first i of the image.
+use Prim.Native.Nat.{ℕ, _+_, _*_, _-_, _≤_}
+use mathlib.Core.Path.{_≡_, refl, sym, _∙_}
+use native.Mathlib.Omega.{arith}
+use denote.Ref.{now}
+use lib.ListN.{length, take, length-set}
+use lib.Seq.{take-all}
+use Rattle.image.specs.Image.{postLength, postAt, postsFrom}
+use Rattle.image.proofs.Laws.{filled-more}
 use Rattle.image.proofs.image_reader.posts_from.Statement.{statement}
 use Rattle.image.proofs.image_reader.posts_from.Tie as tie
-use Rattle.image.proofs.image_reader.posts_from.Reads as reads
-use Rattle.image.proofs.image_reader.posts_from.Lts as lts
-use Rattle.image.proofs.image_reader.post_at.Reads as post-at-reads
-use Rattle.section.proofs.blank.Reads as blank-reads
 
 abbrev Inv-loop : tie.InvT-loop
-Inv-loop bytes at posts₀ i₀ posts i = ?
+Inv-loop bytes at posts₀ i₀ posts i = (i ≤ 16) × ((length posts ≡ 16) × (take i posts ≡ postsFrom bytes at i))
 
 abbrev μ-loop : tie.MeasureT-loop
-μ-loop bytes at posts₀ i₀ posts i = ?
+μ-loop bytes at posts₀ i₀ posts i = 16 - i
 
--- src/image_reader.rt:56:22
 blank-requires : tie.Need-blank-requires Inv-loop μ-loop
-blank-requires c κs = ?
+blank-requires c κs = tt
 
--- src/image_reader.rt:58:5
 loop-holds : tie.Need-loop-holds Inv-loop μ-loop
-loop-holds c = ?
+unfolding postsFrom
+loop-holds c = (omega arith, (refl, refl))
 
--- src/image_reader.rt:59:40
 mul-post-at : tie.Need-mul-post-at Inv-loop μ-loop
-mul-post-at c = ?
+mul-post-at c = omega arith
 
--- src/image_reader.rt:59:35
 add-post-at : tie.Need-add-post-at Inv-loop μ-loop
-add-post-at c = ?
+add-post-at c = omega arith
 
--- src/image_reader.rt:59:20
 post-at-requires : tie.Need-post-at-requires Inv-loop μ-loop
-post-at-requires c κs = ?
+post-at-requires c κs = omega arith
 
--- src/image_reader.rt:59:9
 mul-posts : tie.Need-mul-posts Inv-loop μ-loop
-mul-posts c = ?
+mul-posts c = omega arith
 
--- src/image_reader.rt:59:9
 array-set-from-posts : tie.Need-array-set-from-posts Inv-loop μ-loop
-array-set-from-posts c = ?
+array-set-from-posts c = omega arith
 
--- src/image_reader.rt:60:9
 add-i : tie.Need-add-i Inv-loop μ-loop
-add-i c = ?
+add-i c = omega arith
 
--- src/image_reader.rt:58:5
 loop-less : tie.Need-loop-less Inv-loop μ-loop
-loop-less c = ?
+loop-less c = omega arith
 
--- src/image_reader.rt:58:5
 loop-again : tie.Need-loop-again Inv-loop μ-loop
-loop-again c = ?
+unfolding postsFrom
+loop-again c =
+    let a = c .before .before .loop in
+    let x = c .before .before .before .before .before .args in
+    let h : a .i ≤ 16 = a .inv .0 in (
+      omega arith,
+      (
+        length-set (a .posts) (a .i) (c .post-at .result) ∙ a .inv .1 .0,
+        filled-more (λ (m : ℕ). postAt (now (x .bytes)) (x .at + postLength * m)) (postsFrom (now (x .bytes)) (x .at)) (λ m. refl) (a .posts) (a .i) (c .post-at .result) (omega arith) (a .inv .1 .1) (c .post-at .ensures),
+      ),
+    )
 
--- src/image_reader.rt:52:1
 returns : tie.Need-returns Inv-loop μ-loop
-returns c = ?
+returns c =
+    let a = c .before .loop in
+    let e : a .i ≡ 16 = omega arith in
+    sym (take-all 16 (a .posts) (omega arith)) ∙ (rw e at (a .inv .1 .1))
 
 pub posts-from-spec : {M : Type 1} → statement M
 posts-from-spec =

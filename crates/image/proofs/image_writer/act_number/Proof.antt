@@ -1,32 +1,28 @@
+use Rattle.image.specs.Image.{actNumber}
 use borrow.Author.Needs.{needs}
 use Rattle.image.proofs.image_writer.act_number.Statement.{statement}
 use Rattle.image.proofs.image_writer.act_number.Tie as tie
-use Rattle.image.proofs.image_writer.act_number.Reads as reads
-use Rattle.image.proofs.image_writer.act_number.Lts as lts
 
--- src/image_writer.rt:60:21
 enum-told : tie.Need-enum-told
 enum-told c = search needs
 
--- src/image_writer.rt:61:26
 enum-told-2 : tie.Need-enum-told-2
 enum-told-2 c = search needs
 
--- src/image_writer.rt:62:29
 enum-told-3 : tie.Need-enum-told-3
 enum-told-3 c = search needs
 
--- src/image_writer.rt:56:1
 returns : tie.Need-returns
-returns c = ?
+unfolding actNumber
+returns c = simp (c .enum-told .given .1)
 
--- src/image_writer.rt:56:1
 returns-2 : tie.Need-returns-2
-returns-2 c = ?
+unfolding actNumber
+returns-2 c = simp (c .enum-told2 .given .1)
 
--- src/image_writer.rt:56:1
 returns-3 : tie.Need-returns-3
-returns-3 c = ?
+unfolding actNumber
+returns-3 c = simp (c .enum-told3 .given .1)
 
 pub act-number-spec : {M : Type 1} → statement M
 act-number-spec =

@@ -1,15 +1,14 @@
+use Rattle.image.specs.Image.{flag}
 use Rattle.image.proofs.image_writer.flag.Statement.{statement}
 use Rattle.image.proofs.image_writer.flag.Tie as tie
-use Rattle.image.proofs.image_writer.flag.Reads as reads
-use Rattle.image.proofs.image_writer.flag.Lts as lts
 
--- src/image_writer.rt:21:1
 returns : tie.Need-returns
-returns c = ?
+unfolding flag
+returns c = rw (c .if1 .taken)
 
--- src/image_writer.rt:21:1
 returns-2 : tie.Need-returns-2
-returns-2 c = ?
+unfolding flag
+returns-2 c = rw (c .if1 .left)
 
 pub flag-spec : {M : Type 1} → statement M
 flag-spec = tie.close (tie.spec returns returns-2)

@@ -1,29 +1,24 @@
+use Rattle.image.specs.Image.{walkImage}
 use borrow.Author.Needs.{needs}
 use Rattle.image.proofs.image_writer.walk_bytes.Statement.{statement}
 use Rattle.image.proofs.image_writer.walk_bytes.Tie as tie
-use Rattle.image.proofs.image_writer.walk_bytes.Reads as reads
-use Rattle.image.proofs.image_writer.walk_bytes.Lts as lts
-use Rattle.image.proofs.image_writer.act_number.Reads as act-number-reads
 
--- src/image_writer.rt:71:26
 enum-told : tie.Need-enum-told
 enum-told c = search needs
 
--- src/image_writer.rt:72:20
 enum-known-walk : tie.Need-enum-known-walk
 enum-known-walk c = search needs
 
--- src/image_writer.rt:72:35
 act-number-requires : tie.Need-act-number-requires
 act-number-requires c κs = search needs
 
--- src/image_writer.rt:67:1
 returns : tie.Need-returns
-returns c = ?
+unfolding walkImage
+returns c = simp (c .enum-told .given .1)
 
--- src/image_writer.rt:67:1
 returns-2 : tie.Need-returns-2
-returns-2 c = ?
+unfolding walkImage
+returns-2 c = rw (c .before .before .walk .given .1, c .act-number .ensures)
 
 pub walk-bytes-spec : {M : Type 1} → statement M
 walk-bytes-spec =
