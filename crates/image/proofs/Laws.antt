@@ -1,13 +1,15 @@
 -- Laws of images: the lengths of what is written, and lists that are filled from the front.
 use Prim.Native.Nat.{ℕ, zero, suc, _+_, _*_, _-_, _<_, _≤_}
 use mathlib.Core.Bool.{Bool, true, false, _&&_}
-use mathlib.Core.List.{List, [], _∷_, _++_, append-assoc}
+use mathlib.Core.List.{List, [], _∷_, _++_, append-assoc, append-nil}
 use mathlib.Core.Path.{_≡_, refl, sym, ap, _∙_}
 use native.Mathlib.Nat.{not-suc-le-zero}
 use native.Mathlib.Numerals.{add-one, sub-one}
 use native.Mathlib.Omega.{arith}
-use lib.ListN.{length, take, set, getD, length-append}
+use lib.ListN.{length, take, drop, set, getD, length-append, drop-of-length-le}
 use lib.Seq.{take-suc-set}
+use lib.Dec.{eqb}
+use borrow.Author.Tests.{eqb-true}
 use Rattle.section.specs.declared.Post.{Post}
 use Rattle.section.specs.declared.Section.{Section}
 use Rattle.section.specs.declared.Track.{Track}
@@ -16,11 +18,12 @@ use Rattle.section.specs.declared.Walk.the-variants.{Settled, Turn}
 use Rattle.section.specs.Bytes.{byte}
 use Rattle.section.specs.Numbers.{mostPosts, mostBlocks}
 use Rattle.section.specs.Post.{blank}
+use Rattle.section.proofs.Laws.{and-left}
 use Rattle.dayfile.specs.Layout.{pairBytes, settingsBytes}
 use Rattle.text.specs.Text.{digits, written}
 use Rattle.text.proofs.Laws.{Put, put-nothing, put-then, written-length}
-use Rattle.image.specs.Image.{numberLength, postLength, postsLength, numbersLength, headLength, trackLength, imageLength, settingsLength}
-use Rattle.image.specs.Image.{flag, postImage, postsImage, numbersImage, walkImage, trackHead, trackImage, imageOf, postRight, postsRight}
+use Rattle.image.specs.Image.{trackA, trackB, numberLength, postLength, postsLength, numbersLength, headLength, trackLength, imageLength, settingsLength}
+use Rattle.image.specs.Image.{flag, postImage, postsImage, numbersImage, walkImage, trackHead, trackImage, imageOf, postRight, postsRight, trackRight, imageRight}
 
 -- ## Lengths
 
@@ -165,3 +168,16 @@ module _ (l : List ℕ) (at : ℕ) where
 
   pub goes-on : (i : ℕ) → 0 < i → postRight l (at + postLength * (i - 1)) ≡ true → postsRight l at i ≡ postsRight l at (i - 1)
   goes-on i h e = last-first i h ∙ rw e
+
+-- ## A right image is as long as what is written
+
+pub right-length : (l : List ℕ) → imageRight l ≡ true → length l ≡ imageLength
+unfolding imageRight
+right-length l e = eqb-true (length l) imageLength (and-left (eqb (length l) imageLength) (trackRight l trackA && trackRight l trackB) e)
+
+pub whole-written : (l : List ℕ) (s : Section) → length l ≡ imageLength → written l 0 (imageOf s) ≡ imageOf s
+unfolding written
+whole-written l s e =
+    let n = image-length s in
+    let past : drop (0 + length (imageOf s)) l ≡ [] = drop-of-length-le l {i = 0 + length (imageOf s)} (omega arith) in
+    ap (λ (r : List ℕ). imageOf s ++ r) past ∙ append-nil (imageOf s)
