@@ -12,6 +12,9 @@ mod post_steps;
 mod reversal_steps;
 mod train_steps;
 
+pub use conditions::is_settled;
+pub use conditions::is_turn;
+
 // The verdict of the table on a step at a site.
 pub fn verdict(
     c: Settings,

@@ -1,28 +1,17 @@
--- Laws that several proofs cite: what a test said, and the first number that fails a test.
+-- The first number that fails a test, and the first malformed step.
 use mathlib.Core.Path.{_≡_, refl, sym, _∙_, ap}
-use mathlib.Core.Bool.{Bool, true, false, not, cond, true≢false}
+use mathlib.Core.Bool.{Bool, true, false, cond, true≢false}
 use mathlib.Core.List.{List}
 use Prim.Native.Nat.{ℕ, zero, suc, _+_, _-_, _*_, _/_, _<_, _≤_}
 use native.Mathlib.Nat.{add-sub-cancel-left, not-suc-le-zero}
 use native.Mathlib.Omega.{arith}
 use lib.ListN.{length, take, drop, length-take, length-drop}
 use lib.Dec.{leb}
-use borrow.Author.Tests.{not-true, not-false, ltb-false, leb-true, leb-false, ne-eqb}
+use borrow.Author.Tests.{ltb-false, leb-true, leb-false, ne-eqb}
 use Rattle.section.specs.Numbers.{stepLength}
 use Rattle.section.specs.Step.{wellFormed, isWell, decoded}
 use Rattle.dayfile.specs.Layout.{stepAt, stepCount}
 use Rattle.dayfile.specs.Tests.{leading, wellAt, firstMalformed, someMalformed}
-
--- ## What a call said and a branch saw is so of the definition
-
-pub told : {r b v : Bool} → r ≡ b → r ≡ v → b ≡ v
-told e t = sym e ∙ t
-
-pub told-not : {r b : Bool} → r ≡ b → not r ≡ true → b ≡ false
-told-not {r} e t = sym e ∙ not-true r t
-
-pub told-yes : {r b : Bool} → r ≡ b → not r ≡ false → b ≡ true
-told-yes {r} e t = sym e ∙ not-false r t
 
 -- ## The first number that fails a test
 

@@ -1,5 +1,5 @@
 -- Numbers and their bytes, both ways, and a list by its bytes.
-use mathlib.Core.Path.{_≡_, refl, sym, _∙_, ap}
+use mathlib.Core.Path.{_≡_, _∙_, ap}
 use mathlib.Core.List.{List, [], _∷_}
 use Prim.Native.Nat.{ℕ, zero, suc, _+_, _*_, _/_, _%_, _<_}
 use native.Mathlib.Nat.{div-div-eq-div-mul, add-mul-mod-self-right, add-mul-div-right, mod-eq-of-lt, div-eq-of-lt}

@@ -2,22 +2,21 @@
 use mathlib.Core.Path.{_≡_, refl, sym, _∙_, ap}
 use mathlib.Core.Bool.{Bool, true, false, _&&_, false≢true}
 use mathlib.Core.List.{List, [], _∷_, _++_, append-assoc}
-use Prim.Native.Nat.{ℕ, zero, suc, _+_, _-_, _*_, _/_, _%_, _^_, _<_, _≤_}
+use Prim.Native.Nat.{ℕ, zero, suc, _+_, _-_, _*_, _/_, _^_, _<_, _≤_}
 use native.Mathlib.Nat.{div-lt-iff-lt-mul, pow-le-pow-right}
 use native.Mathlib.Omega.{arith}
 use lib.Pow.{pow-pos}
 use lib.Dec.{eqb, leb}
 use lib.ListN.{length, take, drop, length-append, take-append-drop}
-use lib.Seq.{drop-drop, getD-drop, getD-take, take-at, drop-at}
+use lib.Seq.{drop-drop, getD-drop, take-at, drop-at}
 use borrow.Author.Tests.{eqb-true, eq-eqb, leb-true}
 use Rattle.section.specs.declared.Settings.{Settings}
 use Rattle.section.specs.Bytes.{byte, pair, within, AllBytes}
 use Rattle.section.specs.Numbers.{leastPosts, mostPosts, largestLine}
 use Rattle.section.specs.Settings.{bit, noneFrom, settingsRight}
 use Rattle.dayfile.specs.Layout.{mostSteps, settingsLength, trailerLength, settingsDistance, stepsDistance, mark, pairBytes, four, fourBytes, fourAt, settingsBytes, trailer, fromEnd, trailerIn, settingsIn, stepsIn, settingsOf}
-use Rattle.dayfile.specs.Tests.{markRight, trailerRight, settingsBytesRight}
+use Rattle.dayfile.specs.Tests.{markRight, trailerRight, zerosRight, settingsBytesRight}
 use Rattle.dayfile.proofs.Numbers.{pair-number, four-number, pair-bytes, four-bytes, listed}
-use Rattle.dayfile.proofs.Reader.{trailer-length, settings-length}
 
 pub both : (a b : Bool) → a && b ≡ true → (a ≡ true) × (b ≡ true)
 both true b e = (refl, e)
@@ -25,8 +24,8 @@ both false b e = absurd (false≢true e)
 
 -- ## Settings
 
-zeros-written : (c : Settings) → eqb (pair (byte (settingsBytes c) 6) (byte (settingsBytes c) 7)) 0 ≡ true
-unfolding settingsBytes pairBytes pair
+zeros-written : (c : Settings) → zerosRight (settingsBytes c) ≡ true
+unfolding zerosRight settingsBytes pairBytes pair
 zeros-written c = refl
 
 module _ (c : Settings) (e : settingsRight c ≡ true) where
@@ -59,17 +58,15 @@ module _ (s : List ℕ) (l : length s ≡ settingsLength) (bytes : AllBytes s) (
   unfolding settingsBytesRight
   settings-right = both (settingsRight (settingsOf s)) _ e .0
 
-  zeros-are : pair (byte s 6) (byte s 7) ≡ 0
-  unfolding settingsBytesRight
-  zeros-are = eqb-true _ _ (both (settingsRight (settingsOf s)) (eqb (pair (byte s 6) (byte s 7)) 0) e .1)
+  zeros-are : (byte s 6 ≡ 0) × (byte s 7 ≡ 0)
+  unfolding settingsBytesRight zerosRight pair
+  zeros-are = let z = both (settingsRight (settingsOf s)) (zerosRight s) e .1 in (omega (arith, eqb-true), omega (arith, eqb-true))
 
   pub settings-bytes : settingsBytes (settingsOf s) ≡ s
-  unfolding settingsBytes settingsOf pair
+  unfolding settingsBytes settingsOf
   settings-bytes =
-      let z₆ : byte s 6 ≡ 0 = omega (arith, zeros-are) in
-      let z₇ : byte s 7 ≡ 0 = omega (arith, zeros-are) in
       rw (pair-bytes (byte s 2) (byte s 3) (bytes 2) (bytes 3), pair-bytes (byte s 4) (byte s 5) (bytes 4) (bytes 5))
-      (sym (listed 8 0 s l ∙ rw (z₆, z₇)))
+      (sym (listed 8 0 s l ∙ rw (zeros-are .0, zeros-are .1)))
 
 -- ## The trailer
 
@@ -89,7 +86,8 @@ module _ (count : ℕ) (t : List ℕ) (l : length t ≡ trailerLength) (bytes : 
   number-bytes : (i x : ℕ) → fourAt t i ≡ x → fourBytes x ≡ byte t i ∷ byte t (i + 1) ∷ byte t (i + 2) ∷ byte t (i + 3) ∷ []
   unfolding fourAt
   number-bytes i x q =
-      ap fourBytes (sym q) ∙ four-bytes (byte t i) (byte t (i + 1)) (bytes i) (bytes (i + 1)) (byte t (i + 2)) (byte t (i + 3)) (bytes (i + 2)) (bytes (i + 3))
+      ap fourBytes (sym q)
+      ∙ four-bytes (byte t i) (byte t (i + 1)) (bytes i) (bytes (i + 1)) (byte t (i + 2)) (byte t (i + 3)) (bytes (i + 2)) (bytes (i + 3))
 
   mark-bytes : markRight t ≡ true → mark ≡ byte t 0 ∷ byte t 1 ∷ byte t 2 ∷ byte t 3 ∷ []
   unfolding markRight

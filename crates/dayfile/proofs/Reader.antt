@@ -1,16 +1,19 @@
 -- The reader's answers, each by the tests that lead to it.
-use mathlib.Core.Path.{_≡_, refl, sym, _∙_}
+use mathlib.Core.Path.{_≡_, refl}
 use mathlib.Core.Bool.{Bool, true, false, not, cond, _||_, true≢false}
 use mathlib.Core.List.{List}
-use Prim.Native.Nat.{ℕ, _+_, _-_, _%_, _<_, _≤_}
+use Prim.Native.Nat.{ℕ, _-_, _%_, _<_, _≤_}
 use native.Mathlib.Omega.{arith}
-use lib.ListN.{length, take, drop, length-take, length-drop}
+use lib.ListN.{length, drop, length-drop}
 use lib.Seq.{length-take-le}
-use lib.Dec.{ltb, eqb}
+use lib.Dec.{ltb}
 use borrow.Author.Tests.{ltb-false, eqb-true, not-false, lt-ltb, le-ltb, eq-eqb}
+use Rattle.section.specs.declared.Settings.{Settings}
 use Rattle.section.specs.Numbers.{stepLength}
-use Rattle.dayfile.specs.Layout.{mostSteps, settingsLength, trailerLength, settingsDistance, longestFile, stepCount, fromEnd, trailerIn, settingsIn, stepsIn, settingsOf}
-use Rattle.dayfile.specs.Tests.{lengthWrong, trailerRight, settingsBytesRight, someMalformed, firstMalformed, readNumber, readVerdict, notRead, readOf}
+use Rattle.dayfile.specs.Layout.{mostSteps, settingsLength, trailerLength, settingsDistance, longestFile, stepCount, fromEnd}
+use Rattle.dayfile.specs.Layout.{trailerIn, settingsIn, stepsIn, settingsOf}
+use Rattle.dayfile.specs.Tests.{lengthWrong, trailerRight, settingsBytesRight, someMalformed, firstMalformed, refusalNumber}
+use Rattle.dayfile.specs.Tests.{readVerdict, notRead, readOf}
 use Rattle.dayfile.specs.declared.Reading.the-variants.{Day, Refused}
 use Rattle.dayfile.specs.declared.ReadAnswer.{ReadAnswer}
 
@@ -59,37 +62,34 @@ pub few-steps : (file : List ℕ) → LengthRight (length file) → stepCount (s
 unfolding stepCount
 few-steps file h = omega (arith, steps-length file (h .least), h .most, h .whole)
 
--- ## The answers
+-- ## The answers, of the parts that the calls handed over
 
-module _ (file : List ℕ) where
-  pub answer-1 : lengthWrong (length file) ≡ true → notRead 1 0 ≡ readOf file
-  unfolding readOf readVerdict readNumber notRead
-  answer-1 e = rw e
+pub answer-1 : (file : List ℕ) → lengthWrong (length file) ≡ true → notRead 1 0 ≡ readOf file
+unfolding readOf readVerdict refusalNumber notRead
+answer-1 file e = rw e
 
-  module _ (e₁ : lengthWrong (length file) ≡ false) where
-    pub answer-2 : trailerRight (stepCount (stepsIn file)) (trailerIn file) ≡ false → notRead 2 0 ≡ readOf file
-    unfolding readOf readVerdict readNumber notRead
-    answer-2 e = rw (e₁, e)
+module _
+    (file steps t : List ℕ) (count : ℕ) (es : steps ≡ stepsIn file) (ec : count ≡ stepCount steps) (et : t ≡ trailerIn file)
+    (e₁ : lengthWrong (length file) ≡ false) where
+  pub answer-2 : trailerRight count t ≡ false → notRead 2 0 ≡ readOf file
+  unfolding readOf readVerdict refusalNumber notRead
+  answer-2 e₂ = rw (e₁, ← es, ← ec, ← et, e₂)
 
-    module _ (e₂ : trailerRight (stepCount (stepsIn file)) (trailerIn file) ≡ true) where
-      pub answer-3 : settingsBytesRight (settingsIn file) ≡ false → notRead 3 0 ≡ readOf file
-      unfolding readOf readVerdict readNumber notRead
-      answer-3 e = rw (e₁, e₂, e)
+  module _ (e₂ : trailerRight count t ≡ true) (s : List ℕ) (eb : s ≡ settingsIn file) where
+    pub answer-3 : settingsBytesRight s ≡ false → notRead 3 0 ≡ readOf file
+    unfolding readOf readVerdict refusalNumber notRead
+    answer-3 e₃ = rw (e₁, ← es, ← ec, ← et, e₂, ← eb, e₃)
 
-      module _ (e₃ : settingsBytesRight (settingsIn file) ≡ true) where
-        pub answer-4 :
-            firstMalformed (settingsOf (settingsIn file) .posts) (stepsIn file) < stepCount (stepsIn file) →
-            notRead 4 (firstMalformed (settingsOf (settingsIn file) .posts) (stepsIn file)) ≡ readOf file
-        unfolding readOf readVerdict readNumber notRead someMalformed
-        answer-4 h = rw (e₁, e₂, e₃, lt-ltb _ _ h)
+    module _
+        (e₃ : settingsBytesRight s ≡ true) (c : Settings) (first : ℕ) (eo : c ≡ settingsOf s)
+        (ef : first ≡ firstMalformed (c .posts) steps) where
+      pub answer-4 : first < count → notRead 4 first ≡ readOf file
+      unfolding readOf readVerdict refusalNumber notRead someMalformed
+      answer-4 h = rw (e₁, ← es, ← ec, ← et, e₂, ← eb, e₃, ← eo, ← ef, lt-ltb _ _ h)
 
-        pub answer-day :
-            stepCount (stepsIn file) ≤ firstMalformed (settingsOf (settingsIn file) .posts) (stepsIn file) →
-            _≡_ {A = ReadAnswer}
-            (record { reading = Day (stepCount (stepsIn file)); settings = settingsOf (settingsIn file) })
-            (readOf file)
-        unfolding readOf readVerdict readNumber someMalformed
-        answer-day h = rw (e₁, e₂, e₃, le-ltb _ _ h)
+      pub answer-day : count ≤ first → _≡_ {A = ReadAnswer} (record { reading = Day count; settings = c }) (readOf file)
+      unfolding readOf readVerdict refusalNumber someMalformed
+      answer-day h = rw (e₁, ← es, ← ec, ← et, e₂, ← eb, e₃, ← eo, ← ef, le-ltb _ _ h)
 
 -- ## A file that is read
 

@@ -1,39 +1,39 @@
 -- The promises of specs/RoundTrip.antt. A file's parts determine it, and the bytes of its numbers determine them.
+use mathlib.Core.Bool.{Bool, true, false, not, cond, _||_}
 use mathlib.Core.Path.{_≡_, refl, sym, _∙_, ap}
-use mathlib.Core.Bool.{true, false}
 use mathlib.Core.List.{List, _++_}
-use Prim.Native.Nat.{ℕ, _+_, _-_, _*_, _<_, _≤_}
+use Prim.Native.Nat.{ℕ, _-_, _*_, _≤_}
 use native.Mathlib.Omega.{arith}
-use lib.ListN.{length, take, drop, length-append}
+use lib.Dec.{ltb}
+use lib.ListN.{length, drop, length-append}
+use lib.Seq.{take-at}
 use borrow.Author.Tests.{ltb-false, le-ltb}
 use Rattle.section.specs.declared.Settings.{Settings}
 use Rattle.section.specs.Bytes.{AllBytes}
 use Rattle.section.specs.Numbers.{stepLength}
-use Rattle.dayfile.specs.Layout.{mostSteps, settingsDistance, stepsDistance, pairBytes, fourBytes, settingsBytes, trailer, stepCount, fileOf, trailerIn, settingsIn, stepsIn, settingsOf, stepsPart}
-use Rattle.dayfile.specs.Tests.{trailerRight, settingsBytesRight, someMalformed, firstMalformed, readNumber, readVerdict, readOf, writeVerdict, writeNumber, writtenInto}
-use Rattle.dayfile.specs.declared.Reading.the-variants.{Day}
-use Rattle.dayfile.specs.declared.Written.the-variants.{Bytes}
-use Rattle.dayfile.specs.RoundTrip.{ReadsWhatIsWritten, WritesWhatIsRead, MeansOneThing, GivesItsSteps}
+use Rattle.section.specs.Settings.{settingsRight}
+use Rattle.dayfile.specs.Tests.{lengthWrong, trailerRight, settingsBytesRight}
+use Rattle.dayfile.specs.Layout.{mostSteps, settingsDistance, stepsDistance, settingsBytes, trailer, stepCount, fileOf, trailerIn}
+use Rattle.dayfile.specs.Layout.{settingsIn, stepsIn, settingsOf, stepsPart}
+use Rattle.dayfile.specs.Tests.{refusalIndex, writerRefusalIndex, someMalformed, firstMalformed, refusalNumber, readVerdict, readOf}
+use Rattle.dayfile.specs.Tests.{writeVerdict, writerRefusalNumber, writtenInto}
+use Rattle.dayfile.specs.declared.Reading.the-variants.{Day, Refused}
+use Rattle.dayfile.specs.declared.Written.the-variants.{Bytes, Refused as NotWritten}
+use Rattle.dayfile.specs.RoundTrip.{ReadsWhatIsWritten, WritesWhatIsRead, MeansOneThing, GivesItsSteps, IndexOnlyForFour}
 use Rattle.dayfile.proofs.Laws.{all-whole}
-use Rattle.dayfile.proofs.Parts.{settings-said, settings-bytes-right, settings-right, settings-bytes, trailer-right, trailer-bytes, steps-of, settings-of, trailer-of, of-its-parts, trailer-all-bytes, settings-all-bytes}
-use Rattle.dayfile.proofs.Reader.{LengthRight, not-wrong, trailer-length, settings-length, steps-length, few-steps, answer-day, DayRead, day-read}
-use Rattle.dayfile.proofs.Writer.{tail-length, BytesWritten, bytes-written}
+use Rattle.dayfile.proofs.Parts.{settings-said, settings-bytes-right, settings-right, settings-bytes, trailer-right, trailer-bytes}
+use Rattle.dayfile.proofs.Parts.{steps-of, settings-of, trailer-of, of-its-parts, trailer-all-bytes, settings-all-bytes}
+use Rattle.dayfile.proofs.Reader.{LengthRight, not-wrong, trailer-length, settings-length, steps-length, few-steps, answer-day}
+use Rattle.dayfile.proofs.Reader.{DayRead, day-read}
+use Rattle.dayfile.proofs.Writer.{settings-long, trailer-long, BytesWritten, bytes-written}
 
 -- ## What is written is read back
 
-settings-long : (c : Settings) → length (settingsBytes c) ≡ 8
-unfolding settingsBytes pairBytes
-settings-long c = refl
-
-trailer-long : (count : ℕ) → length (trailer count) ≡ 16
-unfolding trailer fourBytes
-trailer-long count = refl
-
-module _ (c : Settings) (steps : List ℕ) (w : BytesWritten c steps) where
+module _ (c : Settings) (steps : List ℕ) (written : ℕ) (w : BytesWritten c steps written) where
   file-length : length (fileOf c steps) ≡ stepsDistance (stepCount steps)
   unfolding fileOf
   file-length =
-      rw length-append (omega (arith, tail-length c (stepCount steps), all-whole (c .posts) steps (w .steps-well)))
+      rw (length-append, length-append, settings-long, trailer-long) (omega (arith, all-whole (c .posts) steps (w .steps-well)))
 
   file-length-right : LengthRight (length (fileOf c steps))
   file-length-right =
@@ -52,13 +52,6 @@ module _ (c : Settings) (steps : List ℕ) (w : BytesWritten c steps) where
   unfolding fileOf
   trailer-back = trailer-of steps (settingsBytes c) (trailer (stepCount steps)) (settings-long c) (trailer-long (stepCount steps))
 
-  said-back : settingsOf (settingsIn (fileOf c steps)) ≡ c
-  said-back = ap settingsOf settings-back ∙ settings-said c (w .settings-well)
-
-  first-back :
-      firstMalformed (settingsOf (settingsIn (fileOf c steps)) .posts) (stepsIn (fileOf c steps)) ≡ firstMalformed (c .posts) steps
-  first-back = rw (said-back, steps-back)
-
   none-malformed : stepCount steps ≤ firstMalformed (c .posts) steps
   unfolding someMalformed
   none-malformed = ltb-false _ _ (w .steps-well)
@@ -66,19 +59,23 @@ module _ (c : Settings) (steps : List ℕ) (w : BytesWritten c steps) where
   read-back : readOf (fileOf c steps) ≡ record { reading = Day (stepCount steps); settings = c }
   read-back =
       sym
-      (answer-day (fileOf c steps) (not-wrong _ file-length-right)
-      (rw (steps-back, trailer-back) (trailer-right (stepCount steps) (w .few)))
-      (rw settings-back (settings-bytes-right c (w .settings-well)))
-      (rw (steps-back, said-back) none-malformed))
-      ∙ rw (steps-back, said-back)
+      (answer-day (fileOf c steps) steps (trailer (stepCount steps)) (stepCount steps) (sym steps-back) refl (sym trailer-back)
+      (not-wrong _ file-length-right) (trailer-right (stepCount steps) (w .few)) (settingsBytes c) (sym settings-back)
+      (settings-bytes-right c (w .settings-well)) c (firstMalformed (c .posts) steps) (sym (settings-said c (w .settings-well))) refl
+      none-malformed)
 
 pub reads-what-is-written : ReadsWhatIsWritten
-reads-what-is-written c steps room written e = let w = bytes-written c steps room written e in (read-back c steps w, steps-back c steps w)
+unfolding writtenInto writerRefusalNumber
+reads-what-is-written c steps buffer written e =
+    let w = bytes-written c steps (length buffer) written e in (
+      rw e (take-at (fileOf c steps) (drop (length (fileOf c steps)) buffer) written (file-length c steps written w ∙ w .counted)),
+      (read-back c steps written w, steps-back c steps written w),
+    )
 
 -- ## What is read is written back
 
 read-settings : (file : List ℕ) (count : ℕ) → readVerdict file ≡ Day count → readOf file .settings ≡ settingsOf (settingsIn file)
-unfolding readOf readNumber
+unfolding readOf refusalNumber
 read-settings file count e = rw e
 
 same-length : (file : List ℕ) (count : ℕ) → DayRead file count → stepsDistance (stepCount (stepsIn file)) ≡ length file
@@ -111,7 +108,7 @@ module _ (file : List ℕ) (count : ℕ) (bytes : AllBytes file) (d : DayRead fi
 
     same-buffer :
         writtenInto (settingsOf (settingsIn file)) (stepsIn file) buffer ≡ file ++ drop (length file) buffer
-    unfolding writtenInto writeNumber
+    unfolding writtenInto writerRefusalNumber
     same-buffer = rw (same-verdict, same-file)
 
 pub writes-what-is-read : WritesWhatIsRead
@@ -142,3 +139,39 @@ unfolding readOf
 gives-its-steps file count e =
     let d = day-read file count e in
     steps-part file count (ap stepsDistance (sym (d .counted)) ∙ same-length file count d)
+
+-- ## The index
+
+reader-index :
+    (a b c d : Bool) (i n : ℕ) →
+    (refusalNumber (cond a (Refused 1 0) (cond b (Refused 2 0) (cond c (Refused 3 0) (cond d (Refused 4 i) (Day n))))) ≡ 4 → ⊥) →
+    refusalIndex (cond a (Refused 1 0) (cond b (Refused 2 0) (cond c (Refused 3 0) (cond d (Refused 4 i) (Day n))))) ≡ 0
+unfolding refusalNumber refusalIndex
+reader-index true b c d i n h = refl
+reader-index false true c d i n h = refl
+reader-index false false true d i n h = refl
+reader-index false false false true i n h = absurd (h refl)
+reader-index false false false false i n h = refl
+
+writer-index :
+    (a b c : Bool) (i n : ℕ) →
+    (writerRefusalNumber (cond a (NotWritten 3 0) (cond b (NotWritten 4 i) (cond c (NotWritten 5 0) (Bytes n)))) ≡ 4 → ⊥) →
+    writerRefusalIndex (cond a (NotWritten 3 0) (cond b (NotWritten 4 i) (cond c (NotWritten 5 0) (Bytes n)))) ≡ 0
+unfolding writerRefusalNumber writerRefusalIndex
+writer-index true b c i n h = refl
+writer-index false true c i n h = absurd (h refl)
+writer-index false false true i n h = refl
+writer-index false false false i n h = refl
+
+pub index-only-for-four : IndexOnlyForFour
+unfolding readVerdict writeVerdict
+index-only-for-four = (
+  λ file.
+      reader-index (lengthWrong (length file)) (not (trailerRight (stepCount (stepsIn file)) (trailerIn file)))
+      (not (settingsBytesRight (settingsIn file))) (someMalformed (settingsOf (settingsIn file) .posts) (stepsIn file))
+      (firstMalformed (settingsOf (settingsIn file) .posts) (stepsIn file)) (stepCount (stepsIn file)),
+  λ c steps room.
+      writer-index (not (settingsRight c)) (someMalformed (c .posts) steps)
+      (ltb mostSteps (stepCount steps) || ltb room (stepsDistance (stepCount steps))) (firstMalformed (c .posts) steps)
+      (stepsDistance (stepCount steps)),
+)

@@ -1,25 +1,36 @@
--- The writer's answers with the buffer afterwards, each by the tests that lead to it; two parts of a buffer, written one after the other.
+-- The writer's answers with the buffer afterwards, each by the tests that lead to it; parts of a buffer, written one after the other.
 use mathlib.Core.Path.{_≡_, refl, sym, _∙_, ap}
-use mathlib.Core.Bool.{Bool, true, false, not, _||_}
+use mathlib.Core.Bool.{true, false, not, _||_}
 use mathlib.Core.List.{List, [], _∷_, _++_, append-nil, append-assoc}
 use Prim.Native.Nat.{ℕ, _+_, _-_, _*_, _<_, _≤_}
-use native.Mathlib.Nat.{add-sub-cancel-left}
+use native.Mathlib.Nat.{add-sub-cancel-left, add-assoc}
 use native.Mathlib.Omega.{arith}
 use lib.ListN.{length, take, drop, length-drop, length-append}
-use lib.Seq.{length-take-le, take-length, drop-length, take-append-seam, drop-append-seam, drop-drop}
+use lib.Seq.{length-take-le, take-length, drop-length, take-append-seam, drop-append-add, drop-drop}
 use lib.Dec.{eqb, ltb}
 use borrow.Author.Tests.{lt-ltb, le-ltb, ltb-false, not-false}
 use Rattle.section.specs.declared.Settings.{Settings}
 use Rattle.section.specs.Settings.{settingsRight}
 use Rattle.section.specs.Bytes.{byte}
 use Rattle.section.specs.Numbers.{stepLength}
-use Rattle.dayfile.specs.Layout.{mostSteps, settingsDistance, stepsDistance, mark, pairBytes, fourBytes, settingsBytes, trailer, stepCount, fileOf}
-use Rattle.dayfile.specs.Tests.{firstMalformed, someMalformed, writeNumber, writeVerdict, writtenInto}
+use Rattle.dayfile.specs.Layout.{mostSteps, settingsLength, trailerLength, settingsDistance, stepsDistance, mark, pairBytes}
+use Rattle.dayfile.specs.Layout.{fourBytes, settingsBytes, trailer, stepCount, fileOf}
+use Rattle.dayfile.specs.Tests.{firstMalformed, someMalformed, writerRefusalNumber, writeVerdict, writtenInto}
 use Rattle.dayfile.proofs.Reader.{neither, past}
 use Rattle.dayfile.specs.declared.Written.{Written}
 use Rattle.dayfile.specs.declared.Written.the-variants.{Bytes, Refused}
 
--- ## Two parts of a buffer
+-- ## Lengths
+
+pub settings-long : (c : Settings) → length (settingsBytes c) ≡ settingsLength
+unfolding settingsBytes pairBytes
+settings-long c = refl
+
+pub trailer-long : (count : ℕ) → length (trailer count) ≡ trailerLength
+unfolding trailer fourBytes
+trailer-long count = refl
+
+-- ## Parts of a buffer
 
 -- a source as long as the part that it is copied to fills the part
 filled : (s d : List ℕ) → length s ≤ length d → take (length s) s ++ drop (length s) (take (length s) d) ≡ s
@@ -28,23 +39,48 @@ filled s d h =
     ap (λ (k : ℕ). drop k (take (length s) d)) (sym (length-take-le (length s) d h)) ∙ drop-length (take (length s) d) in
     rw (take-length s, e) (append-nil s)
 
-module _ (s t b : List ℕ) (h : length s + length t ≤ length b) where
-  pub both-written :
-      (l₁ l₂ : List ℕ) → l₁ ≡ take (length s) s ++ drop (length s) (take (length s) b) →
-      l₂ ≡
-      take (length t) t
-      ++ drop (length t) (take (length s + length t - length s) (drop (length s) (l₁ ++ drop (length s) b))) →
-      take (length s) (l₁ ++ drop (length s) b)
-      ++ (l₂ ++ drop (length s + length t - length s) (drop (length s) (l₁ ++ drop (length s) b)))
-      ≡ s ++ (t ++ drop (length s + length t) b)
-  both-written l₁ l₂ e₁ e₂ =
-      let f₁ : l₁ ≡ s = e₁ ∙ filled s b (omega arith) in
-      let g : drop (length s) (l₁ ++ drop (length s) b) ≡ drop (length s) b =
-      ap (λ (l : List ℕ). drop (length s) (l ++ drop (length s) b)) f₁ ∙ drop-append-seam s (drop (length s) b) in
-      let f₂ : l₂ ≡ t =
-      e₂ ∙ rw (add-sub-cancel-left (length s) (length t), g)
-      (filled t (drop (length s) b) (simp length-drop (omega arith))) in
-      rw (add-sub-cancel-left (length s) (length t), g, drop-drop, f₁, f₂, take-append-seam)
+-- what a copy to a part of the buffer leaves
+pub part-written :
+    (s b : List ℕ) (at : ℕ) (l : List ℕ) → at + length s ≤ length b →
+    l ≡ take (length s) s ++ drop (length s) (take (at + length s - at) (drop at b)) →
+    take at b ++ (l ++ drop (at + length s - at) (drop at b)) ≡ take at b ++ (s ++ drop (at + length s) b)
+part-written s b at l h e =
+    let f : l ≡ s = e ∙ rw (add-sub-cancel-left at (length s)) (filled s (drop at b) (simp length-drop (omega arith))) in
+    rw (f, add-sub-cancel-left at (length s), drop-drop)
+
+-- a part put after those that stand at the buffer's front
+next-part :
+    (p q x : List ℕ) (n : ℕ) → length p ≡ n → take n (p ++ q) ++ (x ++ drop (n + length x) (p ++ q)) ≡ p ++ (x ++ drop (length x) q)
+next-part p q x n e = rw (← e, take-append-seam p q, drop-append-add p q (length x))
+
+-- three parts, one after the other
+module _ (s x t b : List ℕ) (lx : length x ≡ settingsLength) where
+  pub three-parts :
+      (b₁ b₂ b₃ : List ℕ) → b₁ ≡ take 0 b ++ (s ++ drop (0 + length s) b) →
+      b₂ ≡ take (length s) b₁ ++ (x ++ drop (length s + length x) b₁) →
+      b₃ ≡ take (length s + 8) b₂ ++ (t ++ drop (length s + 8 + length t) b₂) →
+      b₃ ≡ (s ++ (x ++ t)) ++ drop (length (s ++ (x ++ t))) b
+  three-parts b₁ b₂ b₃ e₁ e₂ e₃ =
+      let f₁ : b₁ ≡ s ++ drop (length s) b = e₁ ∙ next-part [] b s 0 refl in
+      let f₂ : b₂ ≡ (s ++ x) ++ drop (length x) (drop (length s) b) =
+      e₂ ∙ (rw f₁ (next-part s (drop (length s) b) x (length s) refl) ∙ sym (append-assoc s x (drop (length x) (drop (length s) b)))) in
+      let n : length (s ++ x) ≡ length s + 8 = rw (length-append, lx) in
+      let r = drop (length x) (drop (length s) b) in
+      let f₃ : b₃ ≡ (s ++ x) ++ (t ++ drop (length t) r) = e₃ ∙ rw f₂ (next-part (s ++ x) r t (length s + 8) n) in
+      f₃ ∙ simp (drop-drop, length-append, append-assoc, add-assoc)
+
+-- the parts of a file
+module _
+    (c : Settings) (s b : List ℕ) (count : ℕ) (x t : List ℕ) (ex : x ≡ settingsBytes c) (et : t ≡ trailer count)
+    (ec : count ≡ stepCount s) where
+  pub file-put :
+      (b₁ b₂ b₃ : List ℕ) → b₁ ≡ take 0 b ++ (s ++ drop (0 + length s) b) →
+      b₂ ≡ take (length s) b₁ ++ (x ++ drop (length s + length x) b₁) →
+      b₃ ≡ take (length s + 8) b₂ ++ (t ++ drop (length s + 8 + length t) b₂) →
+      b₃ ≡ fileOf c s ++ drop (length (fileOf c s)) b
+  unfolding fileOf
+  file-put b₁ b₂ b₃ e₁ e₂ e₃ =
+      three-parts s x t b (ap length ex ∙ settings-long c) b₁ b₂ b₃ e₁ e₂ e₃ ∙ rw (ex, et, ec)
 
 -- ## The answers
 
@@ -55,55 +91,55 @@ module _ (c : Settings) (steps buffer : List ℕ) where
 
   -- a refusal leaves the buffer as it was
   refused : (k i : ℕ) → eqb k 0 ≡ false → writeVerdict c steps (length buffer) ≡ Refused k i → Answered (Refused k i) buffer
-  unfolding writtenInto writeNumber
+  unfolding writtenInto writerRefusalNumber
   refused k i e v = (sym v, rw (v, e))
 
   pub answer-3 : settingsRight c ≡ false → Answered (Refused 3 0) buffer
   unfolding writeVerdict
-  answer-3 e = refused 3 0 refl (rw e)
+  answer-3 e₃ = refused 3 0 refl (rw e₃)
 
-  module _ (e₃ : settingsRight c ≡ true) where
-    pub answer-4 :
-        firstMalformed (c .posts) steps < stepCount steps → Answered (Refused 4 (firstMalformed (c .posts) steps)) buffer
+  module _
+      (count first : ℕ) (ec : count ≡ stepCount steps) (ef : first ≡ firstMalformed (c .posts) steps)
+      (e₃ : settingsRight c ≡ true) where
+    pub answer-4 : first < count → Answered (Refused 4 first) buffer
     unfolding writeVerdict someMalformed
-    answer-4 h = refused 4 (firstMalformed (c .posts) steps) refl (rw (e₃, lt-ltb _ _ h))
+    answer-4 h = refused 4 first refl (rw (e₃, ← ec, ← ef, lt-ltb _ _ h))
 
-    module _ (h₄ : stepCount steps ≤ firstMalformed (c .posts) steps) where
-      pub answer-5-many : mostSteps < stepCount steps → Answered (Refused 5 0) buffer
+    module _ (h₄ : count ≤ first) where
+      pub answer-5-many : mostSteps < count → Answered (Refused 5 0) buffer
       unfolding writeVerdict someMalformed
-      answer-5-many h = refused 5 0 refl (rw (e₃, le-ltb _ _ h₄, lt-ltb _ _ h))
+      answer-5-many h = refused 5 0 refl (rw (e₃, ← ec, ← ef, le-ltb _ _ h₄, lt-ltb _ _ h))
 
-      module _ (h₅ : stepCount steps ≤ mostSteps) where
-        pub answer-5-short : length buffer < stepsDistance (stepCount steps) → Answered (Refused 5 0) buffer
+      module _ (h₅ : count ≤ mostSteps) where
+        pub answer-5-short : length buffer < stepsDistance count → Answered (Refused 5 0) buffer
         unfolding writeVerdict someMalformed
-        answer-5-short h = refused 5 0 refl (rw (e₃, le-ltb _ _ h₄, le-ltb _ _ h₅, lt-ltb _ _ h))
+        answer-5-short h = refused 5 0 refl (rw (e₃, ← ec, ← ef, le-ltb _ _ h₄, le-ltb _ _ h₅, lt-ltb _ _ h))
 
         pub answer-bytes :
-            stepsDistance (stepCount steps) ≤ length buffer →
-            (tail : List ℕ) → tail ≡ settingsBytes c ++ trailer (stepCount steps) →
-            Answered (Bytes (stepsDistance (stepCount steps))) (steps ++ (tail ++ drop (length steps + length tail) buffer))
-        unfolding writeVerdict someMalformed writtenInto writeNumber fileOf
-        answer-bytes h tail e =
-            let v : writeVerdict c steps (length buffer) ≡ Bytes (stepsDistance (stepCount steps)) =
-            rw (e₃, le-ltb _ _ h₄, le-ltb _ _ h₅, le-ltb _ _ h) in
-            (sym v, rw (v, ← e, append-assoc, length-append))
+            stepsDistance count ≤ length buffer →
+            Answered (Bytes (stepsDistance count)) (fileOf c steps ++ drop (length (fileOf c steps)) buffer)
+        unfolding writeVerdict someMalformed writtenInto writerRefusalNumber
+        answer-bytes h =
+            let v : writeVerdict c steps (length buffer) ≡ Bytes (stepsDistance count) =
+            rw (e₃, ← ec, ← ef, le-ltb _ _ h₄, le-ltb _ _ h₅, le-ltb _ _ h) in
+            (sym v, rw v)
 
--- ## The settings and the trailer from the bytes of their numbers
+-- ## The settings and the trailer
 
-module _ (c : Settings) (count : ℕ) (mask line back far number : List ℕ) where
-  pub tail-is :
-      mask ≡ pairBytes (c .mask) → line ≡ pairBytes (c .line) → back ≡ fourBytes settingsDistance →
-      far ≡ fourBytes (stepsDistance count) → number ≡ fourBytes count →
-      c .posts ∷ c .form ∷ byte mask 0 ∷ byte mask 1 ∷ byte line 0 ∷ byte line 1 ∷ 0 ∷ 0
-      ∷ byte mark 0 ∷ byte mark 1 ∷ byte mark 2 ∷ byte mark 3 ∷ byte back 0 ∷ byte back 1 ∷ byte back 2 ∷ byte back 3
-      ∷ byte far 0 ∷ byte far 1 ∷ byte far 2 ∷ byte far 3 ∷ byte number 0 ∷ byte number 1 ∷ byte number 2 ∷ byte number 3 ∷ []
-      ≡ settingsBytes c ++ trailer count
-  unfolding settingsBytes trailer pairBytes fourBytes
-  tail-is e₁ e₂ e₃ e₄ e₅ = rw (e₁, e₂, e₃, e₄, e₅)
+pub settings-are :
+    (c : Settings) (mask line : List ℕ) → mask ≡ pairBytes (c .mask) → line ≡ pairBytes (c .line) →
+    c .posts ∷ c .form ∷ byte mask 0 ∷ byte mask 1 ∷ byte line 0 ∷ byte line 1 ∷ 0 ∷ 0 ∷ [] ≡ settingsBytes c
+unfolding settingsBytes pairBytes
+settings-are c mask line e f = rw (e, f)
 
-pub tail-length : (c : Settings) (count : ℕ) → length (settingsBytes c ++ trailer count) ≡ settingsDistance
-unfolding settingsBytes trailer pairBytes fourBytes
-tail-length c count = refl
+pub trailer-is :
+    (count : ℕ) (near far number : List ℕ) → near ≡ fourBytes settingsDistance → far ≡ fourBytes (stepsDistance count) →
+    number ≡ fourBytes count →
+    byte mark 0 ∷ byte mark 1 ∷ byte mark 2 ∷ byte mark 3 ∷ byte near 0 ∷ byte near 1 ∷ byte near 2 ∷ byte near 3
+    ∷ byte far 0 ∷ byte far 1 ∷ byte far 2 ∷ byte far 3 ∷ byte number 0 ∷ byte number 1 ∷ byte number 2 ∷ byte number 3 ∷ []
+    ≡ trailer count
+unfolding trailer fourBytes
+trailer-is count near far number e f g = rw (e, f, g)
 
 pub steps-fit : (steps : List ℕ) → length steps ≤ stepLength * stepCount steps
 unfolding stepCount
@@ -114,12 +150,17 @@ steps-fit steps = omega arith
 never-bytes : (k i n : ℕ) → Refused k i ≡ Bytes n → ⊥
 never-bytes k i n e = let z : _≡_ {A = ℕ} 0 1 = cc in omega arith
 
-pub record BytesWritten (c : Settings) (steps : List ℕ) : Type 0 where
+pub record BytesWritten (c : Settings) (steps : List ℕ) (written : ℕ) : Type 0 where
   pub settings-well : settingsRight c ≡ true
   pub steps-well : someMalformed (c .posts) steps ≡ false
   pub few : stepCount steps ≤ mostSteps
+  pub counted : stepsDistance (stepCount steps) ≡ written
 
-pub bytes-written : (c : Settings) (steps : List ℕ) (room written : ℕ) → writeVerdict c steps room ≡ Bytes written → BytesWritten c steps
+same-bytes : (m n : ℕ) → Bytes m ≡ Bytes n → m ≡ n
+same-bytes m n e = cc
+
+pub bytes-written :
+    (c : Settings) (steps : List ℕ) (room written : ℕ) → writeVerdict c steps room ≡ Bytes written → BytesWritten c steps written
 unfolding writeVerdict
 bytes-written c steps room written e =
     let n = stepCount steps in
@@ -132,4 +173,5 @@ bytes-written c steps room written e =
       settings-well = not-false _ (a .0);
       steps-well = b .0;
       few = ltb-false _ _ (neither (ltb mostSteps n) (ltb room (stepsDistance n)) (d .0) .0);
+      counted = same-bytes (stepsDistance n) written (d .1);
     }

@@ -2,19 +2,23 @@
 use mathlib.Core.Path.{_≡_}
 use mathlib.Core.List.{List, _++_}
 use Prim.Native.Nat.{ℕ, _≤_}
-use lib.ListN.{length, drop}
+use lib.ListN.{length, take, drop}
 use Rattle.section.specs.declared.Settings.{Settings}
 use Rattle.section.specs.Bytes.{AllBytes}
 use Rattle.dayfile.specs.Layout.{stepCount, fileOf, stepsIn, stepsPart}
-use Rattle.dayfile.specs.Tests.{readOf, writeVerdict, writtenInto}
+use Rattle.dayfile.specs.Tests.{refusalNumber, refusalIndex, writerRefusalNumber, writerRefusalIndex, readVerdict, readOf}
+use Rattle.dayfile.specs.Tests.{writeVerdict, writtenInto}
 use Rattle.dayfile.specs.declared.Reading.the-variants.{Day}
 use Rattle.dayfile.specs.declared.Written.the-variants.{Bytes}
 
--- What the writer writes, the reader reads back: the same settings, as many steps, and the same steps.
+-- What the writer writes, the reader reads back: what it says it has written is the file, which is read to the same settings, as many
+-- steps, and the same steps.
 abbrev pub ReadsWhatIsWritten : Type 0
 ReadsWhatIsWritten =
-    (c : Settings) (steps : List ℕ) (room written : ℕ) → writeVerdict c steps room ≡ Bytes written →
-    (readOf (fileOf c steps) ≡ record { reading = Day (stepCount steps); settings = c }) × (stepsIn (fileOf c steps) ≡ steps)
+    (c : Settings) (steps buffer : List ℕ) (written : ℕ) → writeVerdict c steps (length buffer) ≡ Bytes written →
+    (take written (writtenInto c steps buffer) ≡ fileOf c steps)
+    × ((readOf (fileOf c steps) ≡ record { reading = Day (stepCount steps); settings = c })
+    × (stepsIn (fileOf c steps) ≡ steps))
 
 -- What the reader reads, the writer writes back exactly: the file is the one of its settings and its steps, and any buffer as long as it
 -- holds it afterwards, with the rest untouched.
@@ -36,3 +40,10 @@ MeansOneThing =
 -- The part that the reader's count gives is the file's steps.
 abbrev pub GivesItsSteps : Type 0
 GivesItsSteps = (file : List ℕ) (count : ℕ) → readOf file .reading ≡ Day count → stepsPart file count ≡ stepsIn file
+
+-- "with the index of the first malformed step for 4 and zero otherwise"
+abbrev pub IndexOnlyForFour : Type 0
+IndexOnlyForFour =
+    ((file : List ℕ) → (refusalNumber (readVerdict file) ≡ 4 → ⊥) → refusalIndex (readVerdict file) ≡ 0)
+    × ((c : Settings) (steps : List ℕ) (room : ℕ) →
+    (writerRefusalNumber (writeVerdict c steps room) ≡ 4 → ⊥) → writerRefusalIndex (writeVerdict c steps room) ≡ 0)

@@ -1,6 +1,6 @@
 -- The tests of a day file in their order, and the answers (document 01, "Refusals from the input").
-use Prim.Native.Nat.{ℕ, zero, suc, _+_, _*_, _%_}
-use mathlib.Core.Bool.{Bool, true, false, not, cond, _&&_, _||_}
+use Prim.Native.Nat.{ℕ, zero, suc, _%_}
+use mathlib.Core.Bool.{Bool, not, cond, _&&_, _||_}
 use mathlib.Core.List.{List, _++_}
 use lib.ListN.{length, drop}
 use lib.Dec.{eqb, ltb}
@@ -9,7 +9,8 @@ use Rattle.section.specs.Bytes.{byte, pair}
 use Rattle.section.specs.Numbers.{stepLength}
 use Rattle.section.specs.Settings.{settingsRight}
 use Rattle.section.specs.Step.{wellFormed}
-use Rattle.dayfile.specs.Layout.{mostSteps, settingsDistance, stepsDistance, longestFile, mark, fourAt, stepCount, fileOf, trailerIn, settingsIn, stepsIn, settingsOf, stepAt}
+use Rattle.dayfile.specs.Layout.{mostSteps, settingsDistance, stepsDistance, longestFile, mark, fourAt, stepCount, fileOf, trailerIn}
+use Rattle.dayfile.specs.Layout.{settingsIn, stepsIn, settingsOf, stepAt}
 use Rattle.dayfile.specs.declared.Reading.{Reading}
 use Rattle.dayfile.specs.declared.Reading.the-variants.{Day, Refused}
 use Rattle.dayfile.specs.declared.ReadAnswer.{ReadAnswer}
@@ -18,21 +19,21 @@ use Rattle.dayfile.specs.declared.Written.the-variants.{Bytes, Refused a
 
 -- ## The paper's number and index for each case of an answer
 
-unfoldable pub readNumber : Reading → ℕ
-readNumber (Day count) = 0
-readNumber (Refused number index) = number
+unfoldable pub refusalNumber : Reading → ℕ
+refusalNumber (Day count) = 0
+refusalNumber (Refused number index) = number
 
-unfoldable pub readIndex : Reading → ℕ
-readIndex (Day count) = 0
-readIndex (Refused number index) = index
+unfoldable pub refusalIndex : Reading → ℕ
+refusalIndex (Day count) = 0
+refusalIndex (Refused number index) = index
 
-unfoldable pub writeNumber : Written → ℕ
-writeNumber (Bytes length) = 0
-writeNumber (NotWritten number index) = number
+unfoldable pub writerRefusalNumber : Written → ℕ
+writerRefusalNumber (Bytes length) = 0
+writerRefusalNumber (NotWritten number index) = number
 
-unfoldable pub writeIndex : Written → ℕ
-writeIndex (Bytes length) = 0
-writeIndex (NotWritten number index) = index
+unfoldable pub writerRefusalIndex : Written → ℕ
+writerRefusalIndex (Bytes length) = 0
+writerRefusalIndex (NotWritten number index) = index
 
 -- ## The tests
 
@@ -51,9 +52,13 @@ trailerRight count t =
     markRight t
     && (eqb (fourAt t 4) settingsDistance && (eqb (fourAt t 8) (stepsDistance count) && eqb (fourAt t 12) count))
 
--- "settings outside the above" fail; bytes 6–7 are zero
+-- "bytes 6–7 zero"
+unfoldable pub zerosRight : List ℕ → Bool
+zerosRight s = eqb (pair (byte s 6) (byte s 7)) 0
+
+-- "settings outside the above" are refused
 unfoldable pub settingsBytesRight : List ℕ → Bool
-settingsBytesRight s = settingsRight (settingsOf s) && eqb (pair (byte s 6) (byte s 7)) 0
+settingsBytesRight s = settingsRight (settingsOf s) && zerosRight s
 
 unfoldable pub wellAt : ℕ → List ℕ → ℕ → Bool
 wellAt n steps i = wellFormed n (stepAt steps i)
@@ -91,7 +96,7 @@ notRead number index = record { reading = Refused number index; settings = blank
 
 unfoldable pub readOf : List ℕ → ReadAnswer
 readOf file =
-    record { reading = readVerdict file; settings = cond (eqb (readNumber (readVerdict file)) 0) (settingsOf (settingsIn file)) blank }
+    record { reading = readVerdict file; settings = cond (eqb (refusalNumber (readVerdict file)) 0) (settingsOf (settingsIn file)) blank }
 
 -- ## The writer
 
@@ -106,6 +111,6 @@ writeVerdict c steps room =
 -- the buffer afterwards: the file at its front and the rest untouched; the whole of it untouched by a refusal
 unfoldable pub writtenInto : Settings → List ℕ → List ℕ → List ℕ
 writtenInto c steps buffer =
-    cond (eqb (writeNumber (writeVerdict c steps (length buffer))) 0)
+    cond (eqb (writerRefusalNumber (writeVerdict c steps (length buffer))) 0)
     (fileOf c steps ++ drop (length (fileOf c steps)) buffer)
     buffer

@@ -1,7 +1,6 @@
 // The layout of a day file.
 ghost use mathlib.Core.Path.{_≡_};
 ghost use Prim.Native.Nat.{_+_, _≤_};
-ghost use mathlib.Core.List.{_++_};
 ghost use lib.ListN.{length};
 ghost use Rattle.section.specs.Bytes.{pair};
 ghost use Rattle.dayfile.specs.Layout.{mostSteps, pairBytes, four, fourBytes, fourAt, settingsBytes, settingsDistance, settingsIn, settingsLength, settingsOf, stepCount, stepsIn, trailer, trailerIn};
@@ -13,6 +12,8 @@ pub const MOST_STEPS: usize = 4096;
 pub const SETTINGS_LENGTH: usize = 8;
 
 pub const TRAILER_LENGTH: usize = 16;
+
+pub const MARK: [u8; 4] = *b"BSR1";
 // From the file's end to the settings.
 pub const SETTINGS_DISTANCE: usize = SETTINGS_LENGTH + TRAILER_LENGTH;
 
@@ -109,34 +110,32 @@ pub fn four_bytes(x: usize) -> [u8; 4]
     ]
 }
 
-// What stands after the steps: the settings and the trailer.
-pub fn tail(c: Settings, count: usize) -> [u8; 24]
-    requires { ⌜ count ≤ mostSteps ⌝ }
-    ensures { λ r. ⌜ r ≡ settingsBytes c ++ trailer count ⌝ }
+// The eight bytes of settings.
+pub fn settings_bytes(c: Settings) -> [u8; 8]
+    ensures { λ r. ⌜ r ≡ settingsBytes c ⌝ }
 {
     let mask = pair_bytes(c.mask);
     let line = pair_bytes(c.line);
-    let mark = b"BSR1";
-    let back = four_bytes(SETTINGS_DISTANCE);
+    [c.posts, c.form, mask[0], mask[1], line[0], line[1], 0, 0]
+}
+
+// The trailer of a file with so many steps.
+pub fn trailer(count: usize) -> [u8; 16]
+    requires { ⌜ count ≤ mostSteps ⌝ }
+    ensures { λ r. ⌜ r ≡ trailer count ⌝ }
+{
+    let near = four_bytes(SETTINGS_DISTANCE);
     let far = four_bytes(SETTINGS_DISTANCE + STEP_LENGTH * count);
     let number = four_bytes(count);
     [
-        c.posts,
-        c.form,
-        mask[0],
-        mask[1],
-        line[0],
-        line[1],
-        0,
-        0,
-        mark[0],
-        mark[1],
-        mark[2],
-        mark[3],
-        back[0],
-        back[1],
-        back[2],
-        back[3],
+        MARK[0],
+        MARK[1],
+        MARK[2],
+        MARK[3],
+        near[0],
+        near[1],
+        near[2],
+        near[3],
         far[0],
         far[1],
         far[2],

@@ -5,11 +5,12 @@ mod tests;
 ghost use mathlib.Core.Path.{_≡_};
 ghost use Prim.Native.Nat.{_+_, _≤_};
 ghost use mathlib.Core.List.{_++_};
-ghost use lib.ListN.{length, drop};
-ghost use Rattle.dayfile.specs.Layout.{stepsPart};
+ghost use lib.ListN.{length, take, drop};
+ghost use Rattle.dayfile.specs.Layout.{mostSteps, stepsDistance, stepCount, fileOf, stepsPart};
 ghost use Rattle.dayfile.specs.Tests.{notRead, readOf, writeVerdict, writtenInto};
 use layout::MOST_STEPS;
 use layout::SETTINGS_DISTANCE;
+use layout::SETTINGS_LENGTH;
 pub use layout::pair_bytes;
 pub use layout::pair_of;
 use section::STEP_LENGTH;
@@ -86,15 +87,26 @@ pub fn steps(file: &[u8], count: usize) -> &[u8]
     &file[0..end]
 }
 
-// Puts the steps and then the tail at the front of the buffer.
-fn put(steps: &[u8], tail: &[u8], buffer: &mut [u8])
-    requires { ⌜ length (now steps) + length (now tail) ≤ length (now buffer) ⌝ }
-    ensures { λ _. ⌜ now (buffer .exit) ≡ now (steps .entry) ++ (now (tail .entry) ++ drop (length (now (steps .entry)) + length (now (tail .entry))) (now (buffer .entry))) ⌝ }
+// Puts a part at a place of the buffer.
+fn place(part: &[u8], at: usize, buffer: &mut [u8])
+    requires { ⌜ at + length (now part) ≤ length (now buffer) ⌝ }
+    ensures { λ _. ⌜ now (buffer .exit) ≡ take at (now (buffer .entry)) ++ (now (part .entry) ++ drop (at + length (now (part .entry))) (now (buffer .entry))) ⌝ }
+{
+    let end = at + part.len();
+    bytes::copy(part, &mut buffer[at..end]);
+}
+
+// Puts the file at the front of the buffer.
+fn put(c: Settings, steps: &[u8], count: usize, buffer: &mut [u8])
+    requires { ⌜ (count ≡ stepCount (now steps)) × ((count ≤ mostSteps) × (stepsDistance count ≤ length (now buffer))) ⌝ }
+    ensures { λ _. ⌜ now (buffer .exit) ≡ fileOf c (now (steps .entry)) ++ drop (length (fileOf c (now (steps .entry)))) (now (buffer .entry)) ⌝ }
 {
     let start = steps.len();
-    let end = start + tail.len();
-    bytes::copy(steps, &mut buffer[..start]);
-    bytes::copy(tail, &mut buffer[start..end]);
+    let settings = layout::settings_bytes(c);
+    let trailer = layout::trailer(count);
+    place(steps, 0, buffer);
+    place(&settings, start, buffer);
+    place(&trailer, start + SETTINGS_LENGTH, buffer);
 }
 
 // Writes the day file of settings and steps to the front of the buffer.
@@ -117,7 +129,6 @@ pub fn write(c: Settings, steps: &[u8], buffer: &mut [u8]) -> Written
     if buffer.len() < length {
         return Written::Refused(5, 0);
     }
-    let tail = layout::tail(c, count);
-    put(steps, &tail, buffer);
+    put(c, steps, count, buffer);
     Written::Bytes(length)
 }

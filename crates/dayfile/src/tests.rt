@@ -5,6 +5,7 @@ ghost use lib.ListN.{length};
 ghost use Rattle.dayfile.specs.Layout.{mostSteps, settingsLength, trailerLength};
 ghost use Rattle.dayfile.specs.Tests.{lengthWrong, markRight, trailerRight, settingsBytesRight, firstMalformed};
 use crate::layout;
+use layout::MARK;
 use layout::MOST_STEPS;
 use layout::SETTINGS_DISTANCE;
 use section::STEP_LENGTH;
@@ -29,17 +30,16 @@ pub fn mark_right(t: &[u8]) -> bool
     requires { ⌜ trailerLength ≤ length (now t) ⌝ }
     ensures { λ r. ⌜ r ≡ markRight (now (t .entry)) ⌝ }
 {
-    let m = b"BSR1";
-    if t[0] != m[0] {
+    if t[0] != MARK[0] {
         return false;
     }
-    if t[1] != m[1] {
+    if t[1] != MARK[1] {
         return false;
     }
-    if t[2] != m[2] {
+    if t[2] != MARK[2] {
         return false;
     }
-    t[3] == m[3]
+    t[3] == MARK[3]
 }
 
 // Whether the trailer is that of a file with so many steps.

@@ -80,7 +80,11 @@ pub fn next_post(c: Settings, e: Site) -> u8
     requires { ⌜ (Placed c e) × (HasAhead c e) ⌝ }
     ensures { λ r. ⌜ r ≡ nextPost c e ⌝ }
 {
-    if section::is_upward(e.track, e.cvt) { e.post + 1 } else { e.post - 1 }
+    if section::is_upward(e.track, e.cvt) {
+        e.post + 1
+    } else {
+        e.post - 1
+    }
 }
 
 pub fn announcing(c: Settings, e: Site) -> Effect
@@ -114,7 +118,12 @@ pub fn effect_of(c: Settings, x: Step, e: Site) -> Effect
     let own = e.own;
     match x {
         Step::Order { post: _ } => {
-            walking(e, own.permitted(false), Walk::Turn(e.post, Act::Set), Said::Nothing)
+            walking(
+                e,
+                own.permitted(false),
+                Walk::Turn(e.post, Act::Set),
+                Said::Nothing,
+            )
         }
         Step::Set { post: _ } => setting(c, e, own),
         Step::Announce { post: _ } => announcing(c, e),
@@ -135,14 +144,22 @@ pub fn block_ahead(c: Settings, e: Site) -> usize
     requires { ⌜ (Placed c e) × (HasAhead c e) ⌝ }
     ensures { λ r. ⌜ (r ≡ blockAhead c e) × (r < mostBlocks) ⌝ }
 {
-    section::block(c.posts, section::is_upward(e.track, e.cvt), occupancy::rank_at(c, e)) as usize
+    section::block(
+        c.posts,
+        section::is_upward(e.track, e.cvt),
+        occupancy::rank_at(c, e),
+    ) as usize
 }
 
 pub fn block_before(c: Settings, e: Site) -> usize
     requires { ⌜ (Placed c e) × (HasBefore c e) ⌝ }
     ensures { λ r. ⌜ (r ≡ blockBefore c e) × (r < mostBlocks) ⌝ }
 {
-    section::block(c.posts, section::is_upward(e.track, e.cvt), occupancy::rank_at(c, e) - 1) as usize
+    section::block(
+        c.posts,
+        section::is_upward(e.track, e.cvt),
+        occupancy::rank_at(c, e) - 1,
+    ) as usize
 }
 
 pub fn trains_after(c: Settings, m: Movement, e: Site, l: [u16; 15]) -> [u16; 15]

@@ -1,7 +1,7 @@
 -- What acceptance means: the bytes give a step, and every check of its row passed. Settings c are those of the section; they stand as a
 -- parameter, so that what follows is about tracks.
 use Prim.Native.Nat.{ℕ}
-use mathlib.Core.Bool.{Bool, true, false, cond}
+use mathlib.Core.Bool.{Bool, true, false}
 use mathlib.Core.Path.{_≡_, refl, sym, ap, _∙_, subst}
 use mathlib.Core.List.{List, [], _∷_}
 use lib.Dec.{T}
@@ -11,11 +11,9 @@ use Rattle.section.specs.declared.Section.{Section}
 use Rattle.section.specs.declared.Decoded.{Decoded}
 use Rattle.section.specs.declared.Decoded.the-variants.{Well, Malformed}
 use Rattle.section.specs.declared.Said.{Said}
-use Rattle.section.specs.declared.Verdict.{Verdict}
 use Rattle.section.specs.declared.Verdict.the-variants.{Accepted, Refused}
-use Rattle.section.specs.declared.Answer.{Answer}
 use Rattle.section.specs.Range.{inRange}
-use Rattle.section.specs.Step.{decoded, postOf, numberOf}
+use Rattle.section.specs.Step.{decoded, numberOf}
 use Rattle.section.specs.Store.{trackOf, withTrack}
 use Rattle.rules.specs.Site.{siteOn, otherSettledOnVns, occupancyAt}
 use Rattle.rules.specs.Table.{Check, checks, effect, trackAfter}
@@ -92,13 +90,13 @@ module _ (c : Settings) where
     step-accepted x h =
         rw (verdict-is x, all-accepted (checksOf s x) (word s x) (h .held)) (ap (λ n. record { verdict = Accepted (word s x); section = n }) (section-is x))
 
-    step-refused : (x : Seen) (k : ℕ) → verdictOf (checksOf s x) (word s x) ≡ Refused k → judgeStep s (shown x) ≡ record { verdict = Refused k; section = s }
+    pub step-refused : (x : Seen) (k : ℕ) → verdictOf (checksOf s x) (word s x) ≡ Refused k → judgeStep s (shown x) ≡ record { verdict = Refused k; section = s }
     unfolding judgeStep answerOf
     step-refused x k q = rw (verdict-is x, q) refl
 
     -- bytes offered to a section in range
     module _ (r : inRange s ≡ true) where
-      judge-well : (bytes : List ℕ) (x : Seen) → decoded (c .posts) bytes ≡ Well (shown x) → judge s bytes ≡ judgeStep s (shown x)
+      pub judge-well : (bytes : List ℕ) (x : Seen) → decoded (c .posts) bytes ≡ Well (shown x) → judge s bytes ≡ judgeStep s (shown x)
       unfolding judge judgeInRange judgeDecoded
       judge-well bytes x q = rw (r, e, q) refl
 
@@ -106,7 +104,7 @@ module _ (c : Settings) where
           → judge s bytes ≡ record { verdict = Accepted (word s x); section = next s x }
       ok-judge bytes x q h = judge-well bytes x q ∙ step-accepted x h
 
-      judge-malformed : (bytes : List ℕ) → decoded (c .posts) bytes ≡ Malformed → judge s bytes ≡ record { verdict = Refused 4; section = s }
+      pub judge-malformed : (bytes : List ℕ) → decoded (c .posts) bytes ≡ Malformed → judge s bytes ≡ record { verdict = Refused 4; section = s }
       unfolding judge judgeInRange judgeDecoded
       judge-malformed bytes q = rw (r, e, q) refl
 
@@ -116,15 +114,17 @@ module _ (c : Settings) where
         accepted : (x : Seen) → decoded (c .posts) bytes ≡ Well (shown x) → Ok s x
             → judge s bytes ≡ record { verdict = Accepted (word s x); section = next s x } → Judged bytes
 
-      pub judged : (bytes : List ℕ) → Judged bytes
-      unfolding Ok
+      unfoldable pub judged : (bytes : List ℕ) → Judged bytes
+      unfolding Ok ruled
       judged bytes = by-said (decoded (c .posts) bytes) refl
         where
-          by-rule : (x : Seen) → decoded (c .posts) bytes ≡ Well (shown x) → Fits (c .posts) (x .post) (x .kind) → Ruled (checksOf s x) (word s x) → Judged bytes
+          by-rule : (x : Seen) → decoded (c .posts) bytes ≡ Well (shown x) → Fits (c .posts) (x .post) (x .kind) → Ruled (checksOf s x) (word s x)
+              → Judged bytes
           by-rule x q f (passed h) = let ok : Ok s x = record { fits = f; held = h } in accepted x q ok (ok-judge bytes x q ok)
           by-rule x q f (failed k z) = refused k (judge-well bytes x q ∙ step-refused x k z)
 
           by-said : (d : Decoded) → decoded (c .posts) bytes ≡ d → Judged bytes
           by-said (Well y) q =
-              by-rule (seen y) (q ∙ ap Well (sym (shown-seen y))) (decoded-says (c .posts) bytes y q .fields .fits) (ruled (checksOf s (seen y)) (word s (seen y)))
+              by-rule (seen y) (q ∙ ap Well (sym (shown-seen y))) (decoded-says (c .posts) bytes y q .fields .fits)
+              (ruled (checksOf s (seen y)) (word s (seen y)))
           by-said Malformed q = refused 4 (judge-malformed bytes q)

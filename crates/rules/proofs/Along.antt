@@ -44,7 +44,8 @@ module _ (c : Settings) (right : settingsRight c ≡ true) (P : Section → List
           at (f (next c s x) (ds ++ acceptedAs c s x bytes ∷ []) (reached-kept c (posts-right c right .1) s x ok r)
           (step s ds x bytes r (decoded-says (c .posts) bytes (shown x) q) ok h)))
 
-  pub from-fresh : KeptByAccepted → P (freshSection c) [] → (offered : List (List ℕ))
+  unfoldable pub from-fresh : KeptByAccepted → P (freshSection c) [] → (offered : List (List ℕ))
       → P (stateAfter (freshSection c) offered) (acceptedSteps (freshSection c) offered)
+  unfolding along judged
   from-fresh step h offered =
       along step offered (freshSection c) [] (fresh-reached c (posts-right c right .0) (posts-right c right .1)) h

@@ -1,9 +1,9 @@
 -- Two steps on a section change places: l, and then an x that leaves walk and direction alone.
-use Prim.Native.Nat.{ℕ, zero, suc, _+_, _-_, _≤_, _<_}
-use mathlib.Core.Bool.{Bool, true, false, cond, not, _&&_, _||_}
-use mathlib.Core.Path.{_≡_, refl, sym, ap, ap₂, _∙_, subst}
+use Prim.Native.Nat.{ℕ, _≤_}
+use mathlib.Core.Bool.{Bool, true, false, not, _&&_}
+use mathlib.Core.Path.{_≡_, refl, ap, ap₂, _∙_}
 use mathlib.Core.Logic.{_≢_}
-use mathlib.Core.List.{List, [], _∷_}
+use mathlib.Core.List.{List}
 use lib.Dec.{T}
 use Rattle.section.specs.declared.Settings.{Settings}
 use Rattle.section.specs.declared.Said.the-variants.{Nothing}
@@ -15,7 +15,8 @@ use Rattle.rules.specs.declared.Movement.the-variants.{Stays, Enters, Mo
 use Rattle.rules.specs.Site.{isSettled, settledOnVns, siteOn, otherSettledOnVns, watchedOccupied, occupancyAt}
 use Rattle.rules.specs.Table.{checks, effect, trainsAfter, lastAfter, trackAfter}
 use Rattle.rules.proofs.Facts.{by-track}
-use Rattle.rules.proofs.View.{order, setDevice, announce, acknowledge, key, Motion, start, pass, leave, Condition, measures, fault, View, walks, runs, notes, releases, flat, Seen, on}
+use Rattle.rules.proofs.View.{order, setDevice, announce, acknowledge, key, Motion, start, pass, leave, Condition, measures, fault, View}
+use Rattle.rules.proofs.View.{walks, runs, notes, releases, flat, Seen, on}
 use Rattle.rules.proofs.Frame.{still, calm, onward, calm-effect}
 use Rattle.rules.proofs.Accept.{Passes, moved, Ok, word, next}
 use Rattle.rules.proofs.Swap.{Swapped, swap-note, swap-onward}
@@ -110,8 +111,10 @@ module _ (c : Settings) where
 
   moved-vns : (v v′ b : Bool) (p : ℕ) (k : View) (t : Track) → moved c v b p k t ≡ moved c v′ b p k t
   unfolding trackAfter
-  moved-vns v v′ b p k t =
-      rw (effect-vns v v′ b p k t, trains-vns v v′ b p (effect c (flat p k) (siteOn v′ b p t) .train) t (t .trains), last-vns v v′ b p (effect c (flat p k) (siteOn v′ b p t) .train) t (t .last)) refl
+  moved-vns v v′ b p k t = rw (effect-vns v v′ b p k t, trains-vns v v′ b p m t (t .trains), last-vns v v′ b p m t (t .last)) refl
+    where
+      m : Movement
+      m = effect c (flat p k) (siteOn v′ b p t) .train
 
   -- ## The change of places
 
@@ -149,12 +152,14 @@ module _ (c : Settings) where
   exchange-other false s q l p x i hl hx = record {
     x-first = passes-vns _ (settledOnVns (s .a)) true p x (s .b) i hx;
     l-then = rw (calm-vns (settledOnVns (s .a)) true p x (s .b) i) hl;
-    same-end = ap₂ (λ t u. record { settings = s .settings; a = t; b = u }) (moved-vns _ (settledOnVns (s .b)) false q l (s .a)) (moved-vns (settledOnVns (s .a)) _ true p x (s .b));
+    same-end = ap₂ (λ t u. record { settings = s .settings; a = t; b = u }) (moved-vns _ (settledOnVns (s .b)) false q l (s .a))
+        (moved-vns (settledOnVns (s .a)) _ true p x (s .b));
     l-says = ap (λ x. x .said) (effect-vns (settledOnVns (moved c (settledOnVns (s .a)) true p x (s .b))) (settledOnVns (s .b)) false q l (s .a));
   }
   exchange-other true s q l p x i hl hx = record {
     x-first = passes-vns _ (settledOnVns (s .b)) false p x (s .a) i hx;
     l-then = rw (calm-vns (settledOnVns (s .b)) false p x (s .a) i) hl;
-    same-end = ap₂ (λ t u. record { settings = s .settings; a = u; b = t }) (moved-vns _ (settledOnVns (s .a)) true q l (s .b)) (moved-vns (settledOnVns (s .b)) _ false p x (s .a));
+    same-end = ap₂ (λ t u. record { settings = s .settings; a = u; b = t }) (moved-vns _ (settledOnVns (s .a)) true q l (s .b))
+        (moved-vns (settledOnVns (s .b)) _ false p x (s .a));
     l-says = ap (λ x. x .said) (effect-vns (settledOnVns (moved c (settledOnVns (s .b)) false p x (s .a))) (settledOnVns (s .a)) true q l (s .b));
   }

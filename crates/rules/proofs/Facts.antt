@@ -1,13 +1,13 @@
 -- Tests as facts; ranks and block sections; cells of a list.
-use Prim.Native.Nat.{ℕ, zero, suc, _+_, _-_, _≤_, _<_}
-use mathlib.Core.Bool.{Bool, true, false, cond, not, _&&_, _||_}
-use mathlib.Core.Path.{_≡_, refl, sym, ap, _∙_, subst}
+use Prim.Native.Nat.{ℕ, zero, suc, _-_, _≤_, _<_}
+use mathlib.Core.Bool.{Bool, true, false, cond, not, _&&_, _||_, Bool·beq}
+use mathlib.Core.Path.{_≡_, refl, sym, subst}
 use mathlib.Core.Logic.{_≢_, _⊎_, inl, inr}
-use mathlib.Core.List.{List, [], _∷_, _++_}
+use mathlib.Core.List.{List, [], _∷_}
 use native.Mathlib.Omega.{arith}
 use native.Mathlib.Decide.{ℕ-discrete}
 use lib.ListN.{getD, set, replicate}
-use lib.Dec.{T, eqb, ltb, leb, eqb→eq, ltb→lt, leb→le, le→leb, eqb-refl, T-not, not-T}
+use lib.Dec.{T, eqb, leb, eqb→eq, leb→le, eqb-refl, T-not, not-T}
 use Rattle.section.specs.Bytes.{within}
 use Rattle.section.specs.Geometry.{rank, block, isFirst, isLast, upward}
 use Rattle.rules.specs.Site.{anyTrain, hasNumber}
@@ -88,11 +88,19 @@ unfolding within
 within→ lo hi x h = (leb→le lo x (and-l (leb lo x) (leb x hi) h), leb→le x hi (and-r (leb lo x) (leb x hi) h))
 
 -- a track and the other one are all there are
-pub by-track {κ} : (P : Bool → Type κ) (b : Bool) → P b → P (not b) → (d : Bool) → P d
+unfoldable pub by-track {κ} : (P : Bool → Type κ) (b : Bool) → P b → P (not b) → (d : Bool) → P d
 by-track P false h g false = h
 by-track P false h g true = g
 by-track P true h g true = h
 by-track P true h g false = g
+
+pub beq-same : (b : Bool) → Bool·beq b b ≡ true
+beq-same true = refl
+beq-same false = refl
+
+pub beq-other : (b : Bool) → Bool·beq b (not b) ≡ false
+beq-other true = refl
+beq-other false = refl
 
 -- ## Ranks and block sections
 

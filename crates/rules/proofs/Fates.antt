@@ -1,6 +1,6 @@
 -- For every list of offered steps: each run is between the posts or has left at the far end, the runs of a number come one after another,
 -- and each block section keeps its train.
-use Prim.Native.Nat.{ℕ, suc, _+_, _-_, _≤_, _<_}
+use Prim.Native.Nat.{ℕ, suc, _≤_, _<_}
 use mathlib.Core.Bool.{Bool, true, false, cond, not, _&&_, Bool·beq}
 use mathlib.Core.Path.{_≡_, refl, sym, ap, _∙_, subst}
 use mathlib.Core.Logic.{_≢_, _⊎_, inl, inr}
@@ -19,10 +19,10 @@ use Rattle.section.specs.Store.{trackOf}
 use Rattle.rules.specs.Site.{otherSettledOnVns, trainAt, stretchEnds}
 use Rattle.rules.specs.Demand3.{stateAfter, Taken, acceptedSteps, kind, post, isOfTrain, keep, All, Run, noteStep, runsFrom, runsOf}
 use Rattle.rules.specs.Demand3.{OneAfterAnother, TrainThere, Fate}
-use Rattle.rules.proofs.Facts.{by-track, block-lt}
+use Rattle.rules.proofs.Facts.{by-track, beq-same, beq-other, block-lt}
 use Rattle.rules.proofs.View.{Seen, shown}
 use Rattle.rules.proofs.Reading.{Says}
-use Rattle.rules.proofs.Accept.{Passes, moved, Ok, next, accepted}
+use Rattle.rules.proofs.Accept.{Passes, moved, Ok, next}
 use Rattle.rules.proofs.Invariant.{Sound}
 use Rattle.rules.proofs.Exchange.{here-after, there-after}
 use Rattle.rules.proofs.Reached.{posts-right}
@@ -50,14 +50,6 @@ runs-last test rs (x ∷ ds) d = go (test x) (runs-last test (noteStep (kind x) 
         → Noted rs (cond w (x ∷ keep test (ds ++ d ∷ [])) (keep test (ds ++ d ∷ []))) (cond w (x ∷ keep test ds) (keep test ds))
     go true here there = here
     go false here there = there
-
-beq-same : (b : Bool) → Bool·beq b b ≡ true
-beq-same true = refl
-beq-same false = refl
-
-beq-other : (b : Bool) → Bool·beq b (not b) ≡ false
-beq-other true = refl
-beq-other false = refl
 
 module _ (n : ℕ) (ds : List Taken) (d : Taken) (x : Seen) (h : Says n (d .bytes) (shown x)) where
   -- the runs of train z on the track b, one more step noted where the test says so

@@ -1,7 +1,7 @@
 -- What a step leaves alone, by its kind.
-use Prim.Native.Nat.{ℕ, zero, suc}
+use Prim.Native.Nat.{ℕ}
 use mathlib.Core.Bool.{Bool, true, false}
-use mathlib.Core.Path.{_≡_, refl, ap, subst, sym}
+use mathlib.Core.Path.{_≡_, refl}
 use mathlib.Core.List.{List}
 use lib.ListN.{length, length-set}
 use lib.Dec.{T, eqb, eqb→eq}
@@ -12,7 +12,6 @@ use Rattle.section.specs.declared.Act.the-variants as act
 use Rattle.section.specs.declared.Walk.{Walk}
 use Rattle.section.specs.declared.Walk.the-variants.{Settled, Turn}
 use Rattle.section.specs.declared.Said.the-variants.{Nothing}
-use Rattle.section.specs.declared.Post.{Post}
 use Rattle.rules.specs.declared.Site.{Site}
 use Rattle.rules.specs.declared.Effect.{Effect}
 use Rattle.rules.specs.declared.Movement.{Movement}
@@ -20,7 +19,8 @@ use Rattle.rules.specs.declared.Movement.the-variants.{Stays, Enters, Mo
 use Rattle.rules.specs.Site.{sameAct, isTurn, isSettled}
 use Rattle.rules.specs.Table.{effect, trainsAfter, lastAfter}
 use Rattle.rules.proofs.Facts.{and-l, and-r}
-use Rattle.rules.proofs.View.{Reversal, order, setDevice, announce, acknowledge, key, Motion, start, pass, leave, Condition, measures, fault, View, walks, runs, notes, releases, flat}
+use Rattle.rules.proofs.View.{order, setDevice, announce, acknowledge, key, Motion, start, pass, leave, measures, fault, View, walks, runs}
+use Rattle.rules.proofs.View.{notes, releases, flat}
 
 -- moves no train
 abbrev pub still : View → Bool

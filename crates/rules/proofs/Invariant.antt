@@ -1,9 +1,9 @@
 -- What holds of a track in every state reached: kept by every accepted step.
-use Prim.Native.Nat.{ℕ, zero, suc, _+_, _-_, _≤_, _<_}
+use Prim.Native.Nat.{ℕ, suc, _-_, _≤_, _<_}
 use mathlib.Core.Bool.{Bool, true, false, cond, not, _&&_, _||_}
-use mathlib.Core.Path.{_≡_, refl, sym, ap, ap₂, _∙_, subst}
+use mathlib.Core.Path.{_≡_, refl, sym, _∙_, subst}
 use mathlib.Core.Logic.{_≢_}
-use mathlib.Core.List.{List, [], _∷_}
+use mathlib.Core.List.{List}
 use native.Mathlib.Omega.{arith}
 use native.Mathlib.Decide.{ℕ-discrete, decLt}
 use lib.ListN.{getD, set, length, length-set}
@@ -16,16 +16,17 @@ use Rattle.section.specs.declared.Act.the-variants as act
 use Rattle.section.specs.declared.Walk.{Walk}
 use Rattle.section.specs.declared.Walk.the-variants.{Settled, Turn}
 use Rattle.section.specs.declared.Track.{Track}
-use Rattle.section.specs.Geometry.{upward, rank, block, isLast}
+use Rattle.section.specs.Geometry.{upward, block, isLast}
 use Rattle.section.specs.Numbers.{mostPosts, mostBlocks}
 use Rattle.section.specs.Post.{blank}
-use Rattle.section.specs.Store.{postOn}
 use Rattle.rules.specs.declared.Site.{Site}
-use Rattle.rules.specs.Site.{siteOn, isTurn, atSendingEnd, atReceivingEnd, blockAhead, blockBefore, nextPost, trainAt, watchedOccupied, occupancyAt}
-use Rattle.rules.specs.Table.{checks, effect, trainsAfter, lastAfter, trackAfter}
+use Rattle.rules.specs.Site.{siteOn, isTurn, atSendingEnd, atReceivingEnd, blockAhead, blockBefore, nextPost, trainAt, watchedOccupied}
+use Rattle.rules.specs.Site.{occupancyAt}
+use Rattle.rules.specs.Table.{checks, effect, trainsAfter, trackAfter}
 use Rattle.rules.specs.Indications.{setCount}
-use Rattle.rules.proofs.Facts.{true-T, false-T, notnot, nor-l, nor-r, rank-lt, rank-inj, block-inj, block-lt, block-block, first-rank, not-first-rank, last-rank, not-last-rank, next-rank, far-end, set-zero}
-use Rattle.rules.proofs.View.{order, setDevice, announce, acknowledge, key, Motion, start, pass, leave, View, walks, runs, notes, releases, flat}
+use Rattle.rules.proofs.Facts.{true-T, false-T, notnot, nor-l, nor-r, rank-lt, rank-inj, block-inj, block-lt, block-block, first-rank}
+use Rattle.rules.proofs.Facts.{not-first-rank, last-rank, not-last-rank, next-rank, far-end, set-zero}
+use Rattle.rules.proofs.View.{order, setDevice, announce, acknowledge, key, start, pass, leave, View, walks, runs, notes, releases, flat}
 use Rattle.rules.proofs.Frame.{is-turn, is-settled, still, calm, calm-effect, still-train, trains-length, last-length}
 use Rattle.rules.proofs.Accept.{Passes, moved}
 use Rattle.rules.proofs.Ranges.{rankOn, TurnFits, InRange, announce-next, in-range-kept}
@@ -79,9 +80,12 @@ module _ (c : Settings) (b : Bool) where
     unfolding watchedOccupied
     ahead-free n h = eqb→eq (trainAt c b (t .cvt) (t .trains) r) 0 (go (isLast (c .posts) (upward b (t .cvt)) p) n h)
       where
-        go : (last : Bool) → T (not last) → T (not (not last && not (eqb (trainAt c b (t .cvt) (t .trains) r) 0))) → T (eqb (trainAt c b (t .cvt) (t .trains) r) 0)
+        empty : Bool
+        empty = eqb (trainAt c b (t .cvt) (t .trains) r) 0
+
+        go : (last : Bool) → T (not last) → T (not (not last && not empty)) → T empty
         go true x y = absurd x
-        go false x y = notnot (eqb (trainAt c b (t .cvt) (t .trains) r) 0) y
+        go false x y = notnot empty y
 
     low-set : (last : Bool) → isLast (c .posts) (upward b (t .cvt)) p ≡ last → T (isTurn (t .walk) p act.Set) → T (not (watchedOccupied c e (t .trains)))
         → Low (t .cvt) (t .walk) (t .trains) → Low (cond last (not (t .cvt)) (t .cvt)) (cond last Settled (Turn p act.Announce)) (t .trains)
@@ -176,9 +180,12 @@ module _ (c : Settings) (b : Bool) where
       permit-set true ew p<n hw o eo old q q<n h = go (ℕ-discrete q p)
         where
           go : Dec (q ≡ p) → rankOn c b (not (t .cvt)) q ≡ 0
-          go (yes x) = rw x (far-end (c .posts) b (t .cvt) p p<n (last-rank (c .posts) (upward b (t .cvt)) p (true-T (isLast (c .posts) (upward b (t .cvt)) p) ew)))
+          go (yes x) =
+              let far : suc r ≡ c .posts = last-rank (c .posts) (upward b (t .cvt)) p (true-T (isLast (c .posts) (upward b (t .cvt)) p) ew) in
+              rw x (far-end (c .posts) b (t .cvt) p p<n far)
           go (no ne) =
-              absurd (subst (λ (v : Walk). MayHold v (rankOn c b (t .cvt) q)) (is-turn (t .walk) p act.Set hw) (old q q<n (rw (getD-set-other (t .posts) p q o blank ne) at h)))
+              absurd (subst (λ (v : Walk). MayHold v (rankOn c b (t .cvt) q)) (is-turn (t .walk) p act.Set hw)
+              (old q q<n (rw (getD-set-other (t .posts) p q o blank ne) at h)))
       permit-set false ew p<n hw o eo old q q<n h =
           permit-same o (Turn p act.Announce) p<n (λ u. rw eo at u) (λ r m. subst (λ (v : Walk). MayHold v r) (is-turn (t .walk) p act.Set hw) m) old q q<n h
 

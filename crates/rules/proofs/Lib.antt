@@ -17,7 +17,7 @@ pub mod Trains
 pub mod Fates
 pub mod Lists
 pub mod UnderWay
-pub mod Play
+pub mod Perform
 pub mod Sort
 pub mod Starts
 pub mod VoieOccupee

@@ -1,8 +1,6 @@
 -- Judging keeps the ranges, in every section whose ranges hold, reachable or not.
-use Prim.Native.Nat.{ℕ}
 use mathlib.Core.Bool.{Bool, true, false, not, _&&_}
-use mathlib.Core.Path.{_≡_, refl, sym, ap, _∙_, subst}
-use mathlib.Core.List.{List, [], _∷_}
+use mathlib.Core.Path.{_≡_, refl}
 use lib.Dec.{T}
 use Rattle.section.specs.declared.Section.{Section}
 use Rattle.section.specs.Range.{trackFits, inRange}
@@ -39,7 +37,8 @@ pub section-out : (s : Section) → SectionInRange s → inRange s ≡ true
 unfolding inRange
 section-out s r =
     T-true (inRange s) (and-i (settingsRight (s .settings)) _ (r .settings)
-    (and-i (trackFits (s .settings .posts) false (s .a)) _ (track-out (s .settings) false (s .a) (r .tracks false)) (track-out (s .settings) true (s .b) (r .tracks true))))
+    (and-i (trackFits (s .settings .posts) false (s .a)) _ (track-out (s .settings) false (s .a) (r .tracks false))
+    (track-out (s .settings) true (s .b) (r .tracks true))))
 
 next-in : (s : Section) (x : Seen) → Ok (s .settings) s x → SectionInRange s → SectionInRange (next (s .settings) s x)
 unfolding Ok

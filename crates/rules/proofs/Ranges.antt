@@ -1,15 +1,13 @@
 -- The ranges of a track, as facts, and that every accepted step keeps them.
-use Prim.Native.Nat.{ℕ, zero, suc, _+_, _-_, _≤_, _<_}
-use mathlib.Core.Bool.{Bool, true, false, cond, not, _&&_, _||_}
-use mathlib.Core.Path.{_≡_, refl, sym, ap, ap₂, _∙_, subst}
-use mathlib.Core.Logic.{_≢_}
-use mathlib.Core.List.{List, [], _∷_}
+use Prim.Native.Nat.{ℕ, zero, suc, _-_, _≤_, _<_}
+use mathlib.Core.Bool.{Bool, true, false, cond, not}
+use mathlib.Core.Path.{_≡_, refl, subst}
+use mathlib.Core.List.{List}
 use native.Mathlib.Omega.{arith}
 use lib.ListN.{getD, set}
-use lib.Dec.{T, eqb, ltb, leb, eqb→eq, ltb→lt, leb→le, lt→ltb, le→leb}
+use lib.Dec.{T, ltb, leb, ltb→lt, leb→le, lt→ltb, le→leb}
 use Rattle.section.specs.declared.Settings.{Settings}
 use Rattle.section.specs.declared.Post.{Post}
-use Rattle.section.specs.declared.Act.{Act}
 use Rattle.section.specs.declared.Act.the-variants as act
 use Rattle.section.specs.declared.Walk.{Walk}
 use Rattle.section.specs.declared.Walk.the-variants.{Settled, Turn}
@@ -24,9 +22,10 @@ use Rattle.rules.specs.declared.Movement.{Movement}
 use Rattle.rules.specs.declared.Movement.the-variants.{Stays, Enters, Moves, Leaves}
 use Rattle.rules.specs.Site.{siteOn, isTurn, atReceivingEnd, blockAhead, blockBefore}
 use Rattle.rules.specs.Table.{checks, effect, trainsAfter, lastAfter, trackAfter}
-use Rattle.rules.proofs.Facts.{and-l, and-r, and-i, neqb→ne, false-T, rank-lt, next-rank, next-lt, not-first-rank, rank-not-first, not-last-rank, rank-not-last, set-keeps, below-suc}
-use Rattle.rules.proofs.View.{order, setDevice, announce, acknowledge, key, Motion, start, pass, leave, View, walks, runs, notes, releases, flat}
-use Rattle.rules.proofs.Frame.{is-turn, calm, still, calm-effect, still-train}
+use Rattle.rules.proofs.Facts.{and-l, and-r, and-i, neqb→ne, false-T, next-rank, next-lt, not-first-rank, rank-not-first, not-last-rank}
+use Rattle.rules.proofs.Facts.{rank-not-last, set-keeps, below-suc}
+use Rattle.rules.proofs.View.{order, setDevice, announce, acknowledge, key, start, pass, leave, View, walks, runs, notes, releases, flat}
+use Rattle.rules.proofs.Frame.{is-turn, calm-effect, still-train}
 use Rattle.rules.proofs.Accept.{Passes, moved}
 
 -- ## Tests of the first m cells
@@ -35,14 +34,16 @@ seals-in : (m : ℕ) (l : List Post) → T (sealsFit m l) → (p : ℕ) → p < 
 unfolding sealsFit
 seals-in zero l h = λ p k. absurd (omega arith)
 seals-in (suc m) l h =
-    below-suc (λ p. getD l p blank .seals ≤ mostSeals) m (leb→le (getD l m blank .seals) mostSeals (and-l (leb (getD l m blank .seals) mostSeals) (sealsFit m l) h))
+    below-suc (λ p. getD l p blank .seals ≤ mostSeals) m
+    (leb→le (getD l m blank .seals) mostSeals (and-l (leb (getD l m blank .seals) mostSeals) (sealsFit m l) h))
     (seals-in m l (and-r (leb (getD l m blank .seals) mostSeals) (sealsFit m l) h))
 
 seals-out : (m : ℕ) (l : List Post) → ((p : ℕ) → p < m → getD l p blank .seals ≤ mostSeals) → T (sealsFit m l)
 unfolding sealsFit
 seals-out zero l h = tt
 seals-out (suc m) l h =
-    and-i (leb (getD l m blank .seals) mostSeals) (sealsFit m l) (le→leb (getD l m blank .seals) mostSeals (h m (omega arith))) (seals-out m l (λ p k. h p (omega arith)))
+    and-i (leb (getD l m blank .seals) mostSeals) (sealsFit m l) (le→leb (getD l m blank .seals) mostSeals (h m (omega arith)))
+    (seals-out m l (λ p k. h p (omega arith)))
 
 numbers-in : (m : ℕ) (l : List ℕ) → T (numbersFit m l) → (i : ℕ) → i < m → getD l i 0 ≤ largestTrain
 unfolding numbersFit
@@ -89,7 +90,8 @@ module _ (c : Settings) (b : Bool) where
   turn-out cvt (Turn p act.Announce) h =
       and-i (ltb p (c .posts)) (not (isLast (c .posts) (upward b cvt) p)) (lt→ltb p (c .posts) (h .0)) (rank-not-last (c .posts) (upward b cvt) p (h .1))
   turn-out cvt (Turn p act.Acknowledge) h =
-      and-i (ltb p (c .posts)) (not (isFirst (c .posts) (upward b cvt) p)) (lt→ltb p (c .posts) (h .0)) (rank-not-first (c .posts) (upward b cvt) p (omega arith))
+      and-i (ltb p (c .posts)) (not (isFirst (c .posts) (upward b cvt) p)) (lt→ltb p (c .posts) (h .0))
+      (rank-not-first (c .posts) (upward b cvt) p (omega arith))
 
   -- ## The track
 

@@ -1,20 +1,17 @@
 -- The invariant of the sections that are reached from a fresh one.
-use Prim.Native.Nat.{ℕ, zero, suc, _+_, _-_, _≤_, _<_}
-use mathlib.Core.Bool.{Bool, true, false, cond, not, _&&_, _||_}
-use mathlib.Core.Path.{_≡_, refl, sym, ap, ap₂, _∙_, subst}
-use mathlib.Core.Logic.{_≢_}
-use mathlib.Core.List.{List, [], _∷_}
+use Prim.Native.Nat.{ℕ, _-_, _≤_, _<_}
+use mathlib.Core.Bool.{Bool, true, false, cond, not, _||_}
+use mathlib.Core.Path.{_≡_, refl, _∙_}
+use mathlib.Core.List.{List}
 use native.Mathlib.Omega.{arith}
 use native.Mathlib.Decide.{ℕ-discrete}
 use lib.ListN.{getD, set, length-set, replicate, getD-replicate}
 use lib.Seq.{getD-set-other}
-use lib.Dec.{T, eqb}
+use lib.Dec.{T}
 use Rattle.section.specs.declared.Settings.{Settings}
 use Rattle.section.specs.declared.Post.{Post}
-use Rattle.section.specs.declared.Act.{Act}
 use Rattle.section.specs.declared.Act.the-variants as act
-use Rattle.section.specs.declared.Walk.{Walk}
-use Rattle.section.specs.declared.Walk.the-variants.{Settled, Turn}
+use Rattle.section.specs.declared.Walk.the-variants.{Settled}
 use Rattle.section.specs.declared.Track.{Track}
 use Rattle.section.specs.declared.Section.{Section}
 use Rattle.section.specs.Bytes.{within}
@@ -22,17 +19,17 @@ use Rattle.section.specs.Fresh.{freshTrack, freshSection}
 use Rattle.section.specs.Geometry.{upward, rank}
 use Rattle.section.specs.Numbers.{leastPosts, mostPosts, mostBlocks, mostSeals, largestTrain}
 use Rattle.section.specs.Post.{blank, permitted}
-use Rattle.section.specs.Range.{trackFits, inRange}
+use Rattle.section.specs.Range.{inRange}
 use Rattle.section.specs.Settings.{settingsRight}
 use Rattle.section.specs.Store.{trackOf}
-use Rattle.rules.specs.Site.{isSettled, settledOnVns, otherSettledOnVns}
+use Rattle.rules.specs.Site.{settledOnVns, otherSettledOnVns}
 use Rattle.rules.specs.Table.{checks, effect, trackAfter}
 use Rattle.rules.specs.Indications.{setCount}
 use Rattle.rules.specs.Judge.{judge}
-use Rattle.rules.proofs.Facts.{and-l, and-r, and-i, T-true, true-T, or-right, or-swap, within→, by-track, set-keeps, replicate-keeps}
-use Rattle.rules.proofs.View.{order, setDevice, announce, acknowledge, key, View, walks, runs, notes, releases, flat, Seen, on}
-use Rattle.rules.proofs.Frame.{is-turn, is-settled, calm-effect}
-use Rattle.rules.proofs.Accept.{Passes, moved, Ok, word, next, Judged, refused, accepted, judged}
+use Rattle.rules.proofs.Facts.{and-l, true-T, or-right, or-swap, within→, by-track, set-keeps, replicate-keeps}
+use Rattle.rules.proofs.View.{order, setDevice, announce, acknowledge, key, View, walks, runs, notes, releases, flat, Seen}
+use Rattle.rules.proofs.Frame.{is-turn, is-settled}
+use Rattle.rules.proofs.Accept.{Passes, moved, Ok, next, Judged, refused, accepted, judged}
 use Rattle.rules.proofs.RangeLaw.{section-out}
 use Rattle.rules.proofs.Invariant.{Sound, sound-kept}
 use Rattle.rules.proofs.Exchange.{here-after, there-after, settings-after, calm-vns}

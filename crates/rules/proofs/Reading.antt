@@ -1,12 +1,11 @@
 -- What the bytes of a well-formed step say: its fields are its bytes, in their ranges.
-use Prim.Native.Nat.{ℕ, zero, suc, _≤_, _<_}
-use mathlib.Core.Bool.{Bool, true, false, cond, not, _&&_, _||_, Bool·beq}
-use mathlib.Core.Path.{_≡_, refl, sym, ap, ap₂, _∙_, subst}
-use mathlib.Core.Logic.{_≢_}
-use mathlib.Core.List.{List, [], _∷_}
+use Prim.Native.Nat.{ℕ, suc, _≤_, _<_}
+use mathlib.Core.Bool.{Bool, true, false, cond, not, _&&_}
+use mathlib.Core.Path.{_≡_, refl, sym, subst}
+use mathlib.Core.List.{List}
 use native.Mathlib.Omega.{arith}
 use lib.ListN.{length}
-use lib.Dec.{T, eqb, ltb, leb, eqb→eq, ltb→lt, leb→le, T-not}
+use lib.Dec.{T, eqb, ltb, eqb→eq, ltb→lt, leb→le, T-not}
 use Rattle.section.specs.declared.Step.{Step}
 use Rattle.section.specs.declared.Step.the-variants as step
 use Rattle.section.specs.declared.TrackStep.{TrackStep}
@@ -14,7 +13,8 @@ use Rattle.section.specs.declared.Decoded.{Decoded}
 use Rattle.section.specs.declared.Decoded.the-variants.{Well, Malformed}
 use Rattle.section.specs.Bytes.{byte, pair, within}
 use Rattle.section.specs.Numbers.{largestTrain, stepLength}
-use Rattle.section.specs.Step.{decoded, fromFields, fieldsRight, placeRight, faultRight, numberRight, trackStepOf, stepOf, faultOf, kindOf, postOf, numberOf}
+use Rattle.section.specs.Step.{decoded, fromFields, fieldsRight, placeRight, faultRight, numberRight, trackStepOf, stepOf, faultOf, kindOf, postOf}
+use Rattle.section.specs.Step.{numberOf}
 use Rattle.rules.proofs.Facts.{and-l, and-r, T-true, neqb→ne, within→}
 use Rattle.rules.proofs.View.{View, walks, runs, notes, releases, view}
 

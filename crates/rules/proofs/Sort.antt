@@ -1,5 +1,5 @@
 -- The accepted steps put in the new order: the steps of a reversal under way are held back, all else goes before them.
-use Prim.Native.Nat.{ℕ, zero, suc, _+_, _-_, _≤_, _<_}
+use Prim.Native.Nat.{ℕ, _≤_, _<_}
 use mathlib.Core.Bool.{Bool, true, false, cond, not, _&&_, _||_, Bool·beq}
 use mathlib.Core.Path.{_≡_, refl, sym, ap, ap₂, _∙_, subst}
 use mathlib.Core.Logic.{_≢_, _⊎_, inl, inr}
@@ -15,27 +15,29 @@ use Rattle.section.specs.declared.Walk.the-variants.{Settled, Turn}
 use Rattle.section.specs.declared.Track.{Track}
 use Rattle.section.specs.declared.Section.{Section}
 use Rattle.section.specs.Fresh.{freshSection}
-use Rattle.section.specs.Geometry.{upward, rank}
-use Rattle.section.specs.Numbers.{mostPosts}
+use Rattle.section.specs.Geometry.{upward}
 use Rattle.section.specs.Store.{trackOf}
 use Rattle.rules.specs.Site.{isSettled, isTurn, siteOn, otherSettledOnVns, atSendingEnd, atReceivingEnd, nextPost}
 use Rattle.rules.specs.Table.{checks, effect, trackAfter}
-use Rattle.rules.specs.Demand3.{Taken, All, keep, isOfPost, isOfTrain, isSpoken, isAnnouncement}
-use Rattle.rules.proofs.Facts.{and-l, and-r, or-false, true-T, ne→neqb, T-false, by-track, next-rank}
-use Rattle.rules.proofs.View.{Reversal, order, setDevice, announce, acknowledge, key, Motion, start, pass, leave, Condition, View, walks, runs, notes, releases, flat, post-flat, Seen, on, shown}
-use Rattle.rules.proofs.Reading.{Says}
-use Rattle.rules.proofs.Frame.{is-turn, is-settled, still, calm, onward, still-train}
+use Rattle.rules.specs.Demand3.{Taken, All, keep, isOfPost, isOfTrain, isSpoken}
+use Rattle.rules.proofs.Facts.{and-l, and-r, or-false, true-T, ne→neqb, by-track, next-rank}
+use Rattle.rules.proofs.View.{Reversal, order, setDevice, announce, acknowledge, key, Motion, start, pass, leave, Condition, View, walks, runs}
+use Rattle.rules.proofs.View.{notes, releases, flat, post-flat, on}
+use Rattle.rules.proofs.Frame.{is-turn, is-settled, still, calm, onward}
 use Rattle.rules.proofs.Accept.{Passes, moved, Ok, word, next}
 use Rattle.rules.proofs.Ranges.{rankOn, announce-next}
-use Rattle.rules.proofs.Invariant.{limit, limit-turn, Low, Sound, past-limit, NoTrain, last-free}
+use Rattle.rules.proofs.Invariant.{limit, limit-turn, Sound, past-limit, NoTrain, last-free}
 use Rattle.rules.proofs.Swap.{onward-facts}
-use Rattle.rules.proofs.Exchange.{here-after, there-after, calm-walk, calm-cvt, calm-walks, calm-cvts, calm-word, Exchanged, exchange-note, exchange-onward, exchange-other}
+use Rattle.rules.proofs.Exchange.{here-after, there-after, calm-walk, calm-cvt, calm-walks, calm-cvts, calm-word, Exchanged, exchange-note}
+use Rattle.rules.proofs.Exchange.{exchange-onward, exchange-other}
 use Rattle.rules.proofs.Reached.{Reached, fresh-settled}
 use Rattle.rules.proofs.TrainSteps.{ofTrain, train-test}
-use Rattle.rules.proofs.Lists.{all-last, all-map, keep-none, Owner, aPost, aTrain, announcers, owns, Reordered, reordered-nil, reordered-last, reordered-insert}
-use Rattle.rules.proofs.Play.{Deed, stepOf, takenOf, taken-last, taken-all, Plays, done, plays-append, plays-one, LateStep, Late, late-last, late-still, late-plays, goes-first}
+use Rattle.rules.proofs.Lists.{all-last, all-map, keep-none, Owner, aPost, aTrain, announcers, owns, Reordered, reordered-nil, reordered-last}
+use Rattle.rules.proofs.Lists.{reordered-insert}
+use Rattle.rules.proofs.Perform.{AcceptedStep, stepOf, takenOf, taken-last, taken-all, Performed, done, performed-append, performed-one}
+use Rattle.rules.proofs.Perform.{LateStep, Late, late-last, late-still, late-performed, goes-first}
 
-turn-post : (w : Walk) (p q : ℕ) (a a′ : Act) → w ≡ Turn p a → w ≡ Turn q a′ → q ≡ p
+pub turn-post : (w : Walk) (p q : ℕ) (a a′ : Act) → w ≡ Turn p a → w ≡ Turn q a′ → q ≡ p
 turn-post w p q a a′ e f = cc
 
 module _ (c : Settings) where
@@ -55,91 +57,91 @@ module _ (c : Settings) where
 
   -- at post q, on a track whose turn is at p: a train rolls on past the turn's post, a condition is noted, the turn's post does something, or
   -- the reversal ends on an empty track
-  data Doing (v b : Bool) (t : Track) (p q : ℕ) (k : View) : Type 0 where
-    rolling : (m : Motion) (z : ℕ) → k ≡ runs m z → T (onward m) → rankOn c b (t .cvt) p < rankOn c b (t .cvt) q → Doing v b t p q k
-    noting : (n : Condition) → k ≡ notes n → Doing v b t p q k
-    turning : T (still k) → q ≡ p → (p′ : ℕ) (a′ : Act) → moved c v b q k t .walk ≡ Turn p′ a′ → moved c v b q k t .cvt ≡ t .cvt
-        → rankOn c b (t .cvt) p ≤ rankOn c b (t .cvt) p′ → Doing v b t p q k
-    closing : moved c v b q k t .walk ≡ Settled → NoTrain c t → Doing v b t p q k
+  pub data Does (v b : Bool) (t : Track) (p q : ℕ) (k : View) : Type 0 where
+    movesOn : (m : Motion) (z : ℕ) → k ≡ runs m z → T (onward m) → rankOn c b (t .cvt) p < rankOn c b (t .cvt) q → Does v b t p q k
+    notesCondition : (n : Condition) → k ≡ notes n → Does v b t p q k
+    actsInTurn : T (still k) → q ≡ p → (p′ : ℕ) (a′ : Act) → moved c v b q k t .walk ≡ Turn p′ a′ → moved c v b q k t .cvt ≡ t .cvt
+        → rankOn c b (t .cvt) p ≤ rankOn c b (t .cvt) p′ → Does v b t p q k
+    endsReversal : moved c v b q k t .walk ≡ Settled → NoTrain c t → Does v b t p q k
 
   module _ (v b : Bool) (n2 : 2 ≤ c .posts) (t : Track) (p : ℕ) (a : Act) (e : t .walk ≡ Turn p a) (so : Sound c b t) where
-    do-set : (q : ℕ) (k : Reversal) (last : Bool) → atReceivingEnd c (siteOn v b q t) ≡ last → T (isTurn (t .walk) q act.Set)
+    does-set : (q : ℕ) (k : Reversal) (last : Bool) → atReceivingEnd c (siteOn v b q t) ≡ last → T (isTurn (t .walk) q act.Set)
         → moved c v b q (walks k) t .walk ≡ cond (atReceivingEnd c (siteOn v b q t)) Settled (Turn q act.Announce)
-        → moved c v b q (walks k) t .cvt ≡ cond (atReceivingEnd c (siteOn v b q t)) (not (t .cvt)) (t .cvt) → Doing v b t p q (walks k)
-    do-set q k true er hw ew ec =
-        closing (ew ∙ ap (λ r. cond r Settled (Turn q act.Announce)) er)
+        → moved c v b q (walks k) t .cvt ≡ cond (atReceivingEnd c (siteOn v b q t)) (not (t .cvt)) (t .cvt) → Does v b t p q (walks k)
+    does-set q k true er hw ew ec =
+        endsReversal (ew ∙ ap (λ r. cond r Settled (Turn q act.Announce)) er)
         (last-free c b t q (true-T (atReceivingEnd c (siteOn v b q t)) er) hw (so .low))
-    do-set q k false er hw ew ec =
+    does-set q k false er hw ew ec =
         let eq : q ≡ p = turn-post (t .walk) p q a act.Set e (is-turn (t .walk) q act.Set hw) in
-        turning tt eq q act.Announce (ew ∙ ap (λ r. cond r Settled (Turn q act.Announce)) er)
+        actsInTurn tt eq q act.Announce (ew ∙ ap (λ r. cond r Settled (Turn q act.Announce)) er)
         (ec ∙ ap (λ r. cond r (not (t .cvt)) (t .cvt)) er) (omega (arith, ap (rankOn c b (t .cvt)) eq))
 
-    do-onward : (q : ℕ) (m : Motion) (z : ℕ) → T (onward m) → Passes c v b q (runs m z) t → Doing v b t p q (runs m z)
-    do-onward q m z o h =
+    does-onward : (q : ℕ) (m : Motion) (z : ℕ) → T (onward m) → Passes c v b q (runs m z) t → Does v b t p q (runs m z)
+    does-onward q m z o h =
         let f = onward-facts c v b n2 m z q t o h in
         let l : rankOn c b (t .cvt) p ≤ limit c b (t .cvt) (t .walk) =
         subst (λ (w : Walk). rankOn c b (t .cvt) p ≤ limit c b (t .cvt) w) (sym e) (limit-turn c b (t .cvt) p a) in
         let g : limit c b (t .cvt) (t .walk) < rankOn c b (t .cvt) q = past-limit c b v t q z (f .below) (f .not-first) (f .number) (f .before) (so .low) in
-        rolling m z refl o (before (rankOn c b (t .cvt) p) (limit c b (t .cvt) (t .walk)) (rankOn c b (t .cvt) q) l g)
+        movesOn m z refl o (before (rankOn c b (t .cvt) p) (limit c b (t .cvt) (t .walk)) (rankOn c b (t .cvt) q) l g)
       where
         before : (x y z : ℕ) → x ≤ y → y < z → x < z
         before x y z h k = omega arith
 
-    release-turn : (q : ℕ) → T (isTurn (t .walk) q act.Set || (isSettled (t .walk) && atSendingEnd c (siteOn v b q t))) → q ≡ p
+    pub release-turn : (q : ℕ) → T (isTurn (t .walk) q act.Set || (isSettled (t .walk) && atSendingEnd c (siteOn v b q t))) → q ≡ p
     release-turn q h =
         let g : T (isTurn (Turn p a) q act.Set || false) = rw e at h in
         turn-post (Turn p a) p q a act.Set refl (is-turn (Turn p a) q act.Set (or-false (isTurn (Turn p a) q act.Set) g))
 
-    doing : (k : View) (q : ℕ) → Passes c v b q k t → Doing v b t p q k
+    does : (k : View) (q : ℕ) → Passes c v b q k t → Does v b t p q k
     unfolding checks trackAfter effect flat
-    doing (walks order) q h = absurd (rw e at (h .held .0))
-    doing (walks setDevice) q h = do-set q setDevice (atReceivingEnd c (siteOn v b q t)) refl (h .held .0) refl refl
-    doing (walks announce) q h =
+    does (walks order) q h = absurd (rw e at (h .held .0))
+    does (walks setDevice) q h = does-set q setDevice (atReceivingEnd c (siteOn v b q t)) refl (h .held .0) refl refl
+    does (walks announce) q h =
         let eq : q ≡ p = turn-post (t .walk) p q a act.Announce e (is-turn (t .walk) q act.Announce (h .held .0)) in
-        turning tt eq (nextPost c (siteOn v b q t)) act.Acknowledge refl refl
-        (omega (arith, next-rank (c .posts) (upward b (t .cvt)) q (h .fits .below) (announce-next c b v t q (h .held .0) (so .ranges .turn)), ap (rankOn c b (t .cvt)) eq))
-    doing (walks acknowledge) q h =
+        let n = next-rank (c .posts) (upward b (t .cvt)) q (h .fits .below) (announce-next c b v t q (h .held .0) (so .ranges .turn)) in
+        actsInTurn tt eq (nextPost c (siteOn v b q t)) act.Acknowledge refl refl (omega (arith, n, ap (rankOn c b (t .cvt)) eq))
+    does (walks acknowledge) q h =
         let eq : q ≡ p = turn-post (t .walk) p q a act.Acknowledge e (is-turn (t .walk) q act.Acknowledge (h .held .0)) in
-        turning tt eq q act.Set refl refl (omega (arith, ap (rankOn c b (t .cvt)) eq))
-    doing (walks key) q h = do-set q key (atReceivingEnd c (siteOn v b q t)) refl (h .held .0) refl refl
-    doing (runs start z) q h = absurd (rw e at (h .held .0))
-    doing (runs pass z) q h = do-onward q pass z tt h
-    doing (runs leave z) q h = do-onward q leave z tt h
-    doing (notes k) q h = noting k refl
-    doing (releases z) q h = turning tt (release-turn q (h .held .0)) p a e refl (omega arith)
+        actsInTurn tt eq q act.Set refl refl (omega (arith, ap (rankOn c b (t .cvt)) eq))
+    does (walks key) q h = does-set q key (atReceivingEnd c (siteOn v b q t)) refl (h .held .0) refl refl
+    does (runs start z) q h = absurd (rw e at (h .held .0))
+    does (runs pass z) q h = does-onward q pass z tt h
+    does (runs leave z) q h = does-onward q leave z tt h
+    does (notes k) q h = notesCondition k refl
+    does (releases z) q h = actsInTurn tt (release-turn q (h .held .0)) p a e refl (omega arith)
 
   -- ## The order so far
 
   -- a reversal is under way: `first` is performed with no reversal, and then `late`, its steps at posts up to the turn's
-  pub record Going (s : Section) (ds : List Taken) : Type 0 where
+  pub record Reversing (s : Section) (ds : List Taken) : Type 0 where
     pub track : Bool
     pub post : ℕ
     pub act : Act
     pub first : List Taken
-    pub late : List (Deed c track)
+    pub late : List (AcceptedStep c track)
     pub base : Section
-    pub performed : Plays c (freshSection c) first base
-    pub rested : (b : Bool) → trackOf base b .walk ≡ Settled
+    pub performed : Performed c (freshSection c) first base
+    pub settled-before : (b : Bool) → trackOf base b .walk ≡ Settled
     pub held : Late c track base late s
     pub turns : trackOf s track .walk ≡ Turn post act
-    pub under : All (λ (i : Deed c track). rankOn c track (trackOf s track .cvt) (i .post) ≤ rankOn c track (trackOf s track .cvt) post) late
+    pub under : All (λ (i : AcceptedStep c track). rankOn c track (trackOf s track .cvt) (i .post) ≤ rankOn c track (trackOf s track .cvt) post) late
     pub kept : Reordered ds (first ++ takenOf c track late)
 
   pub data Progress (s : Section) (ds : List Taken) : Type 0 where
-    resting : (first : List Taken) → Plays c (freshSection c) first s → Reordered ds first → ((b : Bool) → trackOf s b .walk ≡ Settled) → Progress s ds
-    going : Going s ds → Progress s ds
+    settled : (first : List Taken) → Performed c (freshSection c) first s → Reordered ds first → ((b : Bool) → trackOf s b .walk ≡ Settled) → Progress s ds
+    reversing : Reversing s ds → Progress s ds
 
   -- what is proved of each accepted step
-  abbrev Onward : Section → List Taken → (b : Bool) → Deed c b → Type 0
+  abbrev Onward : Section → List Taken → (b : Bool) → AcceptedStep c b → Type 0
   Onward s ds b i = Progress (next c s (stepOf c b i)) (ds ++ i .taken ∷ [])
 
   -- ## No owner in common
 
-  post-test : (b : Bool) (i : Deed c b) (b′ : Bool) (p′ : ℕ) → isOfPost b′ p′ (i .taken) ≡ (Bool·beq b b′ && eqb (i .post) p′)
+  post-test : (b : Bool) (i : AcceptedStep c b) (b′ : Bool) (p′ : ℕ) → isOfPost b′ p′ (i .taken) ≡ (Bool·beq b b′ && eqb (i .post) p′)
   post-test b i b′ p′ =
       ap₂ (λ w q. Bool·beq w b′ && eqb q p′) (sym (i .says .track-is)) (sym (i .says .fields .post-is) ∙ post-flat (i .post) (i .kind))
 
-  still-no-train : (b : Bool) (i : Deed c b) → T (still (i .kind)) → (b′ : Bool) (z : ℕ) → T (not (isOfTrain b′ z (i .taken)))
+  still-no-train : (b : Bool) (i : AcceptedStep c b) → T (still (i .kind)) → (b′ : Bool) (z : ℕ) → T (not (isOfTrain b′ z (i .taken)))
   still-no-train b i j b′ z = rw (train-test (c .posts) (i .taken) (stepOf c b i) (i .says) b′ z) (go (i .kind) (Bool·beq b b′) j)
     where
       go : (k : View) (w : Bool) → T (still k) → T (not (w && ofTrain z k))
@@ -152,17 +154,17 @@ module _ (c : Settings) where
       go (releases y) false j = tt
 
   -- a step is of another post, or of another track, than a late one
-  abbrev Apart : (b : Bool) → Deed c b → (d : Bool) → Deed c d → Type 0
+  abbrev Apart : (b : Bool) → AcceptedStep c b → (d : Bool) → AcceptedStep c d → Type 0
   Apart b x d i = (b′ : Bool) (p′ : ℕ) → T (isOfPost b′ p′ (x .taken)) → T (not (isOfPost b′ p′ (i .taken)))
 
-  apart-post : (b : Bool) (x i : Deed c b) → i .post ≢ x .post → Apart b x b i
+  pub apart-post : (b : Bool) (x i : AcceptedStep c b) → i .post ≢ x .post → Apart b x b i
   apart-post b x i ne b′ p′ t = rw (post-test b i b′ p′) (go (Bool·beq b b′) (rw (post-test b x b′ p′) at t))
     where
       go : (w : Bool) → T (w && eqb (x .post) p′) → T (not (w && eqb (i .post) p′))
       go true u = ne→neqb (i .post) p′ (λ e. ne (e ∙ sym (eqb→eq (x .post) p′ u)))
       go false u = tt
 
-  apart-track : (b : Bool) (x : Deed c (not b)) (i : Deed c b) → Apart (not b) x b i
+  pub apart-track : (b : Bool) (x : AcceptedStep c (not b)) (i : AcceptedStep c b) → Apart (not b) x b i
   apart-track b x i b′ p′ t = rw (post-test b i b′ p′) (go b b′ (eqb (x .post) p′) (eqb (i .post) p′) (rw (post-test (not b) x b′ p′) at t))
     where
       go : (b b′ u w : Bool) → T (Bool·beq (not b) b′ && u) → T (not (Bool·beq b b′ && w))
@@ -171,34 +173,35 @@ module _ (c : Settings) where
       go false true u w t = tt
       go false false u w t = absurd t
 
-  module _ (s : Section) (ds : List Taken) (g : Going s ds) where
+  module _ (s : Section) (ds : List Taken) (g : Reversing s ds) where
     -- a calm step has no owner in common with the late ones
-    no-owner : (b : Bool) (x : Deed c b) → T (calm (x .kind)) → word c s (stepOf c b x) ≡ x .taken .said → All (Apart b x (g .track)) (g .late)
+    pub no-owner : (b : Bool) (x : AcceptedStep c b) → T (calm (x .kind)) → word c s (stepOf c b x) ≡ x .taken .said → All (Apart b x (g .track)) (g .late)
         → (o : Owner) → T (owns o (x .taken)) → keep (owns o) (takenOf c (g .track) (g .late)) ≡ []
     no-owner b x j said h (aPost b′ p′) t =
         keep-none (isOfPost b′ p′) (takenOf c (g .track) (g .late))
         (taken-all c (g .track) (Apart b x (g .track)) (λ d. T (not (isOfPost b′ p′ d))) (λ i f. f b′ p′ t) (g .late) h)
     no-owner b x j said h (aTrain b′ z) t =
         keep-none (isOfTrain b′ z) (takenOf c (g .track) (g .late))
-        (taken-all c (g .track) (λ (i : Deed c (g .track)). T (still (i .kind))) (λ d. T (not (isOfTrain b′ z d))) (λ i f. still-no-train (g .track) i f b′ z) (g .late)
+        (taken-all c (g .track) (λ (i : AcceptedStep c (g .track)). T (still (i .kind))) (λ d. T (not (isOfTrain b′ z d)))
+        (λ i f. still-no-train (g .track) i f b′ z) (g .late)
         (late-still c (g .track) (g .late) (g .base) s (g .held)))
     no-owner b x j said h announcers t =
         absurd (subst (λ w. T (isSpoken w)) (sym said ∙ calm-word c s b (x .post) (x .kind) j) t)
 
     -- ## A step goes before the late ones, or is held back with them
 
-    goes-before : (b : Bool) (x : Deed c b) → T (calm (x .kind)) → word c s (stepOf c b x) ≡ x .taken .said → All (Apart b x (g .track)) (g .late)
+    goes-before : (b : Bool) (x : AcceptedStep c b) → T (calm (x .kind)) → word c s (stepOf c b x) ≡ x .taken .said → All (Apart b x (g .track)) (g .late)
         → Ok c (g .base) (stepOf c b x) × Late c (g .track) (next c (g .base) (stepOf c b x)) (g .late) (next c s (stepOf c b x)) → Onward s ds b x
-    goes-before b x j said al r = going (record {
+    goes-before b x j said al r = reversing (record {
       track = g .track;
       post = g .post;
       act = g .act;
       first = g .first ++ x .taken ∷ [];
       late = g .late;
       base = next c (g .base) (stepOf c b x);
-      performed = plays-append c (x .taken ∷ []) (g .performed)
-          (plays-one c (g .base) b x (r .0) (calm-word c (g .base) b (x .post) (x .kind) j ∙ sym (calm-word c s b (x .post) (x .kind) j) ∙ said) ws);
-      rested = ws;
+      performed = performed-append c (x .taken ∷ []) (g .performed)
+          (performed-one c (g .base) b x (r .0) (calm-word c (g .base) b (x .post) (x .kind) j ∙ sym (calm-word c s b (x .post) (x .kind) j) ∙ said) ws);
+      settled-before = ws;
       held = r .1;
       turns = calm-walks c s b (x .post) (x .kind) j (g .track) ∙ g .turns;
       under = rw (calm-cvts c s b (x .post) (x .kind) j (g .track)) (g .under);
@@ -206,19 +209,23 @@ module _ (c : Settings) where
     })
       where
         ws : (d : Bool) → trackOf (next c (g .base) (stepOf c b x)) d .walk ≡ Settled
-        ws d = calm-walks c (g .base) b (x .post) (x .kind) j d ∙ g .rested d
+        ws d = calm-walks c (g .base) b (x .post) (x .kind) j d ∙ g .settled-before d
 
     -- ranks on the track that reverses
     abbrev rk : ℕ → ℕ
     rk p = rankOn c (g .track) (trackOf s (g .track) .cvt) p
 
-    abbrev after : Deed c (g .track) → Track
+    -- at a post of rank up to that of p
+    abbrev UpTo : ℕ → AcceptedStep c (g .track) → Type 0
+    UpTo p i = rk (i .post) ≤ rk p
+
+    abbrev after : AcceptedStep c (g .track) → Track
     after x = moved c (otherSettledOnVns s (g .track)) (g .track) (x .post) (x .kind) (trackOf s (g .track))
 
-    held-back : (x : Deed c (g .track)) → T (still (x .kind)) → Ok c s (stepOf c (g .track) x) → word c s (stepOf c (g .track) x) ≡ x .taken .said
+    held-back : (x : AcceptedStep c (g .track)) → T (still (x .kind)) → Ok c s (stepOf c (g .track) x) → word c s (stepOf c (g .track) x) ≡ x .taken .said
         → (p′ : ℕ) (a′ : Act) → after x .walk ≡ Turn p′ a′ → after x .cvt ≡ trackOf s (g .track) .cvt → rk (g .post) ≤ rk p′ → rk (x .post) ≤ rk (g .post)
         → Onward s ds (g .track) x
-    held-back x j h said p′ a′ ew ec le ql = going (record {
+    held-back x j h said p′ a′ ew ec le ql = reversing (record {
       track = g .track;
       post = p′;
       act = a′;
@@ -226,12 +233,10 @@ module _ (c : Settings) where
       late = g .late ++ x ∷ [];
       base = g .base;
       performed = g .performed;
-      rested = g .rested;
+      settled-before = g .settled-before;
       held = late-last c (g .track) (g .late) (g .base) s x (g .held) (record { ok = h; said = said; moves-none = j; cvt-kept = ed });
       turns = ap (λ t. t .walk) (here-after c s (g .track) (x .post) (x .kind)) ∙ ew;
-      under = rw ed (all-last (λ (i : Deed c (g .track)). rk (i .post) ≤ rk p′) (g .late) x
-          (all-map (λ (i : Deed c (g .track)). rk (i .post) ≤ rk (g .post)) (λ (i : Deed c (g .track)). rk (i .post) ≤ rk p′) (g .late) (λ i u. omega arith) (g .under))
-          (omega arith));
+      under = rw ed (all-last (UpTo p′) (g .late) x (all-map (UpTo (g .post)) (UpTo p′) (g .late) (λ i u. omega arith) (g .under)) (omega arith));
       kept = rw (taken-last c (g .track) (g .late) x, ← (append-assoc (g .first) (takenOf c (g .track) (g .late)) (x .taken ∷ [])))
           (reordered-last ds (g .first ++ takenOf c (g .track) (g .late)) (x .taken) (g .kept));
     })
@@ -241,18 +246,18 @@ module _ (c : Settings) where
 
   -- ## While one track is reversing, the other is settled on VNS
 
-  other-vns : (s : Section) (b : Bool) (p : ℕ) (a : Act) → Reached c s → trackOf s b .walk ≡ Turn p a → T (otherSettledOnVns s b)
+  pub other-vns : (s : Section) (b : Bool) (p : ℕ) (a : Act) → Reached c s → trackOf s b .walk ≡ Turn p a → T (otherSettledOnVns s b)
   other-vns s b p a r e = go (trackOf s b .walk) e (r .single b)
     where
       go : (w : Walk) → w ≡ Turn p a → T (isSettled w && not (trackOf s b .cvt) || otherSettledOnVns s b) → T (otherSettledOnVns s b)
       go Settled f h = let z : _≡_ {A = ℕ} 0 1 = cc in absurd (omega arith)
       go (Turn q a′) f h = h
 
-  other-settled : (s : Section) (b : Bool) → T (otherSettledOnVns s b) → trackOf s (not b) .walk ≡ Settled
+  pub other-settled : (s : Section) (b : Bool) → T (otherSettledOnVns s b) → trackOf s (not b) .walk ≡ Settled
   other-settled s b h = is-settled (trackOf s (not b) .walk) (and-l (isSettled (trackOf s (not b) .walk)) (not (trackOf s (not b) .cvt)) h)
 
   -- so no order is accepted there
-  no-second : (s : Section) (b : Bool) (p : ℕ) (a : Act) (q : ℕ) (k : View) → k ≡ walks order → trackOf s b .walk ≡ Turn p a → T (otherSettledOnVns s b)
+  pub no-second : (s : Section) (b : Bool) (p : ℕ) (a : Act) (q : ℕ) (k : View) → k ≡ walks order → trackOf s b .walk ≡ Turn p a → T (otherSettledOnVns s b)
       → Ok c s (on (not b) q k) → ⊥
   unfolding Ok checks flat
   no-second s b p a q k ek w v h =
@@ -270,25 +275,27 @@ module _ (c : Settings) where
 
   -- ## Each accepted step
 
-  order-moves : (v b : Bool) (p : ℕ) (t : Track) → (moved c v b p (walks order) t .walk ≡ Turn p act.Set) × (moved c v b p (walks order) t .cvt ≡ t .cvt)
+  pub order-moves : (v b : Bool) (p : ℕ) (t : Track) → (moved c v b p (walks order) t .walk ≡ Turn p act.Set) × (moved c v b p (walks order) t .cvt ≡ t .cvt)
   unfolding trackAfter effect flat
   order-moves v b p t = (refl, refl)
 
   module _ (n2 : 2 ≤ c .posts) (s : Section) (ds : List Taken) (r : Reached c s) where
-    module _ (g : Going s ds) where
-      abbrev Under : Deed c (g .track) → Type 0
-      Under i = rk s ds g (i .post) ≤ rk s ds g (g .post)
+    module _ (g : Reversing s ds) where
+      abbrev Under : AcceptedStep c (g .track) → Type 0
+      Under i = UpTo s ds g (g .post) i
 
       -- the last set or key joins first and late
-      closes : (x : Deed c (g .track)) → Ok c s (stepOf c (g .track) x) → word c s (stepOf c (g .track) x) ≡ x .taken .said
+      closes : (x : AcceptedStep c (g .track)) → Ok c s (stepOf c (g .track) x) → word c s (stepOf c (g .track) x) ≡ x .taken .said
           → after s ds g x .walk ≡ Settled → NoTrain c (trackOf s (g .track)) → Onward s ds (g .track) x
       closes x h said ew free =
-          resting ((g .first ++ takenOf c (g .track) (g .late)) ++ x .taken ∷ [])
-          (plays-append c (x .taken ∷ [])
-          (plays-append c (takenOf c (g .track) (g .late)) (g .performed) (late-plays c (g .track) (g .late) (g .base) s (g .held) (g .rested (not (g .track))) free))
-          (plays-one c s (g .track) x h said ws))
+          settled ((g .first ++ takenOf c (g .track) (g .late)) ++ x .taken ∷ [])
+          (performed-append c (x .taken ∷ []) (performed-append c (takenOf c (g .track) (g .late)) (g .performed) late)
+          (performed-one c s (g .track) x h said ws))
           (reordered-last ds (g .first ++ takenOf c (g .track) (g .late)) (x .taken) (g .kept)) ws
         where
+          late : Performed c (g .base) (takenOf c (g .track) (g .late)) s
+          late = late-performed c (g .track) (g .late) (g .base) s (g .held) (g .settled-before (not (g .track))) free
+
           ws : (d : Bool) → trackOf (next c s (stepOf c (g .track) x)) d .walk ≡ Settled
           ws = by-track (λ d. trackOf (next c s (stepOf c (g .track) x)) d .walk ≡ Settled) (g .track)
               (ap (λ t. t .walk) (here-after c s (g .track) (x .post) (x .kind)) ∙ ew)
@@ -296,32 +303,36 @@ module _ (c : Settings) where
               ∙ other-settled s (g .track) (other-vns s (g .track) (g .post) (g .act) r (g .turns)))
 
       -- a step on the track that reverses
-      same-track : (x : Deed c (g .track)) → Ok c s (stepOf c (g .track) x) → word c s (stepOf c (g .track) x) ≡ x .taken .said → Onward s ds (g .track) x
+      same-track : (x : AcceptedStep c (g .track)) → Ok c s (stepOf c (g .track) x) → word c s (stepOf c (g .track) x) ≡ x .taken .said
+          → Onward s ds (g .track) x
       unfolding Ok
       same-track x h said =
-          go (doing (otherSettledOnVns s (g .track)) (g .track) n2 (trackOf s (g .track)) (g .post) (g .act) (g .turns) (r .sound (g .track)) (x .kind) (x .post) h)
+          go (does (otherSettledOnVns s (g .track)) (g .track) n2 (trackOf s (g .track)) (g .post) (g .act) (g .turns) (r .sound (g .track))
+          (x .kind) (x .post) h)
         where
           q : ℕ
           q = x .post
 
-          differ : rk s ds g (g .post) < rk s ds g q → (i : Deed c (g .track)) → Under i → i .post ≢ q
+          differ : rk s ds g (g .post) < rk s ds g q → (i : AcceptedStep c (g .track)) → Under i → i .post ≢ q
           differ lt i u e = omega (arith, ap (rk s ds g) e)
 
-          before : rk s ds g (g .post) < rk s ds g q → T (calm (x .kind))
-              → ((s₀ : Section) (i : Deed c (g .track)) → Under i → LateStep c (g .track) s₀ i → Ok c (next c s₀ (stepOf c (g .track) i)) (stepOf c (g .track) x)
-              → Exchanged c s₀ (stepOf c (g .track) i) (stepOf c (g .track) x))
-              → Onward s ds (g .track) x
-          before lt j f =
-              goes-before s ds g (g .track) x j said
-              (all-map Under (Apart (g .track) x (g .track)) (g .late) (λ i u. apart-post (g .track) x i (differ lt i u)) (g .under))
-              (goes-first c (g .track) (stepOf c (g .track) x) Under j f (g .late) (g .base) s (g .under) (g .held) h)
+          -- a step of the kind k may go before the late step i
+          May : View → Section → AcceptedStep c (g .track) → Type 0
+          May k s₀ i = Ok c (next c s₀ (stepOf c (g .track) i)) (on (g .track) q k) → Exchanged c s₀ (stepOf c (g .track) i) (on (g .track) q k)
 
-          go : Doing (otherSettledOnVns s (g .track)) (g .track) (trackOf s (g .track)) (g .post) q (x .kind) → Onward s ds (g .track) x
-          go (rolling m z e o lt) =
-              before lt (rw e tt)
-              (λ s₀ i u st. subst (λ k. Ok c (next c s₀ (stepOf c (g .track) i)) (on (g .track) q k) → Exchanged c s₀ (stepOf c (g .track) i) (on (g .track) q k)) (sym e)
-              (exchange-onward c n2 (g .track) s₀ (i .post) (i .kind) q m z o (st .moves-none) (differ lt i u) (st .cvt-kept) (st .ok)))
-          go (noting n e) = decide (decLe (rk s ds g q) (rk s ds g (g .post)))
+          before : (k : View) → x .kind ≡ k → T (calm k) → rk s ds g (g .post) < rk s ds g q
+              → ((s₀ : Section) (i : AcceptedStep c (g .track)) → Under i → LateStep c (g .track) s₀ i → May k s₀ i) → Onward s ds (g .track) x
+          before k e j lt f =
+              goes-before s ds g (g .track) x (rw e j) said
+              (all-map Under (Apart (g .track) x (g .track)) (g .late) (λ i u. apart-post (g .track) x i (differ lt i u)) (g .under))
+              (goes-first c (g .track) (stepOf c (g .track) x) Under (rw e j) (λ s₀ i u st. subst (λ l. May l s₀ i) (sym e) (f s₀ i u st))
+              (g .late) (g .base) s (g .under) (g .held) h)
+
+          go : Does (otherSettledOnVns s (g .track)) (g .track) (trackOf s (g .track)) (g .post) q (x .kind) → Onward s ds (g .track) x
+          go (movesOn m z e o lt) =
+              before (runs m z) e tt lt
+              (λ s₀ i u st. exchange-onward c n2 (g .track) s₀ (i .post) (i .kind) q m z o (st .moves-none) (differ lt i u) (st .cvt-kept) (st .ok))
+          go (notesCondition n e) = decide (decLe (rk s ds g q) (rk s ds g (g .post)))
             where
               decide : Dec (rk s ds g q ≤ rk s ds g (g .post)) → Onward s ds (g .track) x
               decide (yes le) =
@@ -329,18 +340,18 @@ module _ (c : Settings) where
                   (calm-walk c (otherSettledOnVns s (g .track)) (g .track) q (x .kind) (trackOf s (g .track)) (rw e tt) ∙ g .turns)
                   (calm-cvt c (otherSettledOnVns s (g .track)) (g .track) q (x .kind) (trackOf s (g .track)) (rw e tt)) (omega arith) le
               decide (no nle) =
-                  before (omega arith) (rw e tt)
-                  (λ s₀ i u st. subst (λ k. Ok c (next c s₀ (stepOf c (g .track) i)) (on (g .track) q k) → Exchanged c s₀ (stepOf c (g .track) i) (on (g .track) q k)) (sym e)
-                  (exchange-note c (g .track) s₀ (i .post) (i .kind) q n (differ (omega arith) i u) (st .ok)))
-          go (turning j eq p′ a′ ew ec le) = held-back s ds g x j h said p′ a′ ew ec le (omega (arith, ap (rk s ds g) eq))
-          go (closing ew free) = closes x h said ew free
+                  before (notes n) e tt (omega arith)
+                  (λ s₀ i u st. exchange-note c (g .track) s₀ (i .post) (i .kind) q n (differ (omega arith) i u) (st .ok))
+          go (actsInTurn j eq p′ a′ ew ec le) = held-back s ds g x j h said p′ a′ ew ec le (omega (arith, ap (rk s ds g) eq))
+          go (endsReversal ew free) = closes x h said ew free
 
       -- a step on the other track
-      other-track : (x : Deed c (not (g .track))) → Ok c s (stepOf c (not (g .track)) x) → word c s (stepOf c (not (g .track)) x) ≡ x .taken .said
+      other-track : (x : AcceptedStep c (not (g .track))) → Ok c s (stepOf c (not (g .track)) x) → word c s (stepOf c (not (g .track)) x) ≡ x .taken .said
           → Onward s ds (not (g .track)) x
       unfolding Ok
       other-track x h said =
-          go (settled-kind (otherSettledOnVns s (not (g .track))) (not (g .track)) (x .post) (x .kind) (trackOf s (not (g .track))) h (other-settled s (g .track) vns))
+          go (settled-kind (otherSettledOnVns s (not (g .track))) (not (g .track)) (x .post) (x .kind) (trackOf s (not (g .track))) h
+          (other-settled s (g .track) vns))
         where
           vns : T (otherSettledOnVns s (g .track))
           vns = other-vns s (g .track) (g .post) (g .act) r (g .turns)
@@ -350,13 +361,14 @@ module _ (c : Settings) where
               goes-before s ds g (not (g .track)) x j said
               (all-map Under (Apart (not (g .track)) x (g .track)) (g .late) (λ i u. apart-track (g .track) x i) (g .under))
               (goes-first c (g .track) (stepOf c (not (g .track)) x) Under j
-              (λ s₀ i u st hx. exchange-other c (g .track) s₀ (i .post) (i .kind) (x .post) (x .kind) j (st .ok) hx) (g .late) (g .base) s (g .under) (g .held) h)
+              (λ s₀ i u st hx. exchange-other c (g .track) s₀ (i .post) (i .kind) (x .post) (x .kind) j (st .ok) hx)
+              (g .late) (g .base) s (g .under) (g .held) h)
           go (inr e) = absurd (no-second s (g .track) (g .post) (g .act) (x .post) (x .kind) e (g .turns) vns h)
 
     -- an order
-    begins : (first : List Taken) → Plays c (freshSection c) first s → Reordered ds first → ((b : Bool) → trackOf s b .walk ≡ Settled)
-        → (b : Bool) (x : Deed c b) → x .kind ≡ walks order → Ok c s (stepOf c b x) → word c s (stepOf c b x) ≡ x .taken .said → Onward s ds b x
-    begins first pf kp ws b x e h said = going (record {
+    begins : (first : List Taken) → Performed c (freshSection c) first s → Reordered ds first → ((b : Bool) → trackOf s b .walk ≡ Settled)
+        → (b : Bool) (x : AcceptedStep c b) → x .kind ≡ walks order → Ok c s (stepOf c b x) → word c s (stepOf c b x) ≡ x .taken .said → Onward s ds b x
+    begins first pf kp ws b x e h said = reversing (record {
       track = b;
       post = x .post;
       act = act.Set;
@@ -364,7 +376,7 @@ module _ (c : Settings) where
       late = x ∷ [];
       base = s;
       performed = pf;
-      rested = ws;
+      settled-before = ws;
       held = (record { ok = h; said = said; moves-none = rw e tt; cvt-kept = cvt-same }, refl);
       turns = ap (λ t. t .walk) (here-after c s b (x .post) (x .kind)) ∙ rw e (order-moves (otherSettledOnVns s b) b (x .post) (trackOf s b) .0);
       under = (omega arith, tt);
@@ -374,35 +386,36 @@ module _ (c : Settings) where
         cvt-same : trackOf (next c s (stepOf c b x)) b .cvt ≡ trackOf s b .cvt
         cvt-same = ap (λ t. t .cvt) (here-after c s b (x .post) (x .kind)) ∙ rw e (order-moves (otherSettledOnVns s b) b (x .post) (trackOf s b) .1)
 
-    pub progress : (b : Bool) (x : Deed c b) → Ok c s (stepOf c b x) → word c s (stepOf c b x) ≡ x .taken .said → Progress s ds → Onward s ds b x
-    unfolding Ok
-    progress b x h said (resting first pf kp ws) = go (settled-kind (otherSettledOnVns s b) b (x .post) (x .kind) (trackOf s b) h (ws b))
+    unfoldable pub progress : (b : Bool) (x : AcceptedStep c b) → Ok c s (stepOf c b x) → word c s (stepOf c b x) ≡ x .taken .said → Progress s ds → Onward s ds b x
+    unfolding Ok by-track settled-kind begins same-track other-track does does-set does-onward goes-before held-back closes
+    progress b x h said (settled first pf kp ws) = go (settled-kind (otherSettledOnVns s b) b (x .post) (x .kind) (trackOf s b) h (ws b))
       where
         still-settled : T (calm (x .kind)) → (d : Bool) → trackOf (next c s (stepOf c b x)) d .walk ≡ Settled
         still-settled j d = calm-walks c s b (x .post) (x .kind) j d ∙ ws d
 
         go : T (calm (x .kind)) ⊎ (x .kind ≡ walks order) → Onward s ds b x
         go (inl j) =
-            resting (first ++ x .taken ∷ []) (plays-append c (x .taken ∷ []) pf (plays-one c s b x h said (still-settled j)))
+            settled (first ++ x .taken ∷ []) (performed-append c (x .taken ∷ []) pf (performed-one c s b x h said (still-settled j)))
             (reordered-last ds first (x .taken) kp) (still-settled j)
         go (inr e) = begins first pf kp ws b x e h said
-    progress b x h said (going g) =
-        by-track (λ d. (x : Deed c d) → Ok c s (stepOf c d x) → word c s (stepOf c d x) ≡ x .taken .said → Onward s ds d x) (g .track) (same-track g) (other-track g) b x h said
+    progress b x h said (reversing g) =
+        by-track (λ d. (x : AcceptedStep c d) → Ok c s (stepOf c d x) → word c s (stepOf c d x) ≡ x .taken .said → Onward s ds d x) (g .track)
+        (same-track g) (other-track g) b x h said
 
   -- ## The new order
 
   pub record Sorted (s : Section) (ds : List Taken) : Type 0 where
     pub order : List Taken
-    pub plays : Plays c (freshSection c) order s
+    pub performed : Performed c (freshSection c) order s
     pub kept : Reordered ds order
 
   -- with no reversal under way
-  pub sorted : (s : Section) (ds : List Taken) → Progress s ds → ((b : Bool) → isSettled (trackOf s b .walk) ≡ true) → Sorted s ds
-  sorted s ds (resting first pf kp ws) h = record { order = first; plays = pf; kept = kp }
-  sorted s ds (going g) h = absurd (no-turn (trackOf s (g .track) .walk) (g .turns) (h (g .track)))
+  unfoldable pub sorted : (s : Section) (ds : List Taken) → Progress s ds → ((b : Bool) → isSettled (trackOf s b .walk) ≡ true) → Sorted s ds
+  sorted s ds (settled first pf kp ws) h = record { order = first; performed = pf; kept = kp }
+  sorted s ds (reversing g) h = absurd (no-turn (trackOf s (g .track) .walk) (g .turns) (h (g .track)))
     where
       no-turn : (w : Walk) → w ≡ Turn (g .post) (g .act) → isSettled w ≡ true → ⊥
       no-turn w e f = true-T (isSettled (Turn (g .post) (g .act))) (rw e at f)
 
-  pub fresh-progress : Progress (freshSection c) []
-  fresh-progress = resting [] done reordered-nil (fresh-settled c)
+  unfoldable pub fresh-progress : Progress (freshSection c) []
+  fresh-progress = settled [] done reordered-nil (fresh-settled c)

@@ -1,10 +1,8 @@
 -- At most one post of a track may start trains: the sending end.
-use Prim.Native.Nat.{ℕ, zero, suc, _≤_, _<_}
-use mathlib.Core.Bool.{Bool, true, false, not, _||_}
-use mathlib.Core.Path.{_≡_, refl, sym, ap, _∙_, subst}
-use mathlib.Core.List.{List, [], _∷_}
+use Prim.Native.Nat.{ℕ, _<_}
+use mathlib.Core.Bool.{Bool, true, false}
+use mathlib.Core.Path.{_≡_, sym, ap, _∙_, subst}
 use native.Mathlib.Omega.{arith}
-use lib.Dec.{T}
 use Rattle.section.specs.declared.Settings.{Settings}
 use Rattle.section.specs.declared.Said.{Said}
 use Rattle.section.specs.declared.Verdict.{Verdict}
@@ -13,7 +11,7 @@ use Rattle.section.specs.declared.Walk.{Walk}
 use Rattle.section.specs.declared.Walk.the-variants.{Settled, Turn}
 use Rattle.section.specs.declared.Track.{Track}
 use Rattle.section.specs.declared.Section.{Section}
-use Rattle.section.specs.Geometry.{upward, rank}
+use Rattle.section.specs.Geometry.{upward}
 use Rattle.section.specs.Settings.{settingsRight}
 use Rattle.section.specs.Step.{kindOf}
 use Rattle.section.specs.Store.{trackOf}
@@ -22,7 +20,8 @@ use Rattle.rules.specs.Table.{checks}
 use Rattle.rules.specs.Judge.{judge}
 use Rattle.rules.specs.Demand3.{Taken, track, post, kind, MayStart, permission, start}
 use Rattle.rules.proofs.Facts.{rank-inj, first-rank}
-use Rattle.rules.proofs.View.{order, setDevice, announce, acknowledge, key, Motion, pass, leave, measures, fault, View, walks, runs, notes, releases, flat, post-flat, Seen, on, shown}
+use Rattle.rules.proofs.View.{order, setDevice, announce, acknowledge, key, pass, leave, measures, fault, View, walks, runs, notes, releases}
+use Rattle.rules.proofs.View.{flat, post-flat, Seen, shown}
 use Rattle.rules.proofs.View as view
 use Rattle.rules.proofs.Reading.{Says, decoded-says}
 use Rattle.rules.proofs.Accept.{Passes, Ok, Judged, refused, accepted, judged}
@@ -66,7 +65,8 @@ module _ (c : Settings) where
       go : (w : Walk) → MayHold c b w (rankOn c b (trackOf s b .cvt) p) → rankOn c b (trackOf s b .cvt) p ≡ 0
       go Settled e = e
       go (Turn q a) e = absurd e
-  may-start-sends right s b p r (start d ek et ep ev) = subst (λ b. Sends s b p) et (subst (Sends s (track d)) ep (go (judged c s (r .settings) (reached-in-range c right s r) (d .bytes))))
+  may-start-sends right s b p r (start d ek et ep ev) =
+      subst (λ b. Sends s b p) et (subst (Sends s (track d)) ep (go (judged c s (r .settings) (reached-in-range c right s r) (d .bytes))))
     where
       go : Judged c s (r .settings) (reached-in-range c right s r) (d .bytes) → Sends s (track d) (post d)
       go (refused k e) = absurd (not-refused (judge s (d .bytes) .verdict) (d .said) k ev (ap (λ a. a .verdict) e))

@@ -1,10 +1,10 @@
 -- Two steps on one track at different posts change places, where the first moves no train and the second notes a condition, passes or
 -- leaves.
-use Prim.Native.Nat.{ℕ, zero, suc, _+_, _-_, _≤_, _<_}
-use mathlib.Core.Bool.{Bool, true, false, cond, not, _&&_, _||_}
+use Prim.Native.Nat.{ℕ, suc, _-_, _≤_, _<_}
+use mathlib.Core.Bool.{Bool, true, false, cond, not, _&&_}
 use mathlib.Core.Path.{_≡_, refl, sym, ap, ap₂, _∙_, subst}
 use mathlib.Core.Logic.{_≢_}
-use mathlib.Core.List.{List, [], _∷_}
+use mathlib.Core.List.{List}
 use native.Mathlib.Omega.{arith}
 use lib.ListN.{getD, set}
 use lib.Seq.{getD-set-other, set-comm, set-getD}
@@ -12,18 +12,21 @@ use lib.Dec.{T, eqb, eqb→eq}
 use Rattle.section.specs.declared.Settings.{Settings}
 use Rattle.section.specs.declared.Post.{Post}
 use Rattle.section.specs.declared.Track.{Track}
-use Rattle.section.specs.Geometry.{upward, rank, block, isLast}
+use Rattle.section.specs.Geometry.{upward, isLast}
 use Rattle.section.specs.Post.{blank}
 use Rattle.section.specs.Settings.{isMaterialised}
 use Rattle.section.specs.Step.{numberOf}
 use Rattle.section.specs.Store.{postOn, withPost}
 use Rattle.rules.specs.declared.Site.{Site}
-use Rattle.rules.specs.Site.{siteOn, Occupancy, occupancyAt, anyTrain, watchedOccupied, atSendingEnd, atReceivingEnd, blockAhead, blockBefore, trainAt}
+use Rattle.rules.specs.Site.{siteOn, Occupancy, occupancyAt, anyTrain, watchedOccupied, atSendingEnd, atReceivingEnd, blockAhead, blockBefore}
+use Rattle.rules.specs.Site.{trainAt}
 use Rattle.rules.specs.Table.{checks, effect, trainsAfter, lastAfter, trackAfter}
-use Rattle.rules.proofs.Facts.{eq→eqb, ne→neqb, nor-l, nor-r, notnot, T-true, false-T, rank-lt, rank-inj, block-inj, block-lt, not-first-rank, last-rank, not-last-rank, set-zero, any-zero}
-use Rattle.rules.proofs.View.{order, setDevice, announce, acknowledge, key, Motion, start, pass, leave, Condition, measures, fault, View, walks, runs, notes, releases, flat}
-use Rattle.rules.proofs.Frame.{still, calm, onward, calm-effect, still-train}
-use Rattle.rules.proofs.Accept.{AllHold, Passes, checksAt, moved}
+use Rattle.rules.proofs.Facts.{eq→eqb, nor-l, nor-r, notnot, T-true, false-T, rank-lt, rank-inj, block-inj, block-lt, not-first-rank}
+use Rattle.rules.proofs.Facts.{last-rank, not-last-rank, set-zero, any-zero}
+use Rattle.rules.proofs.View.{order, setDevice, announce, acknowledge, key, Motion, start, pass, leave, Condition, measures, fault, View}
+use Rattle.rules.proofs.View.{walks, runs, notes, releases, flat}
+use Rattle.rules.proofs.Frame.{still, onward, calm-effect, still-train}
+use Rattle.rules.proofs.Accept.{AllHold, Passes, moved}
 use Rattle.rules.proofs.Ranges.{rankOn}
 
 -- a track with other trains
@@ -81,7 +84,8 @@ module _ (c : Settings) (v b : Bool) where
   note-moved : (k : Condition) (p : ℕ) (t : Track) → moved c v b p (notes k) t ≡ withPost t p (noted k p t)
   unfolding trackAfter trainsAfter lastAfter
   note-moved k p t =
-      rw (still-train c p (notes k) (siteOn v b p t) tt, calm-effect c p (notes k) (siteOn v b p t) tt .walk, calm-effect c p (notes k) (siteOn v b p t) tt .cvt) refl
+      let same = calm-effect c p (notes k) (siteOn v b p t) tt in
+      rw (still-train c p (notes k) (siteOn v b p t) tt, same .walk, same .cvt) refl
 
   pub swap-note : (q : ℕ) (l : View) (p : ℕ) (k : Condition) (t : Track) → q ≢ p
       → Passes c v b q l t → Passes c v b p (notes k) (moved c v b q l t) → Swapped q l p (notes k) t
@@ -132,22 +136,22 @@ module _ (c : Settings) (v b : Bool) where
   onward-last leave z p t t′ i ec el = rw el refl
 
   -- a step that moves no train stays acceptable where the trains that it asks for are fewer
-  lighter : (l : View) (p : ℕ) (e : Site) (g g′ : Occupancy) → T (still l)
+  fewer-trains : (l : View) (p : ℕ) (e : Site) (g g′ : Occupancy) → T (still l)
       → (T (not (g .watched)) → T (not (g′ .watched))) → (T (not (g .anywhere)) → T (not (g′ .anywhere)))
       → (T (not (atReceivingEnd c e)) → g .entered ≡ g′ .entered) → AllHold (checks c (flat p l) e g) → AllHold (checks c (flat p l) e g′)
   unfolding checks flat
-  lighter (walks order) p e g g′ i fa fy fe h = (h .0, (h .1 .0, (h .1 .1 .0, (go (isMaterialised c) (h .1 .1 .1 .0), tt))))
+  fewer-trains (walks order) p e g g′ i fa fy fe h = (h .0, (h .1 .0, (h .1 .1 .0, (go (isMaterialised c) (h .1 .1 .1 .0), tt))))
     where
       go : (m : Bool) → T (not (cond m (g .watched) (g .anywhere))) → T (not (cond m (g′ .watched) (g′ .anywhere)))
       go true u = fa u
       go false u = fy u
-  lighter (walks setDevice) p e g g′ i fa fy fe h = (h .0, (fa (h .1 .0), h .1 .1))
-  lighter (walks announce) p e g g′ i fa fy fe h = h
-  lighter (walks acknowledge) p e g g′ i fa fy fe h = h
-  lighter (walks key) p e g g′ i fa fy fe h = (h .0, (h .1 .0, (fa (h .1 .1 .0), h .1 .1 .1)))
-  lighter (runs m z) p e g g′ i fa fy fe h = absurd i
-  lighter (notes k) p e g g′ i fa fy fe h = note-checks k p e e g g′ refl h
-  lighter (releases z) p e g g′ i fa fy fe h = (h .0, (h .1 .0, (h .1 .1 .0, (fa (h .1 .1 .1 .0), rw (fe (h .1 .0)) at (h .1 .1 .1 .1)))))
+  fewer-trains (walks setDevice) p e g g′ i fa fy fe h = (h .0, (fa (h .1 .0), h .1 .1))
+  fewer-trains (walks announce) p e g g′ i fa fy fe h = h
+  fewer-trains (walks acknowledge) p e g g′ i fa fy fe h = h
+  fewer-trains (walks key) p e g g′ i fa fy fe h = (h .0, (h .1 .0, (fa (h .1 .1 .0), h .1 .1 .1)))
+  fewer-trains (runs m z) p e g g′ i fa fy fe h = absurd i
+  fewer-trains (notes k) p e g g′ i fa fy fe h = note-checks k p e e g g′ refl h
+  fewer-trains (releases z) p e g g′ i fa fy fe h = (h .0, (h .1 .0, (h .1 .1 .0, (fa (h .1 .1 .1 .0), rw (fe (h .1 .0)) at (h .1 .1 .1 .1)))))
 
   -- a pass or a leave is not at the sending end, and its train stands before the post
   pub record Onward (z p : ℕ) (t : Track) : Type 0 where
@@ -242,7 +246,7 @@ module _ (c : Settings) (v b : Bool) where
     unfolding occupancyAt watchedOccupied
     onward-light hl hx = record {
       fits = hl .fits;
-      held = lighter l q (siteOn v b q t) (occupancyAt c (siteOn v b q t) (numberOf (flat q l)) (t .trains) (t .last))
+      held = fewer-trains l q (siteOn v b q t) (occupancyAt c (siteOn v b q t) (numberOf (flat q l)) (t .trains) (t .last))
           (occupancyAt c (siteOn v b q t) (numberOf (flat q l)) (trainsOf m z p t) (lastOf m z p t)) i
           (watched-less (atReceivingEnd c (siteOn v b q t)) refl (hl .fits .below) hx)
           (λ y. absurd (not-empty z p t (onward-facts n2 m z p t o hx) y))

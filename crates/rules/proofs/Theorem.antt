@@ -1,37 +1,36 @@
 -- Demand 3, and that 6 is never answered along a list from fresh.
-use Prim.Native.Nat.{ℕ, _≤_}
+use Prim.Native.Nat.{ℕ}
 use mathlib.Core.Bool.{Bool, true, false, not}
 use mathlib.Core.Path.{_≡_, refl, sym, _∙_}
 use mathlib.Core.List.{List, [], _∷_, _++_}
 use Rattle.section.specs.declared.Settings.{Settings}
 use Rattle.section.specs.declared.Section.{Section}
 use Rattle.section.specs.Fresh.{freshSection}
-use Rattle.section.specs.Numbers.{leastPosts, mostPosts}
 use Rattle.section.specs.Settings.{settingsRight}
 use Rattle.section.specs.Store.{trackOf}
 use Rattle.rules.specs.Judge.{judge}
 use Rattle.rules.specs.Site.{isSettled}
-use Rattle.rules.specs.Demand3.{stateAfter, Taken, acceptedSteps, underWay, OnTrack, NewOrder, Claim, Demand3}
+use Rattle.rules.specs.Demand3.{stateAfter, Taken, acceptedSteps, underWay, OnTrack, NewOrder, Demand3}
 use Rattle.rules.specs.RangesKept.{NeverOutOfRange}
-use Rattle.rules.proofs.View.{Seen, shown}
+use Rattle.rules.proofs.View.{view, flat, Seen, shown}
 use Rattle.rules.proofs.Reading.{Says}
-use Rattle.rules.proofs.Accept.{Ok, next}
+use Rattle.rules.proofs.Accept.{Ok, word, next}
 use Rattle.rules.proofs.Reached.{posts-right, Reached, reached-kept, fresh-reached, reached-in-range}
 use Rattle.rules.proofs.Along.{acceptedAs, from-fresh}
 use Rattle.rules.proofs.Fates.{RunsRight, all-runs-right}
 use Rattle.rules.proofs.Lists.{aPost, aTrain, announcers}
 use Rattle.rules.proofs.UnderWay.{Agrees, agrees-kept, fresh-agrees, under-way}
-use Rattle.rules.proofs.Play.{plays-performs}
+use Rattle.rules.proofs.Perform.{performed-performs}
 use Rattle.rules.proofs.Sort.{Progress, progress, fresh-progress, Sorted, sorted}
 use Rattle.rules.proofs.Starts.{one-starter}
 
 module _ (c : Settings) (right : settingsRight c ≡ true) where
   -- ## Along the list
 
-  record Kept (s : Section) (ds : List Taken) : Type 0 where
-    reached : Reached c s
-    progress : Progress c s ds
-    agrees : Agrees c s ds
+  pub record Kept (s : Section) (ds : List Taken) : Type 0 where
+    pub reached : Reached c s
+    pub progress : Progress c s ds
+    pub agrees : Agrees c s ds
 
   kept : (s : Section) (ds : List Taken) (x : Seen) (bytes : List ℕ) → Reached c s → Says (c .posts) bytes (shown x) → Ok c s x → Kept s ds
       → Kept (next c s x) (ds ++ acceptedAs c s x bytes ∷ [])
@@ -63,7 +62,7 @@ module _ (c : Settings) (right : settingsRight c ≡ true) where
     abbrev steps : List Taken
     steps = acceptedSteps (freshSection c) offered
 
-    on-track : (b : Bool) → OnTrack c end steps b
+    pub on-track : (b : Bool) → OnTrack c end steps b
     on-track b =
         let runs : RunsRight c end steps b = all-runs-right c right offered b in
         record {
@@ -81,10 +80,10 @@ module _ (c : Settings) (right : settingsRight c ≡ true) where
       posts-in-sequence = λ b p. o .kept .in-sequence (aPost b p);
       trains-in-sequence = λ b z. o .kept .in-sequence (aTrain b z);
       announcements = o .kept .in-sequence announcers;
-      performs = plays-performs c right [] (fresh-reached c (posts-right c right .0) (posts-right c right .1)) (fresh-agrees c) (o .plays);
+      performs = performed-performs c right [] (fresh-reached c (posts-right c right .0) (posts-right c right .1)) (fresh-agrees c) (o .performed);
     }
 
-    all-settled : ((b : Bool) → underWay (c .posts) b steps ≡ false) → (b : Bool) → isSettled (trackOf end b .walk) ≡ true
+    pub all-settled : ((b : Bool) → underWay (c .posts) b steps ≡ false) → (b : Bool) → isSettled (trackOf end b .walk) ≡ true
     all-settled h b = go (isSettled (trackOf end b .walk)) (sym (under-way c end steps (all-kept offered .agrees) b) ∙ h b)
       where
         go : (w : Bool) → not w ≡ false → w ≡ true
@@ -98,3 +97,9 @@ demand3 c right offered = record {
   tracks = on-track c right offered;
   reordered = λ h. new-order c right offered (sorted c _ _ (all-kept c right offered .progress) (all-settled c right offered h));
 }
+
+-- The new order that `demand3` gives. Unfolded, it computes on a day, where judging is unfolded too.
+unfoldable pub newOrder : (c : Settings) → settingsRight c ≡ true → (offered : List (List ℕ))
+    → ((b : Bool) → underWay (c .posts) b (acceptedSteps (freshSection c) offered) ≡ false) → List Taken
+unfolding Demand3 demand3 new-order all-kept kept from-fresh fresh-progress progress sorted view flat word next
+newOrder c right offered ended = demand3 c right offered .reordered ended .order

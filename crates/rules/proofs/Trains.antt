@@ -18,9 +18,11 @@ use Rattle.rules.specs.declared.Site.{Site}
 use Rattle.rules.specs.Site.{siteOn, isTurn, atSendingEnd, atReceivingEnd, stretchEnds, stretchHolds, trainAt, occupancyAt}
 use Rattle.rules.specs.Table.{checks, effect, trainsAfter, trackAfter}
 use Rattle.rules.specs.Demand3.{Run}
-use Rattle.rules.proofs.Facts.{nor-l, nor-r, nand-r, true-T, T-false, ne→neqb, rank-rank, block-inj, block-lt, first-rank, not-first-rank, last-rank}
+use Rattle.rules.proofs.Facts.{nor-l, nor-r, nand-r, true-T, T-false, ne→neqb, rank-rank, block-inj, block-lt, first-rank, not-first-rank}
+use Rattle.rules.proofs.Facts.{last-rank}
 use Rattle.rules.proofs.Facts.{not-last-rank, number-none}
-use Rattle.rules.proofs.View.{Reversal, order, setDevice, announce, acknowledge, key, start, pass, leave, View, walks, runs, notes, releases, flat}
+use Rattle.rules.proofs.View.{Reversal, order, setDevice, announce, acknowledge, key, start, pass, leave, View, walks, runs, notes, releases}
+use Rattle.rules.proofs.View.{flat}
 use Rattle.rules.proofs.Frame.{still, calm-effect, still-train}
 use Rattle.rules.proofs.Accept.{Passes, moved}
 use Rattle.rules.proofs.Invariant.{Low, NoTrain, last-free}

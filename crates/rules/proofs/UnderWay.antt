@@ -1,8 +1,7 @@
 -- A reversal is under way, over the accepted steps, where the walk says so. What is kept names the last post of the reversal too.
-use Prim.Native.Nat.{ℕ, zero, suc, _+_, _-_, _≤_, _<_}
-use mathlib.Core.Bool.{Bool, true, false, cond, not, _&&_, _||_, Bool·beq}
-use mathlib.Core.Path.{_≡_, refl, sym, ap, ap₂, _∙_, subst}
-use mathlib.Core.Logic.{_≢_}
+use Prim.Native.Nat.{ℕ, suc, _-_, _≤_, _<_}
+use mathlib.Core.Bool.{Bool, true, false, cond, not, _||_, Bool·beq}
+use mathlib.Core.Path.{_≡_, refl, sym, ap, ap₂, _∙_}
 use mathlib.Core.List.{List, [], _∷_, _++_}
 use mathlib.Core.Option.{Option, none, some}
 use native.Mathlib.Omega.{arith}
@@ -21,10 +20,12 @@ use Rattle.section.specs.Store.{trackOf}
 use Rattle.rules.specs.Site.{isSettled, isTurn, siteOn, otherSettledOnVns, atReceivingEnd}
 use Rattle.rules.specs.Table.{checks, effect, trackAfter}
 use Rattle.rules.specs.Demand3.{Taken, track, post, kind, keep, otherEnd, endsAt, noteReversal, reversalFrom, runs?, underWay}
-use Rattle.rules.proofs.Facts.{T-true, T-false, true-T, false-T, eq→eqb, ne→neqb, by-track, rank-lt, rank-rank, first-rank, last-rank, not-last-rank}
-use Rattle.rules.proofs.View.{order, setDevice, announce, acknowledge, key, start, pass, leave, measures, fault, View, walks, runs, notes, releases, flat, post-flat, Seen, on, shown}
+use Rattle.rules.proofs.Facts.{T-true, T-false, true-T, false-T, eq→eqb, ne→neqb, by-track, beq-same, beq-other}
+use Rattle.rules.proofs.Facts.{rank-rank, first-rank, last-rank, not-last-rank}
+use Rattle.rules.proofs.View.{order, setDevice, announce, acknowledge, key, start, pass, leave, measures, fault, View, walks, runs, notes}
+use Rattle.rules.proofs.View.{releases, flat, post-flat, Seen, shown}
 use Rattle.rules.proofs.Reading.{Says}
-use Rattle.rules.proofs.Frame.{is-turn, is-settled, calm}
+use Rattle.rules.proofs.Frame.{is-turn, calm}
 use Rattle.rules.proofs.Accept.{Passes, moved, Ok, next}
 use Rattle.rules.proofs.Exchange.{here-after, there-after, calm-walk, calm-cvt}
 use Rattle.rules.proofs.Lists.{keep-append}
@@ -44,7 +45,9 @@ is-far-post n up p p<n true e =
     let q : suc (rank n up p) ≡ n = last-rank n up p (true-T (isLast n up p) e) in
     T-true (eqb p (rank n up (n - 1))) (eq→eqb p (rank n up (n - 1)) (sym (rank-rank n up p p<n) ∙ ap (rank n up) (omega arith)))
 is-far-post n up p p<n false e =
-    T-false (eqb p (rank n up (n - 1))) (ne→neqb p (rank n up (n - 1)) (λ q. omega (arith, not-last-rank n up p p<n (false-T (isLast n up p) e), ap (rank n up) q, rank-rank n up (n - 1) (omega arith))))
+    let l : suc (rank n up p) < n = not-last-rank n up p p<n (false-T (isLast n up p) e) in
+    T-false (eqb p (rank n up (n - 1)))
+    (ne→neqb p (rank n up (n - 1)) (λ q. omega (arith, l, ap (rank n up) q, rank-rank n up (n - 1) (omega arith))))
 
 -- ## One more step
 
@@ -102,7 +105,8 @@ module _ (c : Settings) where
     noted : (k : View) → Passes c v b p k t
         → noteAt (c .posts) (kindOf (flat p k)) p (lastPost b (t .cvt) (t .walk)) ≡ lastPost b (moved c v b p k t .cvt) (moved c v b p k t .walk)
     unfolding checks trackAfter effect flat kindOf
-    noted (walks order) h = ap some (far-post (c .posts) (upward b (t .cvt)) p n2 (h .fits .below) (first-rank (c .posts) (upward b (t .cvt)) p (h .held .1 .0)))
+    noted (walks order) h =
+        ap some (far-post (c .posts) (upward b (t .cvt)) p n2 (h .fits .below) (first-rank (c .posts) (upward b (t .cvt)) p (h .held .1 .0)))
     noted (walks setDevice) h = ap (endsAt p) (turn-last act.Set (t .walk) (h .held .0)) ∙ set-noted (atReceivingEnd c (siteOn v b p t)) refl (h .fits .below)
     noted (walks announce) h = turn-last act.Announce (t .walk) (h .held .0)
     noted (walks acknowledge) h = turn-last act.Acknowledge (t .walk) (h .held .0)
@@ -124,30 +128,24 @@ module _ (c : Settings) where
       ∙ reversal-append (c .posts) none (keep (λ (d : Taken). Bool·beq (track d) b) ds) (keep (λ (d : Taken). Bool·beq (track d) b) (d ∷ []))
       ∙ reversal-one (Bool·beq (track d) b) d (reversalOn b ds)
 
-  beq-same : (b : Bool) → Bool·beq b b ≡ true
-  beq-same true = refl
-  beq-same false = refl
-
-  beq-other : (b : Bool) → Bool·beq b (not b) ≡ false
-  beq-other true = refl
-  beq-other false = refl
-
   pub agrees-kept : 2 ≤ c .posts → (s : Section) (ds : List Taken) (d : Taken) (x : Seen) → Says (c .posts) (d .bytes) (shown x) → Ok c s x
       → Agrees s ds → Agrees (next c s x) (ds ++ d ∷ [])
   unfolding Ok
   agrees-kept n2 s ds d x h ok a =
       by-track (λ b. reversalOn b (ds ++ d ∷ []) ≡ lastPost b (trackOf (next c s x) b .cvt) (trackOf (next c s x) b .walk)) (x .track)
-      (reversal-last (x .track) ds d
-      ∙ ap (λ w. cond w (noteReversal (c .posts) d (reversalOn (x .track) ds)) (reversalOn (x .track) ds)) (ap (λ w. Bool·beq w (x .track)) (sym (h .track-is)) ∙ beq-same (x .track))
-      ∙ ap (λ r. noteReversal (c .posts) d r) (a (x .track))
+      (reversal-last (x .track) ds d ∙ whether (x .track) (beq-same (x .track)) ∙ ap (λ r. noteReversal (c .posts) d r) (a (x .track))
       ∙ ap₂ (λ k p. noteAt (c .posts) k p (lastPost (x .track) (trackOf s (x .track) .cvt) (trackOf s (x .track) .walk))) (sym (h .fields .kind-is))
       (sym (h .fields .post-is) ∙ post-flat (x .post) (x .kind))
       ∙ noted n2 (otherSettledOnVns s (x .track)) (x .track) (x .post) (trackOf s (x .track)) (x .kind) ok
       ∙ sym (ap (λ t. lastPost (x .track) (t .cvt) (t .walk)) (here-after c s (x .track) (x .post) (x .kind))))
-      (reversal-last (not (x .track)) ds d
-      ∙ ap (λ w. cond w (noteReversal (c .posts) d (reversalOn (not (x .track)) ds)) (reversalOn (not (x .track)) ds)) (ap (λ w. Bool·beq w (not (x .track))) (sym (h .track-is)) ∙ beq-other (x .track))
-      ∙ a (not (x .track))
+      (reversal-last (not (x .track)) ds d ∙ whether (not (x .track)) (beq-other (x .track)) ∙ a (not (x .track))
       ∙ sym (ap (λ t. lastPost (not (x .track)) (t .cvt) (t .walk)) (there-after c s (x .track) (x .post) (x .kind))))
+    where
+      -- whether the step is of track b
+      whether : (b : Bool) {w : Bool} → Bool·beq (x .track) b ≡ w
+          → cond (Bool·beq (track d) b) (noteReversal (c .posts) d (reversalOn b ds)) (reversalOn b ds)
+          ≡ cond w (noteReversal (c .posts) d (reversalOn b ds)) (reversalOn b ds)
+      whether b e = ap (λ w. cond w (noteReversal (c .posts) d (reversalOn b ds)) (reversalOn b ds)) (ap (λ y. Bool·beq y b) (sym (h .track-is)) ∙ e)
 
   pub fresh-agrees : Agrees (freshSection c) []
   unfolding freshSection freshTrack

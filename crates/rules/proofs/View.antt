@@ -7,7 +7,7 @@ use Rattle.section.specs.declared.Fault.{Fault}
 use Rattle.section.specs.declared.Step.{Step}
 use Rattle.section.specs.declared.Step.the-variants as step
 use Rattle.section.specs.declared.TrackStep.{TrackStep}
-use Rattle.section.specs.Step.{postOf, numberOf}
+use Rattle.section.specs.Step.{postOf}
 
 -- kinds 1 to 4 and 13: the steps of a reversal
 pub data Reversal : Type 0 where

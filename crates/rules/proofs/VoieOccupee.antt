@@ -1,5 +1,5 @@
 -- "Voie occupée" is never said: the block sections below the limit are empty, and the announcer's and the acknowledger's is one of them.
-use Prim.Native.Nat.{ℕ, suc, _-_, _≤_, _<_}
+use Prim.Native.Nat.{ℕ, _-_}
 use mathlib.Core.Bool.{Bool, true}
 use mathlib.Core.Path.{_≡_, subst}
 use mathlib.Core.List.{List}

@@ -1,70 +1,65 @@
+-- The three parts stand one after the other, so they are the file; a buffer keeps its length over each of them.
+use Rattle.dayfile.proofs.Writer.{file-put, settings-long, trailer-long, steps-fit}
 use native.Mathlib.Omega.{arith}
-use mathlib.Core.Path.{sym}
-use lib.ListN.{length}
-use lib.Seq.{length-take-le}
 use denote.Ref.{now}
-use Rattle.dayfile.proofs.Writer.{both-written}
+use mathlib.Core.Path.{_∙_, ap}
+use lib.ListN.{length}
 use borrow.Author.Needs.{needs}
 use Rattle.dayfile.proofs.put.Statement.{statement}
 use Rattle.dayfile.proofs.put.Tie as tie
-use Rattle.dayfile.proofs.put.Reads as reads
-use Rattle.dayfile.proofs.put.Lts as lts
-use Rattle.bytes.proofs.copy.Reads as copy-reads
 
--- src/lib.rt:93:15
-add-end : tie.Need-add-end
-add-end c = search needs
+settings-bytes-requires : tie.Need-settings-bytes-requires
+settings-bytes-requires c κs = search needs
 
--- src/lib.rt:94:24
-slice-relend-prefix-copy : tie.Need-slice-relend-prefix-copy
-slice-relend-prefix-copy c = search needs
+trailer-requires : tie.Need-trailer-requires
+trailer-requires c κs = search needs
 
--- src/lib.rt:94:24
-slice-aggregate-copy : tie.Need-slice-aggregate-copy
-slice-aggregate-copy c = sym (length-take-le _ _ (omega arith))
+place-requires : tie.Need-place-requires
+place-requires c κs = let a = c .before .before .before .before .before .args in
+    omega (arith, steps-fit (now (a .steps)))
 
--- src/lib.rt:94:5
-copy-requires : tie.Need-copy-requires
-copy-requires c κs = let a = c .before .before .before .before .args in
-    omega (arith, length-take-le (length (now (a .steps))) (now (a .buffer)) (omega arith))
+slice-aggregate-place : tie.Need-slice-aggregate-place
+slice-aggregate-place c = search needs
 
--- src/lib.rt:95:23
-sub-copy : tie.Need-sub-copy
-sub-copy c = search needs
+place-requires-2 : tie.Need-place-requires-2
+place-requires-2 c κs = let t = c .before .before .before .before .before .before in
+    let a = t .before .before .before .before .args in
+    omega (arith, steps-fit (now (a .steps)), ap length (t .before .settings-bytes .ensures) ∙ settings-long (a .c))
 
--- src/lib.rt:95:23
-part-copy-start : tie.Need-part-copy-start
-part-copy-start c = search needs
+slice-aggregate-place-2 : tie.Need-slice-aggregate-place-2
+slice-aggregate-place-2 c = search needs
 
--- src/lib.rt:95:23
-part-copy-end : tie.Need-part-copy-end
-part-copy-end c = search needs
+add-place : tie.Need-add-place
+add-place c = search needs
 
--- src/lib.rt:95:5
-copy-requires-2 : tie.Need-copy-requires-2
-copy-requires-2 c κs = search needs
+place-requires-3 : tie.Need-place-requires-3
+place-requires-3 c κs = let t = c .before .before .before .before .before .before .before .before .before .before .before in
+    let a = t .before .before .before .before .args in
+    omega (arith, steps-fit (now (a .steps)), ap length (t .trailer .ensures) ∙ trailer-long (a .count))
 
--- src/lib.rt:88:1
 same-length : tie.Need-same-length
 same-length c = search needs
 
--- src/lib.rt:88:1
 returns : tie.Need-returns
-returns c = let d = c .before .before .before .before .before .before in
-    let a = d .before .before .before .before .before .args in
-    both-written (now (a .steps)) (now (a .tail)) (now (a .buffer)) (omega arith) _ _ (d .copy .ensures .1) (c .before .before .copy2 .ensures .1)
+returns c = let z = c .before .before in
+    let y = z .before .before .before .before .before in
+    let v = y .before .before .before .before .before in
+    let t = v .before .before in
+    let a = t .before .before .before .before .args in
+    file-put (a .c) (now (a .steps)) (now (a .buffer)) (a .count) _ _ (t .before .settings-bytes .ensures) (t .trailer .ensures)
+    (t .before .before .before .before .pre .0) _ _ _ (v .place .ensures) (y .place2 .ensures) (z .place3 .ensures)
 
 pub put-spec : {M : Type 1} → statement M
 put-spec =
     tie.close
     (tie.spec
-    add-end
-    slice-relend-prefix-copy
-    slice-aggregate-copy
-    copy-requires
-    sub-copy
-    part-copy-start
-    part-copy-end
-    copy-requires-2
+    settings-bytes-requires
+    trailer-requires
+    place-requires
+    slice-aggregate-place
+    place-requires-2
+    slice-aggregate-place-2
+    add-place
+    place-requires-3
     same-length
     returns)

@@ -2,43 +2,31 @@ use Rattle.dayfile.specs.Layout.{fourAt}
 use borrow.Author.Needs.{needs}
 use Rattle.dayfile.proofs.layout.four_at.Statement.{statement}
 use Rattle.dayfile.proofs.layout.four_at.Tie as tie
-use Rattle.dayfile.proofs.layout.four_at.Reads as reads
-use Rattle.dayfile.proofs.layout.four_at.Lts as lts
-use Rattle.dayfile.proofs.layout.four_of.Reads as four-of-reads
 
--- src/layout.rt:36:13
 shared-slice-read-four-of : tie.Need-shared-slice-read-four-of
 shared-slice-read-four-of c = search needs
 
--- src/layout.rt:36:21
 add-four-of : tie.Need-add-four-of
 add-four-of c = search needs
 
--- src/layout.rt:36:19
 shared-slice-read-four-of-2 : tie.Need-shared-slice-read-four-of-2
 shared-slice-read-four-of-2 c = search needs
 
--- src/layout.rt:36:31
 add-four-of-2 : tie.Need-add-four-of-2
 add-four-of-2 c = search needs
 
--- src/layout.rt:36:29
 shared-slice-read-four-of-3 : tie.Need-shared-slice-read-four-of-3
 shared-slice-read-four-of-3 c = search needs
 
--- src/layout.rt:36:41
 add-four-of-3 : tie.Need-add-four-of-3
 add-four-of-3 c = search needs
 
--- src/layout.rt:36:39
 shared-slice-read-four-of-4 : tie.Need-shared-slice-read-four-of-4
 shared-slice-read-four-of-4 c = search needs
 
--- src/layout.rt:36:5
 four-of-requires : tie.Need-four-of-requires
 four-of-requires c κs = search needs
 
--- src/layout.rt:32:1
 returns : tie.Need-returns
 unfolding fourAt
 returns c = search needs

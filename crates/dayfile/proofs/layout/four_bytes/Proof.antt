@@ -3,26 +3,19 @@ use mathlib.Core.Path.{refl}
 use borrow.Author.Needs.{needs}
 use Rattle.dayfile.proofs.layout.four_bytes.Statement.{statement}
 use Rattle.dayfile.proofs.layout.four_bytes.Tie as tie
-use Rattle.dayfile.proofs.layout.four_bytes.Reads as reads
-use Rattle.dayfile.proofs.layout.four_bytes.Lts as lts
 
--- src/layout.rt:75:9
 cast-t3 : tie.Need-cast-t3
 cast-t3 c = search needs
 
--- src/layout.rt:76:9
 cast-t6 : tie.Need-cast-t6
 cast-t6 c = search needs
 
--- src/layout.rt:77:9
 cast-t9 : tie.Need-cast-t9
 cast-t9 c = search needs
 
--- src/layout.rt:78:9
 cast-t12 : tie.Need-cast-t12
 cast-t12 c = search needs
 
--- src/layout.rt:71:1
 returns : tie.Need-returns
 unfolding fourBytes
 returns c = refl

@@ -2,34 +2,25 @@ use Rattle.dayfile.specs.Layout.{four}
 use borrow.Author.Needs.{needs}
 use Rattle.dayfile.proofs.layout.four_of.Statement.{statement}
 use Rattle.dayfile.proofs.layout.four_of.Tie as tie
-use Rattle.dayfile.proofs.layout.four_of.Reads as reads
-use Rattle.dayfile.proofs.layout.four_of.Lts as lts
 
--- src/layout.rt:28:18
 mul-result : tie.Need-mul-result
 mul-result c = search needs
 
--- src/layout.rt:28:5
 add-result : tie.Need-add-result
 add-result c = search needs
 
--- src/layout.rt:28:37
 mul-result-2 : tie.Need-mul-result-2
 mul-result-2 c = search needs
 
--- src/layout.rt:28:5
 add-result-2 : tie.Need-add-result-2
 add-result-2 c = search needs
 
--- src/layout.rt:28:58
 mul-result-3 : tie.Need-mul-result-3
 mul-result-3 c = search needs
 
--- src/layout.rt:28:5
 add-result-3 : tie.Need-add-result-3
 add-result-3 c = search needs
 
--- src/layout.rt:25:1
 returns : tie.Need-returns
 unfolding four
 returns c = search needs

@@ -3,18 +3,13 @@ use mathlib.Core.Path.{refl}
 use borrow.Author.Needs.{needs}
 use Rattle.dayfile.proofs.layout.pair_bytes.Statement.{statement}
 use Rattle.dayfile.proofs.layout.pair_bytes.Tie as tie
-use Rattle.dayfile.proofs.layout.pair_bytes.Reads as reads
-use Rattle.dayfile.proofs.layout.pair_bytes.Lts as lts
 
--- src/layout.rt:67:6
 cast-t3 : tie.Need-cast-t3
 cast-t3 c = search needs
 
--- src/layout.rt:67:23
 cast-t6 : tie.Need-cast-t6
 cast-t6 c = search needs
 
--- src/layout.rt:64:1
 returns : tie.Need-returns
 unfolding pairBytes
 returns c = refl

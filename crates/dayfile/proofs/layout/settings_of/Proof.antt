@@ -1,44 +1,33 @@
+-- The two numbers are those of their bytes.
 use Rattle.dayfile.specs.Layout.{settingsOf}
 use borrow.Author.Needs.{needs}
 use Rattle.dayfile.proofs.layout.settings_of.Statement.{statement}
 use Rattle.dayfile.proofs.layout.settings_of.Tie as tie
-use Rattle.dayfile.proofs.layout.settings_of.Reads as reads
-use Rattle.dayfile.proofs.layout.settings_of.Lts as lts
-use Rattle.dayfile.proofs.layout.pair_of.Reads as pair-of-reads
 
--- src/layout.rt:45:16
 shared-slice-read-t3 : tie.Need-shared-slice-read-t3
 shared-slice-read-t3 c = search needs
 
--- src/layout.rt:46:15
 shared-slice-read-t5 : tie.Need-shared-slice-read-t5
 shared-slice-read-t5 c = search needs
 
--- src/layout.rt:47:23
 shared-slice-read-pair-of : tie.Need-shared-slice-read-pair-of
 shared-slice-read-pair-of c = search needs
 
--- src/layout.rt:47:29
 shared-slice-read-pair-of-2 : tie.Need-shared-slice-read-pair-of-2
 shared-slice-read-pair-of-2 c = search needs
 
--- src/layout.rt:47:15
 pair-of-requires : tie.Need-pair-of-requires
 pair-of-requires c κs = search needs
 
--- src/layout.rt:48:23
 shared-slice-read-pair-of-3 : tie.Need-shared-slice-read-pair-of-3
 shared-slice-read-pair-of-3 c = search needs
 
--- src/layout.rt:48:29
 shared-slice-read-pair-of-4 : tie.Need-shared-slice-read-pair-of-4
 shared-slice-read-pair-of-4 c = search needs
 
--- src/layout.rt:48:15
 pair-of-requires-2 : tie.Need-pair-of-requires-2
 pair-of-requires-2 c κs = search needs
 
--- src/layout.rt:40:1
 returns : tie.Need-returns
 unfolding settingsOf
 returns c = rw (← c .pair-of2 .ensures, ← c .before .before .before .pair-of .ensures)

@@ -1,25 +1,20 @@
+-- A rest makes one step more.
 use Rattle.dayfile.specs.Layout.{stepCount}
 use native.Mathlib.Omega.{arith}
 use borrow.Author.Needs.{needs}
 use Rattle.dayfile.proofs.layout.step_count.Statement.{statement}
 use Rattle.dayfile.proofs.layout.step_count.Tie as tie
-use Rattle.dayfile.proofs.layout.step_count.Reads as reads
-use Rattle.dayfile.proofs.layout.step_count.Lts as lts
 
--- src/layout.rt:57:8
 mul-if1 : tie.Need-mul-if1
 mul-if1 c = search needs
 
--- src/layout.rt:58:16
 add-result : tie.Need-add-result
 add-result c = search needs
 
--- src/layout.rt:58:9
 returns : tie.Need-returns
 unfolding stepCount
 returns c = omega arith
 
--- src/layout.rt:53:1
 returns-2 : tie.Need-returns-2
 unfolding stepCount
 returns-2 c = omega arith

@@ -1,29 +1,22 @@
+-- The part begins at the file's first byte.
 use native.Mathlib.Nat.{sub-zero}
 use Rattle.dayfile.specs.Layout.{stepsIn}
-use mathlib.Core.Path.{refl}
 use borrow.Author.Needs.{needs}
 use Rattle.dayfile.proofs.layout.steps_in.Statement.{statement}
 use Rattle.dayfile.proofs.layout.steps_in.Tie as tie
-use Rattle.dayfile.proofs.layout.steps_in.Reads as reads
-use Rattle.dayfile.proofs.layout.steps_in.Lts as lts
 
--- src/layout.rt:76:15
 sub-end : tie.Need-sub-end
 sub-end c = search needs
 
--- src/layout.rt:77:5
 sub-result : tie.Need-sub-result
 sub-result c = search needs
 
--- src/layout.rt:77:5
 part-result-start : tie.Need-part-result-start
 part-result-start c = search needs
 
--- src/layout.rt:77:5
 part-result-end : tie.Need-part-result-end
 part-result-end c = search needs
 
--- src/layout.rt:72:1
 returns : tie.Need-returns
 unfolding stepsIn
 returns c = rw sub-zero

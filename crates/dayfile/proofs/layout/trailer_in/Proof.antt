@@ -1,33 +1,25 @@
-use lib.ListN.{length, drop}
+-- What begins 16 bytes before the end reaches to the end.
+use lib.ListN.{length, drop, length-drop}
 use Prim.Native.Nat.{_-_}
 use Rattle.dayfile.specs.Layout.{trailerIn, fromEnd}
 use native.Mathlib.Omega.{arith}
-use lib.ListN.{length-drop}
 use lib.Seq.{take-all}
-use mathlib.Core.Path.{refl}
 use borrow.Author.Needs.{needs}
 use Rattle.dayfile.proofs.layout.trailer_in.Statement.{statement}
 use Rattle.dayfile.proofs.layout.trailer_in.Tie as tie
-use Rattle.dayfile.proofs.layout.trailer_in.Reads as reads
-use Rattle.dayfile.proofs.layout.trailer_in.Lts as lts
 
--- src/layout.rt:57:17
 sub-start : tie.Need-sub-start
 sub-start c = search needs
 
--- src/layout.rt:58:5
 sub-result : tie.Need-sub-result
 sub-result c = search needs
 
--- src/layout.rt:58:5
 part-result-start : tie.Need-part-result-start
 part-result-start c = search needs
 
--- src/layout.rt:58:5
 part-result-end : tie.Need-part-result-end
 part-result-end c = search needs
 
--- src/layout.rt:53:1
 returns : tie.Need-returns
 unfolding trailerIn fromEnd
 returns c = let f = c .before .args .file .now in

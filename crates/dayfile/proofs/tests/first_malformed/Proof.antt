@@ -9,12 +9,10 @@ use borrow.Author.Count.{below-more}
 use borrow.Author.Needs.{needs}
 use Rattle.dayfile.specs.Layout.{stepCount}
 use Rattle.dayfile.specs.Tests.{wellAt, firstMalformed}
-use Rattle.dayfile.proofs.Laws.{leading-is, told-yes, told-not, well-here, incomplete}
+use Rattle.section.proofs.Told.{told-true, told-false}
+use Rattle.dayfile.proofs.Laws.{leading-is, well-here, incomplete}
 use Rattle.dayfile.proofs.tests.first_malformed.Statement.{statement}
 use Rattle.dayfile.proofs.tests.first_malformed.Tie as tie
-use Rattle.dayfile.proofs.tests.first_malformed.Reads as reads
-use Rattle.dayfile.proofs.tests.first_malformed.Lts as lts
-use Rattle.section.proofs.is_well_formed.Reads as is-well-formed-reads
 
 abbrev Inv-loop : tie.InvT-loop
 Inv-loop n steps whole i₀ i =
@@ -53,7 +51,7 @@ loop-less c = omega arith
 loop-again : tie.Need-loop-again Inv-loop μ-loop
 loop-again c =
     let b = c .before .before .before .before in
-    (refl, omega arith, below-more _ _ (b .loop .inv .2) (well-here _ _ (b .loop .i) (told-yes (c .before .is-well-formed .ensures) (c .if2 .left))))
+    (refl, omega arith, below-more _ _ (b .loop .inv .2) (well-here _ _ (b .loop .i) (told-true (c .before .is-well-formed .ensures) (c .if2 .left))))
 
 returns : tie.Need-returns Inv-loop μ-loop
 unfolding firstMalformed stepCount
@@ -66,7 +64,7 @@ unfolding firstMalformed stepCount
 returns-2 c =
     let b = c .before .before .before .before in
     leading-is _ _ (b .loop .i) (omega arith) (b .loop .inv .2)
-    (λ h. well-here _ _ (b .loop .i) (told-not (c .before .is-well-formed .ensures) (c .if2 .taken)))
+    (λ h. well-here _ _ (b .loop .i) (told-false (c .before .is-well-formed .ensures) (c .if2 .taken)))
 
 pub first-malformed-spec : {M : Type 1} → statement M
 first-malformed-spec =

@@ -1,22 +1,17 @@
+-- The branches are the tests, in their order.
 use Rattle.dayfile.specs.Tests.{lengthWrong}
-use borrow.Author.Tests.{le-leb, lt-leb, lt-ltb, le-ltb, eq-eqb, ne-eqb}
-use native.Mathlib.Omega.{arith}
+use borrow.Author.Tests.{lt-ltb, le-ltb}
 use Rattle.dayfile.proofs.tests.length_wrong.Statement.{statement}
 use Rattle.dayfile.proofs.tests.length_wrong.Tie as tie
-use Rattle.dayfile.proofs.tests.length_wrong.Reads as reads
-use Rattle.dayfile.proofs.tests.length_wrong.Lts as lts
 
--- src/tests.rt:19:9
 returns : tie.Need-returns
 unfolding lengthWrong
 returns c = rw (lt-ltb _ _ (c .if1 .taken))
 
--- src/tests.rt:22:9
 returns-2 : tie.Need-returns-2
 unfolding lengthWrong
 returns-2 c = rw (le-ltb _ _ (c .before .if1 .left), lt-ltb _ _ (c .if2 .taken))
 
--- src/tests.rt:15:1
 returns-3 : tie.Need-returns-3
 unfolding lengthWrong
 returns-3 c = rw (le-ltb _ _ (c .before .if1 .left), le-ltb _ _ (c .if2 .left))

@@ -1,67 +1,54 @@
+-- The branches are the tests of the four bytes, in their order.
 use Rattle.dayfile.specs.Tests.{markRight}
-use borrow.Author.Tests.{le-leb, lt-leb, lt-ltb, le-ltb, eq-eqb, ne-eqb}
+use borrow.Author.Tests.{eq-eqb, ne-eqb}
 use borrow.Author.Needs.{needs}
 use Rattle.dayfile.proofs.tests.mark_right.Statement.{statement}
 use Rattle.dayfile.proofs.tests.mark_right.Tie as tie
-use Rattle.dayfile.proofs.tests.mark_right.Reads as reads
-use Rattle.dayfile.proofs.tests.mark_right.Lts as lts
 
--- src/tests.rt:33:8
 shared-slice-read-if1 : tie.Need-shared-slice-read-if1
 shared-slice-read-if1 c = search needs
 
--- src/tests.rt:33:16
-element-copy-out-if1 : tie.Need-element-copy-out-if1
-element-copy-out-if1 c = search needs
+array-read-if1 : tie.Need-array-read-if1
+array-read-if1 c = search needs
 
--- src/tests.rt:34:9
 returns : tie.Need-returns
 unfolding markRight
 returns c = rw (ne-eqb _ _ (c .if1 .taken))
 
--- src/tests.rt:36:8
 shared-slice-read-if2 : tie.Need-shared-slice-read-if2
 shared-slice-read-if2 c = search needs
 
--- src/tests.rt:36:16
-element-copy-out-if2 : tie.Need-element-copy-out-if2
-element-copy-out-if2 c = search needs
+array-read-if2 : tie.Need-array-read-if2
+array-read-if2 c = search needs
 
--- src/tests.rt:37:9
 returns-2 : tie.Need-returns-2
 unfolding markRight
-returns-2 c = let d = c .before .before .before in
+returns-2 c = let d = c .before .before in
     rw (eq-eqb _ _ (d .if1 .left), ne-eqb _ _ (c .if2 .taken))
 
--- src/tests.rt:39:8
 shared-slice-read-if3 : tie.Need-shared-slice-read-if3
 shared-slice-read-if3 c = search needs
 
--- src/tests.rt:39:16
-element-copy-out-if3 : tie.Need-element-copy-out-if3
-element-copy-out-if3 c = search needs
+array-read-if3 : tie.Need-array-read-if3
+array-read-if3 c = search needs
 
--- src/tests.rt:40:9
 returns-3 : tie.Need-returns-3
 unfolding markRight
-returns-3 c = let e = c .before .before .before in
-    let d = e .before .before .before in
+returns-3 c = let e = c .before .before in
+    let d = e .before .before in
     rw (eq-eqb _ _ (d .if1 .left), eq-eqb _ _ (e .if2 .left), ne-eqb _ _ (c .if3 .taken))
 
--- src/tests.rt:42:5
 shared-slice-read-result : tie.Need-shared-slice-read-result
 shared-slice-read-result c = search needs
 
--- src/tests.rt:42:13
-element-copy-out-result : tie.Need-element-copy-out-result
-element-copy-out-result c = search needs
+array-read-result : tie.Need-array-read-result
+array-read-result c = search needs
 
--- src/tests.rt:28:1
 returns-4 : tie.Need-returns-4
 unfolding markRight
-returns-4 c = let f = c .before .before in
-    let e = f .before .before .before in
-    let d = e .before .before .before in
+returns-4 c = let f = c .before in
+    let e = f .before .before in
+    let d = e .before .before in
     rw (eq-eqb _ _ (d .if1 .left), eq-eqb _ _ (e .if2 .left), eq-eqb _ _ (f .if3 .left))
 
 pub mark-right-spec : {M : Type 1} → statement M
@@ -69,14 +56,14 @@ mark-right-spec =
     tie.close
     (tie.spec
     shared-slice-read-if1
-    element-copy-out-if1
+    array-read-if1
     returns
     shared-slice-read-if2
-    element-copy-out-if2
+    array-read-if2
     returns-2
     shared-slice-read-if3
-    element-copy-out-if3
+    array-read-if3
     returns-3
     shared-slice-read-result
-    element-copy-out-result
+    array-read-result
     returns-4)

@@ -10,7 +10,7 @@ watched-occupied-requires c κs = search needs
 
 returns : tie.Need-returns
 unfolding isMaterialised
-returns c = rw (eq-eqb _ _ (c .before .if1 .taken)) (c .watched-occupied .ensures)
+returns c = rw (eq-eqb (c .before .before .before .args .c .form) 1 (c .before .if1 .taken)) (c .watched-occupied .ensures)
 
 sub-any-train : tie.Need-sub-any-train
 sub-any-train c = search needs
@@ -20,7 +20,7 @@ any-train-requires c κs = search needs
 
 returns-2 : tie.Need-returns-2
 unfolding isMaterialised
-returns-2 c = rw (ne-eqb _ _ (c .before .before .if1 .left)) (c .any-train .ensures)
+returns-2 c = rw (ne-eqb (c .before .before .before .before .args .c .form) 1 (c .before .before .if1 .left)) (c .any-train .ensures)
 
 pub order-occupied-spec : {M : Type 1} → statement M
 order-occupied-spec =

@@ -1,0 +1,221 @@
+-- A step on its own track, and the section around it.
+use Prim.Native.Nat.{ℕ, zero, suc, _+_, _-_, _*_, _/_, _<_, _≤_}
+use mathlib.Core.Bool.{Bool, true, false, not, cond, _&&_, _||_}
+use native.Mathlib.Omega.{arith}
+use native.Mathlib.Decide.{decLt}
+use native.Mathlib.Nat.{add-assoc, add-zero, add-sub-cancel-left}
+use lib.ListN.{length, take, drop}
+use native.Mathlib.Numerals.{add-one}
+use lib.Dec.{eqb, ltb, leb}
+use borrow.Author.Tests.{lt-ltb, le-ltb, le-leb, lt-leb, eq-eqb, ne-eqb, not-true, not-false}
+use mathlib.Core.List.{List}
+use mathlib.Core.Path.{_≡_, refl, sym, _∙_, ap}
+use Rattle.section.specs.declared.Settings.{Settings}
+use Rattle.section.specs.declared.Said.{Said}
+use Rattle.section.specs.declared.Verdict.{Verdict}
+use Rattle.section.specs.declared.Verdict.the-variants.{Accepted, Refused}
+use Rattle.section.specs.declared.Act.{Act}
+use Rattle.section.specs.declared.Walk.{Walk}
+use Rattle.section.specs.declared.Walk.the-variants.{Turn}
+use Rattle.section.specs.declared.Track.{Track}
+use Rattle.section.specs.declared.Section.{Section}
+use Rattle.section.specs.declared.Step.{Step}
+use Rattle.section.specs.declared.TrackStep.{TrackStep}
+use Rattle.section.specs.declared.Answer.{Answer}
+use Rattle.section.specs.declared.Indications.{Indications}
+use Rattle.section.specs.Fresh.{freshSection}
+use Rattle.section.specs.Range.{walkFits, trackFits, inRange}
+use Rattle.section.specs.Settings.{isMaterialised, settingsRight}
+use Rattle.section.specs.Step.{postOf, numberOf}
+use Rattle.section.specs.Store.{trackOf, withTrack}
+use Rattle.section.proofs.Laws.{posts-right, track-right, turn-right}
+use Rattle.rules.specs.declared.Site.{Site}
+use Rattle.rules.specs.Site.{siteOn, otherSettledOnVns, upAt, rankAt, atReceivingEnd, watchedOccupied, occupancyAt}
+use Rattle.rules.specs.Table.{checks, effect, trackAfter}
+use Rattle.rules.specs.Judge.{verdictOf, answerOf, verdictOn, sectionAfter, judgeStep, judge}
+use Rattle.rules.specs.Indications.{setCount, isNextToSet, lampsAt, circulation, troncon, shown, dark, indicationsOn, indications}
+use Rattle.effects.specs.Part.{Fitting}
+use Rattle.effects.proofs.Accepted.{fitting}
+use Rattle.checks.specs.VerdictAt.{verdictAt}
+use Rattle.engine.specs.declared.Judged.{Judged}
+use Rattle.engine.specs.AcceptedCount.{countsAs, offeredAt, acceptedFrom, acceptedCount}
+use Rattle.engine.specs.LampsAt.{shownAt}
+use Rattle.engine.specs.OneTrack.{Fit, judgedOf, judgedAt, judgedOn}
+
+-- ## At a site
+
+pub fitting-at :
+    (c : Settings) (x : Step) (e : Site) (trains last : List ℕ) (v : Verdict) (w : Said) → Fit c e → v ≡ verdictAt c x e trains last
+    → v ≡ Accepted w → Fitting c x e
+fitting-at c x e trains last v w fit is told =
+    fitting c e (occupancyAt c e (numberOf x) trains last) (fit .placed) (fit .walk) (fit .seals) (effect c x e .said) w x (sym is ∙ told)
+
+pub accepted-at :
+    (v v′ : Verdict) (w : Said) (old new r : Track) → v ≡ v′ → v ≡ Accepted w → r ≡ new
+    → _≡_ {A = Judged} (record { verdict = v; track = r }) (judgedOf v′ old new)
+unfolding judgedOf
+accepted-at v v′ w old new r is told after =
+    let e : v′ ≡ Accepted w = sym is ∙ told in
+    rw (e, told, after)
+
+pub refused-at :
+    (v v′ : Verdict) (k : ℕ) (old new : Track) → v ≡ v′ → v ≡ Refused k → _≡_ {A = Judged} (record { verdict = v; track = old }) (judgedOf v′ old new)
+unfolding judgedOf
+refused-at v v′ k old new is told =
+    let e : v′ ≡ Refused k = sym is ∙ told in
+    rw (e, told)
+
+-- ## On a track
+
+pub fit-on :
+    (c : Settings) (vns track : Bool) (t : Track) (p : ℕ) → settingsRight c ≡ true → trackFits (c .posts) track t ≡ true → p < c .posts
+    → Fit c (siteOn vns track p t)
+fit-on c vns track t p right fits below =
+    let n = posts-right c right in
+    let r = track-right (c .posts) track t fits in
+    record { placed = record { least = n .0; most = n .1; post = below }; seals = r .seals p below; walk = r .walk }
+
+-- ## In the section
+
+-- a track put back as it was
+same-track : (s : Section) (b : Bool) → withTrack s b (trackOf s b) ≡ s
+same-track s true = refl
+same-track s false = refl
+
+judged-answer :
+    (s : Section) (b : Bool) (new : Track) (v : Verdict)
+    → _≡_ {A = Answer} (record { verdict = judgedOf v (trackOf s b) new .verdict; section = withTrack s b (judgedOf v (trackOf s b) new .track) })
+    (answerOf v s (withTrack s b new))
+unfolding judgedOf answerOf
+judged-answer s b new (Accepted w) = refl
+judged-answer s b new (Refused k) = ap (λ (z : Section). record { verdict = Refused k; section = z }) (same-track s b)
+
+pub step-judged :
+    (s : Section) (x : TrackStep) (b vns : Bool) (j : Judged) → x .track ≡ b → vns ≡ otherSettledOnVns s b
+    → j ≡ judgedOn (s .settings) vns b (x .step) (trackOf s b)
+    → _≡_ {A = Answer} (record { verdict = j .verdict; section = withTrack s b (j .track) }) (judgeStep s x)
+unfolding judgedOn judgedAt judgeStep verdictOn sectionAfter
+step-judged s x b vns j at seen is =
+    rw (at, is, seen)
+    (judged-answer s b (trackAfter (s .settings) (x .step) (siteOn (otherSettledOnVns s b) b (postOf (x .step)) (trackOf s b)) (trackOf s b))
+    (verdictAt (s .settings) (x .step) (siteOn (otherSettledOnVns s b) b (postOf (x .step)) (trackOf s b)) (trackOf s b .trains) (trackOf s b .last)))
+
+-- ## Lamps
+
+pub next-first : (count j : ℕ) → j ≡ 0 → false ≡ isNextToSet count j
+unfolding isNextToSet
+next-first count j e = rw e
+
+pub next-over : (count j : ℕ) → count < j → false ≡ isNextToSet count j
+unfolding isNextToSet
+next-over count zero h = absurd (omega arith)
+next-over count (suc j) h = rw (le-ltb j count (omega arith))
+
+pub next-within : (count j : ℕ) → (j ≡ 0 → ⊥) → j ≤ count → leb count j ≡ isNextToSet count j
+unfolding isNextToSet
+next-within count zero z h = absurd (z refl)
+next-within count (suc j) z h = rw (lt-ltb j count (omega arith)) (go (decLt (suc j) count))
+  where
+    go : Dec (suc j < count) → leb count (suc j) ≡ not (ltb (suc j) count)
+    go (yes k) = rw (lt-leb count (suc j) k, lt-ltb (suc j) count k)
+    go (no k) = rw (le-leb count (suc j) (omega arith), le-ltb (suc j) count (omega arith))
+
+-- a turn's post is one of the line
+pub turn-below : (n : ℕ) (up : Bool) (w : Walk) (p : ℕ) (act : Act) → walkFits n up w ≡ true → w ≡ Turn p act → p < n
+turn-below n up w p act fits is = turn-right n up p act (rw is at fits) .0
+
+-- the test of the form
+pub not-materialised : (c : Settings) → (c .form ≡ 1 → ⊥) → isMaterialised c ≡ false
+unfolding isMaterialised
+not-materialised c h = ne-eqb (c .form) 1 h
+
+pub is-materialised : (c : Settings) → c .form ≡ 1 → isMaterialised c ≡ true
+unfolding isMaterialised
+is-materialised c h = eq-eqb (c .form) 1 h
+
+-- the indications of a section by its tracks
+pub shown-is :
+    (s : Section) (track post : ℕ) (b : Bool) → inRange s ≡ true → track < 2 → post < s .settings .posts → eqb track 1 ≡ b
+    → shownAt (s .settings) (siteOn true b post (trackOf s b)) (trackOf s b .trains) ≡ indications s track post
+unfolding indications indicationsOn lampsAt watchedOccupied
+shown-is s track post b range t p e = rw (range, lt-ltb track 2 t, lt-ltb post (s .settings .posts) p, e)
+
+pub dark-out : (s : Section) (track post : ℕ) → inRange s ≡ false → dark ≡ indications s track post
+unfolding indications
+dark-out s track post h = rw h
+
+pub dark-track : (s : Section) (track post : ℕ) → inRange s ≡ true → 2 ≤ track → dark ≡ indications s track post
+unfolding indications
+dark-track s track post h k = rw (h, le-ltb track 2 k)
+
+pub dark-post :
+    (s : Section) (track post : ℕ) → inRange s ≡ true → track < 2 → s .settings .posts ≤ post → dark ≡ indications s track post
+unfolding indications
+dark-post s track post h t k = rw (h, lt-ltb track 2 t, le-ltb post (s .settings .posts) k)
+
+-- TRONÇON by its tests
+pub no-part : (x f o : Bool) → not x ≡ true → _≡_ {A = ℕ} 0 (cond x (cond (f || o) 2 1) 0)
+no-part x f o h = rw (not-true x h)
+
+pub red-by-fault : (x f o : Bool) → not x ≡ false → f ≡ true → _≡_ {A = ℕ} 2 (cond x (cond (f || o) 2 1) 0)
+red-by-fault x f o h e = rw (not-false x h, e)
+
+pub red-by-train : (x f o : Bool) → not x ≡ false → f ≡ false → o ≡ true → _≡_ {A = ℕ} 2 (cond x (cond (f || o) 2 1) 0)
+red-by-train x f o h e k = rw (not-false x h, e, k)
+
+pub white : (x f o : Bool) → not x ≡ false → f ≡ false → o ≡ false → _≡_ {A = ℕ} 1 (cond x (cond (f || o) 2 1) 0)
+white x f o h e k = rw (not-false x h, e, k)
+
+-- the bits, put together
+pub flashing-is :
+    (n k j rank : ℕ) (r u up : Bool) (w : Walk) → r ≡ isNextToSet k j → k ≡ setCount n u w → u ≡ up → j ≡ rank
+    → r ≡ isNextToSet (setCount n up w) rank
+flashing-is n k j rank r u up w a b d e = cc
+
+pub shown-parts :
+    (c : Settings) (e : Site) (trains : List ℕ) (r₁ r₂ r₃ : ℕ) (flashing last occupied : Bool)
+    → r₁ ≡ cond (e .own .fault3) 0 (cond flashing (cond (e .own .cvt) 3 4) (cond (e .own .cvt) 2 1))
+    → flashing ≡ (isMaterialised c && isNextToSet (setCount (c .posts) (upAt c e) (e .walk)) (rankAt c e))
+    → r₂ ≡ cond (not last) (cond (e .own .fault1 || occupied) 2 1) 0 → last ≡ atReceivingEnd c e → occupied ≡ watchedOccupied c e trains
+    → r₃ ≡ cond (e .own .permission) 1 0
+    → _≡_ {A = Indications} (record { circulation = r₁; troncon = r₂; permission = r₃ }) (shownAt c e trains)
+unfolding shown circulation troncon
+shown-parts c e trains r₁ r₂ r₃ flashing last occupied e₁ f e₂ l o e₃ = rw (e₁, f, e₂, l, o, e₃)
+
+-- ## A day
+
+pub counts-at-most : (v : Verdict) (r : ℕ) → r ≡ countsAs v → r ≤ 1
+unfolding countsAs
+counts-at-most (Accepted w) r e = omega arith
+counts-at-most (Refused k) r e = omega arith
+
+pub none-counted : (f : ℕ → ℕ) (m : ℕ) → f m ≡ 0 + f (m - 0)
+none-counted f m =
+    let e : m - 0 ≡ m = omega arith in
+    rw e (omega arith)
+
+-- the part that is lent is the step's bytes
+pub part-offered : (steps : List ℕ) (i : ℕ) → take (i * 8 + 8 - i * 8) (drop (i * 8) steps) ≡ offeredAt steps i
+part-offered steps i = ap (λ (k : ℕ). take k (drop (i * 8) steps)) (add-sub-cancel-left (i * 8) 8)
+
+-- one step more is counted
+pub one-more :
+    (s : Section) (steps : List ℕ) (i k k′ total done r : ℕ) (bytes : List ℕ) (after : Answer) → k ≡ suc k′
+    → total ≡ done + acceptedFrom s steps i k → bytes ≡ offeredAt steps i → after ≡ judge s bytes → r ≡ countsAs (after .verdict)
+    → total ≡ (done + r) + acceptedFrom (after .section) steps (i + 1) k′
+unfolding acceptedFrom
+one-more s steps i k k′ total done r bytes after q t is told counts =
+    let e : after ≡ judge s (offeredAt steps i) = told ∙ ap (judge s) is in
+    let n : i + 1 ≡ suc i = add-one i in
+    let u : total ≡ done + acceptedFrom s steps i (suc k′) = t ∙ ap (λ (j : ℕ). done + acceptedFrom s steps i j) q in
+    rw (counts, e, n, add-assoc) u
+
+-- the last step is counted
+pub all-counted :
+    (c : Settings) (s₀ s : Section) (steps : List ℕ) (i m done : ℕ) → s₀ ≡ freshSection c → i ≡ m → m ≡ length steps / 8
+    → acceptedFrom s₀ steps 0 m ≡ done + acceptedFrom s steps i (m - i) → done ≡ acceptedCount c steps
+unfolding acceptedFrom acceptedCount
+all-counted c s₀ s steps i m done fresh end count t =
+    let z : m - i ≡ 0 = omega arith in
+    let u : acceptedFrom s₀ steps 0 m ≡ done + 0 = t ∙ ap (λ (k : ℕ). done + acceptedFrom s steps i k) z in
+    sym (add-zero done) ∙ sym u ∙ ap (λ (x : Section). acceptedFrom x steps 0 m) fresh ∙ ap (acceptedFrom (freshSection c) steps 0) count

@@ -1,0 +1,23 @@
+use borrow.Author.Needs.{needs}
+use Rattle.engine.specs.AcceptedCount.{countsAs}
+use Rattle.engine.proofs.whole_day.counts_as.Statement.{statement}
+use Rattle.engine.proofs.whole_day.counts_as.Tie as tie
+use Rattle.engine.proofs.whole_day.counts_as.Reads as reads
+use Rattle.engine.proofs.whole_day.counts_as.Lts as lts
+
+enum-told : tie.Need-enum-told
+enum-told c = search needs
+
+enum-told-2 : tie.Need-enum-told-2
+enum-told-2 c = search needs
+
+returns : tie.Need-returns
+unfolding countsAs
+returns c = rw (c .enum-told .given .1)
+
+returns-2 : tie.Need-returns-2
+unfolding countsAs
+returns-2 c = rw (c .enum-told2 .given .1)
+
+pub counts-as-spec : {M : Type 1} → statement M
+counts-as-spec = tie.close (tie.spec enum-told enum-told-2 returns returns-2)

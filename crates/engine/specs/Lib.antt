@@ -1,0 +1,3 @@
+pub mod OneTrack
+pub mod LampsAt
+pub mod AcceptedCount

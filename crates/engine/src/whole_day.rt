@@ -1,0 +1,35 @@
+// The accepted steps of a day, counted.
+ghost use mathlib.Core.Path.{_≡_};
+ghost use Rattle.engine.specs.AcceptedCount.{countsAs, acceptedCount};
+use crate::judging;
+use section::Settings;
+use section::Verdict;
+use section::STEP_LENGTH;
+
+fn counts_as(verdict: Verdict) -> usize
+    ensures { λ r. ⌜ r ≡ countsAs verdict ⌝ }
+{
+    match verdict {
+        Verdict::Accepted(_) => 1,
+        Verdict::Refused(_) => 0,
+    }
+}
+
+// How many of the whole steps are accepted when they are offered one after another from fresh.
+pub fn accepted_count(c: Settings, steps: &[u8]) -> usize
+    ensures { λ r. ⌜ r ≡ acceptedCount c (now (steps .entry)) ⌝ }
+{
+    let count = steps.len() / STEP_LENGTH;
+    let mut section = section::fresh(c);
+    let mut accepted: usize = 0;
+    let mut i: usize = 0;
+    while i < count {
+        let at = i * STEP_LENGTH;
+        let answer = judging::judge(section, &steps[at..at + STEP_LENGTH]);
+        let verdict = answer.verdict;
+        accepted += counts_as(verdict);
+        section = answer.section;
+        i += 1;
+    }
+    accepted
+}

@@ -1,0 +1,3 @@
+pub mod Days
+pub mod PlainReversal
+pub mod Annex5
