@@ -2,21 +2,19 @@
 use Prim.Native.Nat.{ℕ, _*_, _≤_}
 use mathlib.Core.Bool.{true, false}
 use mathlib.Core.List.{List}
-use mathlib.Core.Path.{_≡_, refl, _∙_}
+use mathlib.Core.Path.{_≡_, _∙_}
 use native.Mathlib.Omega.{arith}
 use Rattle.section.specs.declared.Answer.{Answer}
-use Rattle.section.specs.declared.Indications.{Indications}
 use Rattle.section.specs.declared.Said.{Said}
 use Rattle.section.specs.declared.Said.the-variants.{Nothing, Cvt, Cvtz, Vns, Vnsz}
 use Rattle.section.specs.declared.Section.{Section}
 use Rattle.section.specs.declared.Verdict.the-variants.{Accepted, Refused}
 use Rattle.section.specs.Words.{refusalOf, saidBy, saidNumber}
-use Rattle.rules.specs.Indications.{indications}
 use Rattle.rules.specs.Judge.{judge}
 use Rattle.text.specs.Text.{written}
 use Rattle.image.specs.Image.{imageOf, imageRight, sectionOf}
 use Rattle.image.proofs.Laws.{right-length, whole-written}
-use Rattle.capi.specs.Engine.{packedVerdict, judgedImage, writtenBack, imageAfter, packedIndications, shownOf}
+use Rattle.capi.specs.Engine.{packedVerdict, judgedImage, writtenBack, imageAfter}
 
 pub said-small : {n : ℕ} (said : Said) → n ≡ saidNumber said → n ≤ 4
 unfolding saidNumber

@@ -2,6 +2,7 @@
 ghost use mathlib.Core.Path.{_≡_};
 ghost use lib.ListN.{length};
 ghost use Rattle.section.specs.Words.{saidNumber};
+ghost use Rattle.engine.specs.AcceptedCount.{acceptedCount};
 ghost use Rattle.capi.specs.Engine.{freshAnswer, freshImage, judgedImage, imageAfter, shownOf};
 ghost use Rattle.capi.specs.Files.{settingsGiven};
 use image::IMAGE_LENGTH;
@@ -71,4 +72,18 @@ pub extern "C" fn bsr_indications(bytes: &[u8], track: u8, post: u8) -> u16
     }
     let shown = engine::indications(image::section_of(bytes), track, post);
     (shown.circulation as u16) + (shown.troncon as u16) * 8 + (shown.permission as u16) * 64
+}
+
+// How many of the whole steps are accepted when they are offered one after another from fresh.
+#[no_mangle]
+pub extern "C" fn bsr_accepted(n: u8, form: u8, mask: u16, line: u16, steps: &[u8]) -> u64
+    ensures { λ r. ⌜ r ≡ acceptedCount (settingsGiven n form mask line) (now (steps .entry)) ⌝ }
+{
+    let c = Settings {
+        posts: n,
+        form: form,
+        mask: mask,
+        line: line,
+    };
+    engine::accepted_count(c, steps) as u64
 }

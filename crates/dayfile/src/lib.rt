@@ -13,6 +13,7 @@ use layout::SETTINGS_DISTANCE;
 use layout::SETTINGS_LENGTH;
 pub use layout::pair_bytes;
 pub use layout::pair_of;
+pub use layout::settings_bytes;
 use section::STEP_LENGTH;
 use section::Settings;
 

@@ -2,7 +2,6 @@
 ghost use mathlib.Core.Path.{_≡_};
 ghost use Prim.Native.Nat.{_+_, _*_, _≤_};
 ghost use lib.ListN.{length};
-ghost use Rattle.dayfile.specs.Layout.{settingsBytes};
 ghost use Rattle.text.specs.Text.{written};
 ghost use Rattle.image.specs.Image.{imageLength, trackLength, postsLength, numbersLength, flag, faultsByte, postImage, postsImage};
 ghost use Rattle.image.specs.Image.{numbersImage, actNumber, walkImage, trackHead, trackImage, imageOf};
@@ -14,7 +13,6 @@ use crate::TRAINS;
 use section::Act;
 use section::Post;
 use section::Section;
-use section::Settings;
 use section::Track;
 use section::Walk;
 
@@ -44,14 +42,6 @@ pub fn post_bytes(o: Post) -> [u8; 8]
         seals[0],
         seals[1],
     ]
-}
-
-pub fn settings_bytes(c: Settings) -> [u8; 8]
-    ensures { λ r. ⌜ r ≡ settingsBytes c ⌝ }
-{
-    let mask = dayfile::pair_bytes(c.mask);
-    let line = dayfile::pair_bytes(c.line);
-    [c.posts, c.form, mask[0], mask[1], line[0], line[1], 0, 0]
 }
 
 pub fn act_number(act: Act) -> u8
@@ -133,7 +123,7 @@ pub fn put_image(buffer: &mut [u8], s: Section)
     requires { ⌜ imageLength ≤ length (now buffer) ⌝ }
     ensures { λ _. ⌜ now (buffer .exit) ≡ written (now (buffer .entry)) 0 (imageOf s) ⌝ }
 {
-    let settings = settings_bytes(s.settings);
+    let settings = dayfile::settings_bytes(s.settings);
     let a = text::put_text(buffer, 0, &settings);
     let b = put_track(buffer, a, s.a);
     put_track(buffer, b, s.b);

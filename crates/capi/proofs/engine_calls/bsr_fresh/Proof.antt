@@ -1,32 +1,22 @@
 use borrow.Author.Tests.{lt-ltb, le-ltb}
-use mathlib.Core.Path.{_∙_}
 use Rattle.capi.specs.Engine.{freshAnswer, freshImage}
 use borrow.Author.Needs.{needs}
 use Rattle.capi.proofs.engine_calls.bsr_fresh.Statement.{statement}
 use Rattle.capi.proofs.engine_calls.bsr_fresh.Tie as tie
-use Rattle.capi.proofs.engine_calls.bsr_fresh.Reads as reads
-use Rattle.capi.proofs.engine_calls.bsr_fresh.Lts as lts
-use Rattle.image.proofs.put_image.Reads as put-image-reads
-use Rattle.section.proofs.fresh.Reads as fresh-reads
 
--- src/engine_calls.rt:19:9
 returns : tie.Need-returns
 unfolding freshAnswer freshImage
 returns c = let e = lt-ltb _ _ (c .if1 .taken) in (rw e, rw e)
 
--- src/engine_calls.rt:27:30
 fresh-requires : tie.Need-fresh-requires
 fresh-requires c κs = search needs
 
--- src/engine_calls.rt:27:5
 put-image-requires : tie.Need-put-image-requires
 put-image-requires c κs = search needs
 
--- src/engine_calls.rt:13:1
 same-length : tie.Need-same-length
 same-length c = search needs
 
--- src/engine_calls.rt:13:1
 returns-2 : tie.Need-returns-2
 unfolding freshAnswer freshImage
 returns-2 c = 

@@ -5,58 +5,41 @@ use Rattle.capi.specs.Engine.{packedIndications, shownOf}
 use borrow.Author.Needs.{needs}
 use Rattle.capi.proofs.engine_calls.bsr_indications.Statement.{statement}
 use Rattle.capi.proofs.engine_calls.bsr_indications.Tie as tie
-use Rattle.capi.proofs.engine_calls.bsr_indications.Reads as reads
-use Rattle.capi.proofs.engine_calls.bsr_indications.Lts as lts
-use Rattle.engine.proofs.indications.Reads as indications-reads
-use Rattle.image.proofs.section_of.Reads as section-of-reads
-use Rattle.image.proofs.image_right.Reads as image-right-reads
 
--- src/engine_calls.rt:69:9
 image-right-requires : tie.Need-image-right-requires
 image-right-requires c κs = search needs
 
--- src/engine_calls.rt:70:9
 returns : tie.Need-returns
 unfolding shownOf
 returns c = rw (told-false (c .before .image-right .ensures) (c .if1 .taken))
 
--- src/engine_calls.rt:72:37
 section-of-requires : tie.Need-section-of-requires
 section-of-requires c κs = omega (arith, right-length _ (told-true (c .before .image-right .ensures) (c .if1 .left)))
 
--- src/engine_calls.rt:72:9
 indications-requires : tie.Need-indications-requires
 indications-requires c κs = search needs
 
--- src/engine_calls.rt:73:6
 cast-result : tie.Need-cast-result
 cast-result c = search needs
 
--- src/engine_calls.rt:73:35
 cast-result-2 : tie.Need-cast-result-2
 cast-result-2 c = search needs
 
--- src/engine_calls.rt:73:34
 mul-result : tie.Need-mul-result
 mul-result c = search needs
 
--- src/engine_calls.rt:73:5
 add-result : tie.Need-add-result
 add-result c = search needs
 
--- src/engine_calls.rt:73:64
 cast-result-3 : tie.Need-cast-result-3
 cast-result-3 c = search needs
 
--- src/engine_calls.rt:73:63
 mul-result-2 : tie.Need-mul-result-2
 mul-result-2 c = search needs
 
--- src/engine_calls.rt:73:5
 add-result-2 : tie.Need-add-result-2
 add-result-2 c = search needs
 
--- src/engine_calls.rt:65:1
 returns-2 : tie.Need-returns-2
 unfolding shownOf packedIndications
 returns-2 c = 

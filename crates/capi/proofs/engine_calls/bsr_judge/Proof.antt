@@ -6,63 +6,43 @@ use Rattle.capi.proofs.Images.{said-small, no-image, accepted, refused}
 use borrow.Author.Needs.{needs}
 use Rattle.capi.proofs.engine_calls.bsr_judge.Statement.{statement}
 use Rattle.capi.proofs.engine_calls.bsr_judge.Tie as tie
-use Rattle.capi.proofs.engine_calls.bsr_judge.Reads as reads
-use Rattle.capi.proofs.engine_calls.bsr_judge.Lts as lts
-use Rattle.capi.proofs.engine_calls.said_number.Reads as said-number-reads
-use Rattle.engine.proofs.judge.Reads as judge-reads
-use Rattle.image.proofs.section_of.Reads as section-of-reads
-use Rattle.image.proofs.image_right.Reads as image-right-reads
-use Rattle.image.proofs.put_image.Reads as put-image-reads
 
--- src/engine_calls.rt:49:9
 image-right-requires : tie.Need-image-right-requires
 image-right-requires c κs = search needs
 
--- src/engine_calls.rt:50:9
 same-length : tie.Need-same-length
 same-length c = search needs
 
--- src/engine_calls.rt:50:9
 returns : tie.Need-returns
 returns c = let x = c .before .before .before .before .before .args in no-image (now (x .bytes)) (now (x .step)) (told-false (c .before .image-right .ensures) (c .if1 .taken))
 
--- src/engine_calls.rt:52:32
 section-of-requires : tie.Need-section-of-requires
 section-of-requires c κs = omega (arith, right-length _ (told-true (c .before .before .image-right .ensures) (c .before .if1 .left)))
 
--- src/engine_calls.rt:52:9
 judge-requires : tie.Need-judge-requires
 judge-requires c κs = search needs
 
--- src/engine_calls.rt:55:27
 enum-known-verdict : tie.Need-enum-known-verdict
 enum-known-verdict c = search needs
 
--- src/engine_calls.rt:57:13
 put-image-requires : tie.Need-put-image-requires
 put-image-requires c κs = omega (arith, right-length _ (told-true (c .before .before .before .before .before .before .before .before .before .image-right .ensures) (c .before .before .before .before .before .before .before .before .if1 .left)))
 
--- src/engine_calls.rt:58:13
 said-number-requires : tie.Need-said-number-requires
 said-number-requires c κs = search needs
 
--- src/engine_calls.rt:58:13
 mul-result : tie.Need-mul-result
 mul-result c = omega (arith, said-small _ (c .said-number .ensures))
 
--- src/engine_calls.rt:60:26
 enum-known-verdict-2 : tie.Need-enum-known-verdict-2
 enum-known-verdict-2 c = search needs
 
--- src/engine_calls.rt:60:37
 cast-result : tie.Need-cast-result
 cast-result c = search needs
 
--- src/engine_calls.rt:44:1
 same-length-2 : tie.Need-same-length-2
 same-length-2 c = search needs
 
--- src/engine_calls.rt:44:1
 returns-2 : tie.Need-returns-2
 returns-2 c = 
     let x = c .before .before .before .before .before .before .before .before .before .before .before .before .before .before .before .before .before .args in
@@ -70,11 +50,9 @@ returns-2 c =
     accepted (now (x .bytes)) (now (x .step)) (told-true (e .before .image-right .ensures) (e .if1 .left)) (c .before .before .before .before .before .before .before .before .before .before .section-of .ensures) (c .before .before .before .before .before .before .before .before .before .judge .ensures)
     (c .before .before .before .before .before .before .before .verdict .given .1) (c .said-number .ensures) (c .before .before .before .put-image .ensures)
 
--- src/engine_calls.rt:44:1
 same-length-3 : tie.Need-same-length-3
 same-length-3 c = search needs
 
--- src/engine_calls.rt:44:1
 returns-3 : tie.Need-returns-3
 returns-3 c = 
     let x = c .before .before .before .before .before .before .before .before .before .before .before .args in

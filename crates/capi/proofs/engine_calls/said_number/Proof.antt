@@ -2,50 +2,38 @@ use Rattle.section.specs.Words.{saidNumber}
 use borrow.Author.Needs.{needs}
 use Rattle.capi.proofs.engine_calls.said_number.Statement.{statement}
 use Rattle.capi.proofs.engine_calls.said_number.Tie as tie
-use Rattle.capi.proofs.engine_calls.said_number.Reads as reads
-use Rattle.capi.proofs.engine_calls.said_number.Lts as lts
 
--- src/engine_calls.rt:35:26
 enum-told : tie.Need-enum-told
 enum-told c = search needs
 
--- src/engine_calls.rt:36:22
 enum-told-2 : tie.Need-enum-told-2
 enum-told-2 c = search needs
 
--- src/engine_calls.rt:37:23
 enum-told-3 : tie.Need-enum-told-3
 enum-told-3 c = search needs
 
--- src/engine_calls.rt:38:22
 enum-told-4 : tie.Need-enum-told-4
 enum-told-4 c = search needs
 
--- src/engine_calls.rt:39:23
 enum-told-5 : tie.Need-enum-told-5
 enum-told-5 c = search needs
 
--- src/engine_calls.rt:31:1
 returns : tie.Need-returns
 unfolding saidNumber
 returns c = simp (c .enum-told .given .1)
 
--- src/engine_calls.rt:31:1
 returns-2 : tie.Need-returns-2
 unfolding saidNumber
 returns-2 c = simp (c .enum-told2 .given .1)
 
--- src/engine_calls.rt:31:1
 returns-3 : tie.Need-returns-3
 unfolding saidNumber
 returns-3 c = simp (c .enum-told3 .given .1)
 
--- src/engine_calls.rt:31:1
 returns-4 : tie.Need-returns-4
 unfolding saidNumber
 returns-4 c = simp (c .enum-told4 .given .1)
 
--- src/engine_calls.rt:31:1
 returns-5 : tie.Need-returns-5
 unfolding saidNumber
 returns-5 c = simp (c .enum-told5 .given .1)
