@@ -11,6 +11,9 @@ ghost use Rattle.dayfile.specs.Tests.{notRead, readOf, writeVerdict, wri
 use layout::MOST_STEPS;
 use layout::SETTINGS_DISTANCE;
 use layout::SETTINGS_LENGTH;
+pub use layout::pair_bytes;
+pub use layout::pair_of;
+pub use layout::settings_bytes;
 use section::STEP_LENGTH;
 use section::Settings;
 

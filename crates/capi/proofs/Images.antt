@@ -1,0 +1,49 @@
+-- The answers of the calls on a section's image, each by what led to it.
+use Prim.Native.Nat.{ℕ, _*_, _≤_}
+use mathlib.Core.Bool.{true, false}
+use mathlib.Core.List.{List}
+use mathlib.Core.Path.{_≡_, _∙_}
+use native.Mathlib.Omega.{arith}
+use Rattle.section.specs.declared.Answer.{Answer}
+use Rattle.section.specs.declared.Said.{Said}
+use Rattle.section.specs.declared.Said.the-variants.{Nothing, Cvt, Cvtz, Vns, Vnsz}
+use Rattle.section.specs.declared.Section.{Section}
+use Rattle.section.specs.declared.Verdict.the-variants.{Accepted, Refused}
+use Rattle.section.specs.Words.{refusalOf, saidBy, saidNumber}
+use Rattle.rules.specs.Judge.{judge}
+use Rattle.text.specs.Text.{written}
+use Rattle.image.specs.Image.{imageOf, imageRight, sectionOf}
+use Rattle.image.proofs.Laws.{right-length, whole-written}
+use Rattle.capi.specs.Engine.{packedVerdict, judgedImage, writtenBack, imageAfter}
+
+pub said-small : {n : ℕ} (said : Said) → n ≡ saidNumber said → n ≤ 4
+unfolding saidNumber
+said-small Nothing e = omega arith
+said-small Cvt e = omega arith
+said-small Cvtz e = omega arith
+said-small Vns e = omega arith
+said-small Vnsz e = omega arith
+
+-- ## A step judged
+
+module _ (image step : List ℕ) where
+  -- the answer, and the image afterwards
+  abbrev Judged : ℕ → List ℕ → Type 0
+  Judged r after = (r ≡ judgedImage image step) × (after ≡ imageAfter image step)
+
+  pub no-image : imageRight image ≡ false → Judged 6 image
+  unfolding judgedImage imageAfter
+  no-image e = (rw e, rw e)
+
+  module _ (e : imageRight image ≡ true) {s : Section} {a : Answer} (es : s ≡ sectionOf image) (ea : a ≡ judge s step) where
+    pub accepted :
+        {said : Said} {n : ℕ} {after : List ℕ} → a .verdict ≡ Accepted said → n ≡ saidNumber said →
+        after ≡ written image 0 (imageOf (a .section)) → Judged (n * 256) after
+    unfolding judgedImage imageAfter packedVerdict writtenBack refusalOf saidBy
+    accepted v en ew =
+        let h : a ≡ judge (sectionOf image) step = rw es at ea in
+        (rw (e, ← h, v) (omega (arith, en)), rw (e, ← h, v) (ew ∙ whole-written image (a .section) (right-length image e)))
+
+    pub refused : {k : ℕ} → a .verdict ≡ Refused k → Judged k image
+    unfolding judgedImage imageAfter packedVerdict writtenBack refusalOf saidBy saidNumber
+    refused v = let h : a ≡ judge (sectionOf image) step = rw es at ea in (rw (e, ← h, v) (omega arith), rw (e, ← h, v))

@@ -1,0 +1,55 @@
+-- What the calls on a section's image return, packed into one number, and the image afterwards.
+use Prim.Native.Nat.{ℕ, _+_, _*_}
+use mathlib.Core.Bool.{cond}
+use mathlib.Core.List.{List}
+use lib.ListN.{length}
+use lib.Dec.{ltb}
+use Rattle.section.specs.declared.Indications.{Indications}
+use Rattle.section.specs.declared.Settings.{Settings}
+use Rattle.section.specs.declared.Verdict.{Verdict}
+use Rattle.section.specs.declared.Verdict.the-variants.{Accepted, Refused}
+use Rattle.section.specs.Fresh.{freshSection}
+use Rattle.section.specs.Words.{refusalOf, saidBy, saidNumber}
+use Rattle.rules.specs.Indications.{indications}
+use Rattle.rules.specs.Judge.{judge}
+use Rattle.text.specs.Text.{written}
+use Rattle.image.specs.Image.{imageLength, imageOf, imageRight, sectionOf}
+
+-- ## The fresh section
+
+-- 5: "buffer is too short", by its length
+unfoldable pub freshAnswer : ℕ → ℕ
+freshAnswer room = cond (ltb room imageLength) 5 0
+
+-- the fresh section's image at the buffer's front; a buffer too short is untouched
+unfoldable pub freshImage : Settings → List ℕ → List ℕ
+freshImage c buffer = cond (ltb (length buffer) imageLength) buffer (written buffer 0 (imageOf (freshSection c)))
+
+-- ## A step judged
+
+-- the refusal, and 256 × what is said
+unfoldable pub packedVerdict : Verdict → ℕ
+packedVerdict v = refusalOf v + saidNumber (saidBy v) * 256
+
+-- bytes that are no section's image give 6
+unfoldable pub judgedImage : List ℕ → List ℕ → ℕ
+judgedImage image step = cond (imageRight image) (packedVerdict (judge (sectionOf image) step .verdict)) 6
+
+-- the old bytes or the new: "written back only when accepted"
+unfoldable pub writtenBack : Verdict → List ℕ → List ℕ → List ℕ
+writtenBack (Accepted said) old new = new
+writtenBack (Refused k) old new = old
+
+unfoldable pub imageAfter : List ℕ → List ℕ → List ℕ
+imageAfter image step =
+    cond (imageRight image) (writtenBack (judge (sectionOf image) step .verdict) image (imageOf (judge (sectionOf image) step .section))) image
+
+-- ## What a post shows
+
+-- CIRCULATION, 8 × TRONÇON and 64 × the permission
+unfoldable pub packedIndications : Indications → ℕ
+packedIndications i = i .circulation + i .troncon * 8 + i .permission * 64
+
+-- bytes that are no section's image give 0
+unfoldable pub shownOf : List ℕ → ℕ → ℕ → ℕ
+shownOf image track post = cond (imageRight image) (packedIndications (indications (sectionOf image) track post)) 0

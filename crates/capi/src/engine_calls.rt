@@ -1,0 +1,89 @@
+// The engine, over a section's image.
+ghost use mathlib.Core.Path.{_≡_};
+ghost use lib.ListN.{length};
+ghost use Rattle.section.specs.Words.{saidNumber};
+ghost use Rattle.engine.specs.AcceptedCount.{acceptedCount};
+ghost use Rattle.capi.specs.Engine.{freshAnswer, freshImage, judgedImage, imageAfter, shownOf};
+ghost use Rattle.capi.specs.Files.{settingsGiven};
+use image::IMAGE_LENGTH;
+use section::Said;
+use section::Settings;
+use section::Verdict;
+
+// The fresh section's image, at the front of the buffer.
+#[no_mangle]
+pub extern "C" fn bsr_fresh(n: u8, form: u8, mask: u16, line: u16, buffer: &mut [u8]) -> u8
+    ensures { λ r. ⌜ r ≡ freshAnswer (length (now (buffer .entry))) ⌝ }
+    ensures { λ _. ⌜ now (buffer .exit) ≡ freshImage (settingsGiven n form mask line) (now (buffer .entry)) ⌝ }
+{
+    if buffer.len() < IMAGE_LENGTH {
+        return 5;
+    }
+    let c = Settings {
+        posts: n,
+        form: form,
+        mask: mask,
+        line: line,
+    };
+    image::put_image(buffer, section::fresh(c));
+    0
+}
+
+fn said_number(said: Said) -> u16
+    ensures { λ r. ⌜ r ≡ saidNumber said ⌝ }
+{
+    match said {
+        Said::Nothing => 0,
+        Said::Cvt => 1,
+        Said::Cvtz => 2,
+        Said::Vns => 3,
+        Said::Vnsz => 4,
+    }
+}
+
+// Judges a step. The image is written back only when the step is accepted.
+#[no_mangle]
+pub extern "C" fn bsr_judge(bytes: &mut [u8], step: &[u8]) -> u16
+    ensures { λ r. ⌜ r ≡ judgedImage (now (bytes .entry)) (now (step .entry)) ⌝ }
+    ensures { λ _. ⌜ now (bytes .exit) ≡ imageAfter (now (bytes .entry)) (now (step .entry)) ⌝ }
+{
+    if !image::image_right(bytes) {
+        return 6;
+    }
+    let answer = engine::judge(image::section_of(bytes), step);
+    let verdict = answer.verdict;
+    match verdict {
+        Verdict::Accepted(said) => {
+            let after = answer.section;
+            image::put_image(bytes, after);
+            said_number(said) * 256
+        }
+        Verdict::Refused(number) => number as u16,
+    }
+}
+
+// What a post shows on a track.
+#[no_mangle]
+pub extern "C" fn bsr_indications(bytes: &[u8], track: u8, post: u8) -> u16
+    ensures { λ r. ⌜ r ≡ shownOf (now (bytes .entry)) track post ⌝ }
+{
+    if !image::image_right(bytes) {
+        return 0;
+    }
+    let shown = engine::indications(image::section_of(bytes), track, post);
+    (shown.circulation as u16) + (shown.troncon as u16) * 8 + (shown.permission as u16) * 64
+}
+
+// How many of the whole steps are accepted when they are offered one after another from fresh.
+#[no_mangle]
+pub extern "C" fn bsr_accepted(n: u8, form: u8, mask: u16, line: u16, steps: &[u8]) -> u64
+    ensures { λ r. ⌜ r ≡ acceptedCount (settingsGiven n form mask line) (now (steps .entry)) ⌝ }
+{
+    let c = Settings {
+        posts: n,
+        form: form,
+        mask: mask,
+        line: line,
+    };
+    engine::accepted_count(c, steps) as u64
+}

@@ -1,0 +1,45 @@
+use denote.Ref.{now}
+use Rattle.image.proofs.Laws.{track-put}
+use borrow.Author.Needs.{needs}
+use Rattle.image.proofs.image_writer.put_track.Statement.{statement}
+use Rattle.image.proofs.image_writer.put_track.Tie as tie
+
+track-head-requires : tie.Need-track-head-requires
+track-head-requires c κs = search needs
+
+slice-aggregate-put-text : tie.Need-slice-aggregate-put-text
+slice-aggregate-put-text c = search needs
+
+put-text-requires : tie.Need-put-text-requires
+put-text-requires c κs = search needs
+
+put-posts-requires : tie.Need-put-posts-requires
+put-posts-requires c κs = search needs
+
+put-numbers-requires : tie.Need-put-numbers-requires
+put-numbers-requires c κs = search needs
+
+put-numbers-requires-2 : tie.Need-put-numbers-requires-2
+put-numbers-requires-2 c κs = search needs
+
+same-length : tie.Need-same-length
+same-length c = search needs
+
+returns : tie.Need-returns
+returns c =
+    let x = c .before .before .before .before .before .before .before .before .before .before .before .before .before .before .before .before .before .before .before .before .before .before in
+    track-put (now (x .args .buffer)) (x .args .at) (x .args .t) (x .pre) (c .before .before .before .before .before .before .before .before .before .before .before .before .before .before .before .before .before .before .before .before .track-head .ensures)
+    (c .before .before .before .before .before .before .before .before .before .before .before .before .before .before .put-text .ensures) (c .before .before .before .before .before .before .before .before .before .before .put-posts .ensures) (c .before .before .before .before .before .before .put-numbers .ensures) (c .before .before .put-numbers2 .ensures)
+
+pub put-track-spec : {M : Type 1} → statement M
+put-track-spec =
+    tie.close
+    (tie.spec
+    track-head-requires
+    slice-aggregate-put-text
+    put-text-requires
+    put-posts-requires
+    put-numbers-requires
+    put-numbers-requires-2
+    same-length
+    returns)

@@ -1,0 +1,155 @@
+-- The image of a section, 392 bytes, little-endian: 8 bytes of settings, then track A and track B. The layout is not stable.
+use Prim.Native.Nat.{ℕ, zero, suc, _+_, _*_, _/_, _%_}
+use mathlib.Core.Bool.{Bool, true, cond, _&&_}
+use mathlib.Core.List.{List, [], _∷_, _++_}
+use lib.ListN.{length, getD}
+use lib.Dec.{eqb, leb}
+use Rattle.section.specs.declared.Act.{Act}
+use Rattle.section.specs.declared.Act.the-variants.{Set, Announce, Acknowledge}
+use Rattle.section.specs.declared.Post.{Post}
+use Rattle.section.specs.declared.Section.{Section}
+use Rattle.section.specs.declared.Track.{Track}
+use Rattle.section.specs.declared.Walk.{Walk}
+use Rattle.section.specs.declared.Walk.the-variants.{Settled, Turn}
+use Rattle.section.specs.Bytes.{byte, pair}
+use Rattle.section.specs.Numbers.{mostPosts, mostBlocks}
+use Rattle.section.specs.Post.{blank}
+use Rattle.dayfile.specs.Layout.{settingsLength as settingsBytesLength, pairBytes, settingsBytes, settingsOf}
+
+-- ## Lengths and places
+
+abbrev pub numberLength : ℕ
+numberLength = 2
+
+abbrev pub postLength : ℕ
+postLength = 8
+
+abbrev pub postsLength : ℕ
+postsLength = postLength * mostPosts
+
+abbrev pub numbersLength : ℕ
+numbersLength = numberLength * mostBlocks
+
+abbrev pub settingsLength : ℕ
+settingsLength = settingsBytesLength
+
+-- before a track's posts: direction, act, turn's post, zero
+abbrev pub headLength : ℕ
+headLength = 4
+
+-- 192
+abbrev pub trackLength : ℕ
+trackLength = headLength + (postsLength + (numbersLength + numbersLength))
+
+-- 392
+abbrev pub imageLength : ℕ
+imageLength = settingsLength + (trackLength + trackLength)
+
+abbrev pub trackA : ℕ
+trackA = settingsLength
+
+abbrev pub trackB : ℕ
+trackB = settingsLength + trackLength
+
+-- ## What is written
+
+unfoldable pub flag : Bool → ℕ
+flag x = cond x 1 0
+
+-- fault 1 at bit 0, fault 2 at bit 1, fault 3 at bit 2
+unfoldable pub faultsByte : Post → ℕ
+faultsByte o = flag (o .fault1) + flag (o .fault2) * 2 + flag (o .fault3) * 4
+
+-- device (1 at CVT), permission, measures, faults, mark, zero, seals
+unfoldable pub postImage : Post → List ℕ
+postImage o = flag (o .cvt) ∷ flag (o .permission) ∷ flag (o .measures) ∷ faultsByte o ∷ flag (o .mark) ∷ 0 ∷ pairBytes (o .seals)
+
+-- the first m posts
+unfoldable pub postsImage : ℕ → List Post → List ℕ
+postsImage zero l = []
+postsImage (suc m) l = postsImage m l ++ postImage (getD l m blank)
+
+-- the first m numbers
+unfoldable pub numbersImage : ℕ → List ℕ → List ℕ
+numbersImage zero l = []
+numbersImage (suc m) l = numbersImage m l ++ pairBytes (getD l m 0)
+
+unfoldable pub actNumber : Act → ℕ
+actNumber Set = 1
+actNumber Announce = 2
+actNumber Acknowledge = 3
+
+-- the act and the turn's post; two zeros with no reversal
+unfoldable pub walkImage : Walk → List ℕ
+walkImage Settled = 0 ∷ 0 ∷ []
+walkImage (Turn p act) = actNumber act ∷ p ∷ []
+
+-- direction (1 for CVT), act, turn's post, zero
+unfoldable pub trackHead : Track → List ℕ
+trackHead t = flag (t .cvt) ∷ (walkImage (t .walk) ++ (0 ∷ []))
+
+unfoldable pub trackImage : Track → List ℕ
+trackImage t = trackHead t ++ (postsImage mostPosts (t .posts) ++ (numbersImage mostBlocks (t .trains) ++ numbersImage mostBlocks (t .last)))
+
+unfoldable pub imageOf : Section → List ℕ
+imageOf s = settingsBytes (s .settings) ++ (trackImage (s .a) ++ trackImage (s .b))
+
+-- ## What is read
+
+unfoldable pub numberAt : List ℕ → ℕ → ℕ
+numberAt l at = pair (byte l at) (byte l (at + 1))
+
+unfoldable pub postAt : List ℕ → ℕ → Post
+postAt l at = record {
+  cvt = eqb (byte l at) 1;
+  permission = eqb (byte l (at + 1)) 1;
+  measures = eqb (byte l (at + 2)) 1;
+  fault1 = eqb (byte l (at + 3) % 2) 1;
+  fault2 = eqb (byte l (at + 3) / 2 % 2) 1;
+  fault3 = eqb (byte l (at + 3) / 4 % 2) 1;
+  mark = eqb (byte l (at + 4)) 1;
+  seals = numberAt l (at + 6);
+}
+
+-- m posts, one after another
+unfoldable pub postsFrom : List ℕ → ℕ → ℕ → List Post
+postsFrom l at zero = []
+postsFrom l at (suc m) = postsFrom l at m ++ (postAt l (at + postLength * m) ∷ [])
+
+-- m numbers, one after another
+unfoldable pub numbersFrom : List ℕ → ℕ → ℕ → List ℕ
+numbersFrom l at zero = []
+numbersFrom l at (suc m) = numbersFrom l at m ++ (numberAt l (at + numberLength * m) ∷ [])
+
+unfoldable pub walkOf : ℕ → ℕ → Walk
+walkOf act post = cond (eqb act 0) Settled (cond (eqb act 1) (Turn post Set) (cond (eqb act 2) (Turn post Announce) (Turn post Acknowledge)))
+
+unfoldable pub trackAt : List ℕ → ℕ → Track
+trackAt l at = record {
+  posts = postsFrom l (at + headLength) mostPosts;
+  trains = numbersFrom l (at + (headLength + postsLength)) mostBlocks;
+  last = numbersFrom l (at + (headLength + (postsLength + numbersLength))) mostBlocks;
+  cvt = eqb (byte l at) 1;
+  walk = walkOf (byte l (at + 1)) (byte l (at + 2));
+}
+
+unfoldable pub sectionOf : List ℕ → Section
+sectionOf l = record { settings = settingsOf l; a = trackAt l trackA; b = trackAt l trackB }
+
+-- ## Whether every byte stands for a value
+
+unfoldable pub postRight : List ℕ → ℕ → Bool
+postRight l at =
+    leb (byte l at) 1
+    && (leb (byte l (at + 1)) 1 && (leb (byte l (at + 2)) 1 && (leb (byte l (at + 3)) 7 && leb (byte l (at + 4)) 1)))
+
+-- of m posts, one after another
+unfoldable pub postsRight : List ℕ → ℕ → ℕ → Bool
+postsRight l at zero = true
+postsRight l at (suc m) = postRight l (at + postLength * m) && postsRight l at m
+
+unfoldable pub trackRight : List ℕ → ℕ → Bool
+trackRight l at = leb (byte l at) 1 && (leb (byte l (at + 1)) 3 && postsRight l (at + headLength) mostPosts)
+
+unfoldable pub imageRight : List ℕ → Bool
+imageRight l = eqb (length l) imageLength && (trackRight l trackA && trackRight l trackB)
