@@ -9,4 +9,5 @@ pub mod listing;
 pub mod section;
 pub mod settings;
 pub mod step;
+pub mod stored;
 pub mod way;

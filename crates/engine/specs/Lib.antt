@@ -1,3 +1,3 @@
-pub mod OneTrack
+pub mod Fit
 pub mod LampsAt
 pub mod AcceptedCount

@@ -6,9 +6,3 @@ mod whole_day;
 pub use judging::judge;
 pub use lamps::indications;
 pub use whole_day::accepted_count;
-
-// The verdict on a step, and its track after it.
-pub struct Judged {
-    pub verdict: section::Verdict,
-    pub track: section::Track,
-}

@@ -2,9 +2,9 @@
 ghost use mathlib.Core.Path.{_≡_};
 ghost use Rattle.engine.specs.AcceptedCount.{countsAs, acceptedCount};
 use crate::judging;
+use section::STEP_LENGTH;
 use section::Settings;
 use section::Verdict;
-use section::STEP_LENGTH;
 
 fn counts_as(verdict: Verdict) -> usize
     ensures { λ r. ⌜ r ≡ countsAs verdict ⌝ }

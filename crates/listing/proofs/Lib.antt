@@ -1,1 +1,4 @@
 pub mod Puts
+pub mod Shown
+pub mod Days
+pub mod Handed

@@ -1,16 +1,19 @@
 -- Texts put one after another into a buffer.
 use mathlib.Core.Path.{_≡_, refl, sym, _∙_, ap, subst}
 use mathlib.Core.List.{List, [], _∷_, _++_, append-assoc}
-use Prim.Native.Nat.{ℕ, _+_, _≤_}
+use Prim.Native.Nat.{ℕ, zero, suc, _+_, _-_, _*_, _≤_}
 use native.Mathlib.Omega.{arith}
-use lib.ListN.{length, length-append}
+use native.Mathlib.Nat.{add-zero, zero-add, mul-suc}
+use native.Mathlib.Numerals.{add-one}
+use lib.ListN.{length, take, drop, take-append-drop, length-append}
+use lib.Seq.{take-at}
 use Rattle.section.specs.declared.Said.{Said}
 use Rattle.section.specs.declared.Said.the-variants.{Nothing, Cvt, Cvtz, Vns, Vnsz}
 use Rattle.text.specs.Text.{decimal, written}
 use Rattle.text.proofs.Laws.{Put, put-then, decimal-length}
 use Rattle.section.specs.declared.Verdict.{Verdict}
 use Rattle.section.specs.Words.{refusalOf, saidBy}
-use Rattle.listing.specs.Text.{word}
+use Rattle.listing.specs.Text.{word, inTurn}
 use Rattle.listing.specs.Listing.{verdictFields}
 
 -- what a function that puts a text ensures
@@ -59,3 +62,39 @@ named-then l m k at r q name x end t room a b =
 pub verdict-length : (verdict : Verdict) → length (verdictFields verdict) ≤ 10
 unfolding verdictFields
 verdict-length v = simp length-append (omega (arith, decimal-length (refusalOf v), word-length (saidBy v)))
+
+-- ## Texts in turn
+
+-- as long as that many of the longest
+pub in-turn-length : (f : ℕ → List ℕ) (w m : ℕ) → ((k : ℕ) → length (f k) ≤ w) → length (inTurn f m) ≤ w * m
+unfolding inTurn
+in-turn-length f w zero h = omega arith
+in-turn-length f w (suc m) h = simp (length-append, mul-suc) (omega (arith, in-turn-length f w m h, h m))
+
+-- none yet
+pub none-put : (f : ℕ → List ℕ) (l : List ℕ) (at : ℕ) → Putting l at (inTurn f 0) at l
+unfolding inTurn written
+none-put f l at = (omega arith, sym (ap (λ (k : ℕ). take at l ++ drop k l) (add-zero at) ∙ take-append-drop at l))
+
+-- one more
+pub one-more-put :
+    (f : ℕ → List ℕ) (l m k : List ℕ) (at i r q : ℕ) → at + length (inTurn f i) ≤ length l → Putting l at (inTurn f i) r m
+    → Putting m r (f i) q k → Putting l at (inTurn f (i + 1)) q k
+unfolding inTurn
+one-more-put f l m k at i r q room a b = rw (add-one i) (then l m k at r q (inTurn f i) (f i) room a b)
+
+-- ## At the front of a buffer
+
+pub at-front : (l s : List ℕ) → written l 0 s ≡ s ++ drop (length s) l
+unfolding written
+at-front l s = ap (λ (k : ℕ). s ++ drop k l) (zero-add (length s))
+
+-- what was put at the front of a buffer that kept its length: it fits, and is the buffer's front
+module _ (l m s : List ℕ) (r : ℕ) (put : (r ≡ length s) × (m ≡ written l 0 s)) where
+  pub front-fits : length m ≡ length l → r ≤ length m
+  front-fits e = omega (arith, put .0, simp length-append at (ap length (sym (put .1 ∙ at-front l s)) ∙ refl))
+
+  pub front-taken : take (r - 0) (drop 0 m) ≡ s
+  front-taken =
+      let e : r - 0 ≡ length s = omega (arith, put .0) in
+      ap (λ (k : ℕ). take k m) e ∙ ap (take (length s)) (put .1 ∙ at-front l s) ∙ take-at s (drop (length s) l) (length s) refl

@@ -37,19 +37,22 @@ fields index verdict a b = decimal index ++ (space ∷ (verdictFields verdict ++
 unfoldable pub stepLine : ℕ → Answer → List ℕ
 stepLine index answer = fields index (answer .verdict) (trackLetter (answer .section .a)) (trackLetter (answer .section .b))
 
--- the section that step i is judged on: the fresh one, then the one that the step before left
-unfoldable pub sectionBefore : Settings → List ℕ → ℕ → Section
-sectionBefore c steps zero = freshSection c
-sectionBefore c steps (suc i) = judge (sectionBefore c steps i) (stepAt steps i) .section
+-- the section that step i is judged on: the first, then the one that the step before left
+unfoldable pub sectionBefore : Section → List ℕ → ℕ → Section
+sectionBefore first steps zero = first
+sectionBefore first steps (suc i) = judge (sectionBefore first steps i) (stepAt steps i) .section
 
-unfoldable pub answerTo : Settings → List ℕ → ℕ → Answer
-answerTo c steps i = judge (sectionBefore c steps i) (stepAt steps i)
+unfoldable pub answerTo : Section → List ℕ → ℕ → Answer
+answerTo first steps i = judge (sectionBefore first steps i) (stepAt steps i)
 
--- what is printed of a file: "A refused file gives one line. Else a header, then a line per step." `line` gives a step's line from its
--- index, its bytes and the answer to it.
+-- a line per step: `line` gives it from the step's index, its bytes and the answer to it
+unfoldable pub lines : (ℕ → List ℕ → Answer → List ℕ) → Section → List ℕ → ℕ → List ℕ
+lines line first steps count = inTurn (λ i. line i (stepAt steps i) (answerTo first steps i)) count
+
+-- what is printed of a file: "A refused file gives one line. Else a header, then a line per step."
 unfoldable pub printed : (ℕ → List ℕ → Answer → List ℕ) → Reading → Settings → List ℕ → List ℕ
 printed line (Refused number index) c steps = refusedLine number index
-printed line (Day count) c steps = header (c .posts) count ++ inTurn (λ i. line i (stepAt steps i) (answerTo c steps i)) count
+printed line (Day count) c steps = header (c .posts) count ++ lines line (freshSection c) steps count
 
 -- the listing of a file
 unfoldable pub listing : List ℕ → List ℕ

@@ -22,11 +22,16 @@ lamps l = space ∷ digit (l .circulation) ∷ 47 ∷ digit (l .troncon) ∷ 47 
 unfoldable pub lampsOf : Section → ℕ → List ℕ
 lampsOf s track = inTurn (λ p. lamps (indications s track p)) (s .settings .posts)
 
+-- the step's track
+unfoldable pub trackName : ℕ → ℕ
+trackName track = cond (eqb track 1) 66 65
+
 -- the index, the step's track as a letter, and every post's lamps
+unfoldable pub panelFields : ℕ → ℕ → Section → List ℕ
+panelFields index track s = decimal index ++ (space ∷ trackName track ∷ (lampsOf s track ++ (lineFeed ∷ [])))
+
 unfoldable pub panelLine : ℕ → List ℕ → Answer → List ℕ
-panelLine index bytes answer =
-    decimal index
-    ++ (space ∷ cond (eqb (byte bytes 1) 1) 66 65 ∷ (lampsOf (answer .section) (byte bytes 1) ++ (lineFeed ∷ [])))
+panelLine index bytes answer = panelFields index (byte bytes 1) (answer .section)
 
 -- the panel of a file
 unfoldable pub panel : List ℕ → List ℕ

@@ -1,8 +1,69 @@
 // The bench listing and the panel of a day file, from bytes to bytes.
+mod day;
+mod panel_line;
 mod step_line;
+
+ghost use mathlib.Core.Path.{_≡_};
+ghost use lib.ListN.{length};
+ghost use Rattle.listing.specs.Text.{listed, handedOver};
+ghost use Rattle.listing.specs.Listing.{listing};
+ghost use Rattle.listing.specs.Panel.{panel};
+use day::print;
 
 // How many bytes were put at the front of the buffer, or that it is too short for them.
 pub enum Listed {
     Bytes(usize),
     TooShort,
+}
+
+// What is printed of each step: what it did, or what the posts show after it.
+enum Sheet {
+    OfSteps,
+    OfPosts,
+}
+
+// Puts a text at the front of the buffer, if it is long enough.
+fn hand_over(text: &[u8], buffer: &mut [u8]) -> Listed
+    ensures { λ r. ⌜ r ≡ listed (now (text .entry)) (now (buffer .entry)) ⌝ }
+    ensures { λ _. ⌜ now (buffer .exit) ≡ handedOver (now (text .entry)) (now (buffer .entry)) ⌝ }
+{
+    if buffer.len() < text.len() {
+        return Listed::TooShort;
+    }
+    text::put_text(buffer, 0, text);
+    Listed::Bytes(text.len())
+}
+
+// Room for the longest listing.
+fn listing_room() -> [u8; 86040]
+    ensures { λ r. ⌜ 86040 ≡ length r ⌝ }
+{
+    [0; 86040]
+}
+
+// Room for the longest panel.
+fn panel_room() -> [u8; 426008]
+    ensures { λ r. ⌜ 426008 ≡ length r ⌝ }
+{
+    [0; 426008]
+}
+
+// The bench listing of a file.
+pub fn listing(file: &[u8], buffer: &mut [u8]) -> Listed
+    ensures { λ r. ⌜ r ≡ listed (listing (now (file .entry))) (now (buffer .entry)) ⌝ }
+    ensures { λ _. ⌜ now (buffer .exit) ≡ handedOver (listing (now (file .entry))) (now (buffer .entry)) ⌝ }
+{
+    let mut space = listing_room();
+    let length = print(Sheet::OfSteps, file, &mut space);
+    hand_over(&space[0..length], buffer)
+}
+
+// The panel of a file.
+pub fn panel(file: &[u8], buffer: &mut [u8]) -> Listed
+    ensures { λ r. ⌜ r ≡ listed (panel (now (file .entry))) (now (buffer .entry)) ⌝ }
+    ensures { λ _. ⌜ now (buffer .exit) ≡ handedOver (panel (now (file .entry))) (now (buffer .entry)) ⌝ }
+{
+    let mut space = panel_room();
+    let length = print(Sheet::OfPosts, file, &mut space);
+    hand_over(&space[0..length], buffer)
 }

@@ -5,9 +5,10 @@ ghost use Prim.Native.Nat.{_+_, _≤_};
 ghost use lib.ListN.{length};
 ghost use Rattle.section.specs.Words.{refusalOf, saidBy};
 ghost use Rattle.text.specs.Text.{decimal, written};
-ghost use Rattle.listing.specs.Text.{word, letter};
+ghost use Rattle.listing.specs.Text.{word, letter, trackLetter};
 ghost use Rattle.listing.specs.Listing.{refusedLine, header, verdictFields, fields};
 use section::Said;
+use section::Track;
 use section::Verdict;
 use section::Walk;
 
@@ -94,8 +95,7 @@ fn put_verdict(buffer: &mut [u8], at: usize, verdict: Verdict) -> usize
     put_said(buffer, next, said_by(verdict))
 }
 
-// The letter of a track.
-pub fn letter(walk: Walk, cvt: bool) -> u8
+fn letter(walk: Walk, cvt: bool) -> u8
     ensures { λ r. ⌜ r ≡ letter walk cvt ⌝ }
 {
     match walk {
@@ -106,6 +106,14 @@ pub fn letter(walk: Walk, cvt: bool) -> u8
             if cvt { b'v' } else { b'c' }
         }
     }
+}
+
+// The letter of a track.
+pub fn track_letter(t: Track) -> u8
+    ensures { λ r. ⌜ r ≡ trackLetter t ⌝ }
+{
+    let walk = t.walk;
+    letter(walk, t.cvt)
 }
 
 // Writes the line of a step, and returns the next place.

@@ -14,7 +14,7 @@ use Rattle.section.specs.Post.{sealed}
 use Rattle.section.specs.Step.{isWell, wellFormed}
 use Rattle.section.specs.Store.{postOn, withPost, withTrack}
 use Rattle.dayfile.specs.Layout.{four, fourAt, stepCount, fromEnd, trailerIn, settingsIn, stepsIn, settingsOf, stepAt}
-use Rattle.dayfile.specs.Tests.{readNumber, lengthWrong, markRight, trailerRight, settingsBytesRight}
+use Rattle.dayfile.specs.Tests.{refusalNumber, lengthWrong, markRight, trailerRight, zerosRight, settingsBytesRight}
 use Rattle.dayfile.specs.Tests.{wellAt, leading, firstMalformed, someMalformed, readVerdict, readOf}
 use Rattle.examples.specs.Days.{on, offeredAs, refusals, fresh}
 
@@ -22,9 +22,9 @@ use Rattle.examples.specs.Days.{on, offeredAs, refusals, fresh}
 
 -- a file given to the reader: 0 where it is read, or the refusal
 unfoldable pub reading : List ℕ → ℕ
-unfolding refusals readNumber readOf readVerdict lengthWrong trailerRight markRight settingsBytesRight someMalformed firstMalformed leading wellAt
+unfolding refusals refusalNumber readOf readVerdict lengthWrong trailerRight markRight settingsBytesRight zerosRight someMalformed firstMalformed leading wellAt
     wellFormed isWell stepCount stepsIn trailerIn settingsIn fromEnd settingsOf stepAt fourAt four
-reading file = readNumber (readOf file .reading)
+reading file = refusalNumber (readOf file .reading)
 
 -- the trailer of a day with no step: "BSR1", 24, 24, 0
 abbrev pub trailerOfNone : List ℕ

@@ -63,9 +63,12 @@ loop-again c =
     let j = c .before .before in
     let a = c .before .before .before .before .before .before .before .before .args in
     let l = c .before .before .before .before .before .loop in
-    let n = counts-at-most _ _ (c .before .counts-as .ensures) in
-    (refl, omega arith, omega (arith, n),
-    one-more (l .section) (a .steps .now) (l .i) _ _ _ _ _ _ _ (omega arith) (l .inv .3) (part-offered (a .steps .now) (l .i)) (j .judge .ensures) (c .before .counts-as .ensures))
+    let n = counts-at-most _ _ (c .before .counts-as .ensures) in (
+      refl,
+      omega arith,
+      omega (arith, n),
+      one-more (l .section) (a .steps .now) (l .i) _ _ _ _ _ _ _ (omega arith) (l .inv .3) (part-offered (a .steps .now) (l .i)) (j .judge .ensures) (c .before .counts-as .ensures),
+    )
 
 returns : tie.Need-returns Inv-loop μ-loop
 returns c =

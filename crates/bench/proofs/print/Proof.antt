@@ -1,0 +1,57 @@
+use borrow.Author.Needs.{needs}
+use denote.Ref.{now}
+use Rattle.listing.specs.Listing.{listing}
+use Rattle.listing.proofs.Handed.{bytes-counted}
+use Rattle.bench.proofs.print.Statement.{statement}
+use Rattle.bench.proofs.print.Tie as tie
+
+listing-room-requires : tie.Need-listing-room-requires
+listing-room-requires c κs = search needs
+
+slice-aggregate-listing : tie.Need-slice-aggregate-listing
+slice-aggregate-listing c = search needs
+
+listing-requires : tie.Need-listing-requires
+listing-requires c κs = search needs
+
+enum-known-n : tie.Need-enum-known-n
+enum-known-n c = search needs
+
+array-share-prefix-text : tie.Need-array-share-prefix-text
+array-share-prefix-text c =
+    let r = c .before .before .before .before .listing in
+    bytes-counted (listing (now (c .before .before .before .before .before .before .before .before .args .file))) (c .before .before .before .before .before .before .listing-room .result) (r .last .1 .0) _ _ (r .ensures .0) (c .before .n .given .1)
+    (r .kept .1 .0) .0
+
+slice-aggregate-write-all : tie.Need-slice-aggregate-write-all
+slice-aggregate-write-all c =
+    let r = c .before .before .before .before .before .listing in
+    bytes-counted (listing (now (c .before .before .before .before .before .before .before .before .before .args .file))) (c .before .before .before .before .before .before .before .listing-room .result) (r .last .1 .0) _ _ (r .ensures .0) (c .before .before .n .given .1)
+    (r .kept .1 .0) .1
+
+write-all-requires : tie.Need-write-all-requires
+write-all-requires c κs = search needs
+
+enum-told : tie.Need-enum-told
+enum-told c = search needs
+
+returns : tie.Need-returns
+returns c = search needs
+
+returns-2 : tie.Need-returns-2
+returns-2 c = search needs
+
+pub print-spec : {M : Type 1} → statement M
+print-spec =
+    tie.close
+    (tie.spec
+    listing-room-requires
+    slice-aggregate-listing
+    listing-requires
+    enum-known-n
+    array-share-prefix-text
+    slice-aggregate-write-all
+    write-all-requires
+    enum-told
+    returns
+    returns-2)

@@ -1,0 +1,72 @@
+use borrow.Author.Needs.{needs}
+use native.Mathlib.Omega.{arith}
+use mathlib.Core.Path.{_∙_, sym, ap, refl}
+use native.Mathlib.Nat.{zero-add}
+use denote.Ref.{now}
+use Rattle.dayfile.specs.declared.ReadAnswer.{ReadAnswer}
+use Rattle.listing.specs.Sheet.{room}
+use Rattle.listing.proofs.Days.{fewer-fit, few-steps-read, steps-whole, settings-read-right, printed-refused, printed-day, same-text}
+use Rattle.listing.proofs.day.print.Statement.{statement}
+use Rattle.listing.proofs.day.print.Tie as tie
+
+read-requires : tie.Need-read-requires
+read-requires c κs = search needs
+
+enum-known-reading : tie.Need-enum-known-reading
+enum-known-reading c = search needs
+
+put-refused-requires : tie.Need-put-refused-requires
+unfolding room
+put-refused-requires c κs = omega arith
+
+enum-known-reading-2 : tie.Need-enum-known-reading-2
+enum-known-reading-2 c = search needs
+
+steps-requires : tie.Need-steps-requires
+steps-requires c κs = search needs
+
+put-day-requires : tie.Need-put-day-requires
+put-day-requires c κs =
+    let a = c .before .before .before .before .before .before .before .before .args in
+    let read = c .before .before .before .before .before .read in
+    let e = ap (λ (x : ReadAnswer). x .reading) (sym (read .ensures)) ∙ c .before .before .before .reading2 .given .1 in
+    let file = now (a .file) in
+    (omega (arith, fewer-fit (a .sheet) _ (few-steps-read file _ e)),
+    (rw (c .steps .ensures) (steps-whole file _ e), rw (read .ensures) (settings-read-right file _ e)))
+
+same-length : tie.Need-same-length
+same-length c = search needs
+
+returns : tie.Need-returns
+returns c =
+    let a = c .before .before .before .before .before .before .before .before .before .before .args in
+    let put = c .before .before .put-refused in
+    let e = ap (λ (x : ReadAnswer). x .reading) (sym (c .before .before .before .before .before .before .before .read .ensures)) ∙ c .before .before .before .before .before .reading .given .1 in
+    same-text (now (a .buffer)) _ _ _ _ (printed-refused (a .sheet) (now (a .file)) _ _ e) (put .ensures .0 ∙ zero-add _, put .ensures .1)
+
+same-length-2 : tie.Need-same-length-2
+same-length-2 c = search needs
+
+returns-2 : tie.Need-returns-2
+returns-2 c =
+    let a = c .before .before .before .before .before .before .before .before .before .before .before .args in
+    let read = c .before .before .before .before .before .before .before .before .read in
+    let e = ap (λ (x : ReadAnswer). x .reading) (sym (read .ensures)) ∙ c .before .before .before .before .before .before .reading2 .given .1 in
+    same-text (now (a .buffer)) _ _ _ _
+    (printed-day (a .sheet) (now (a .file)) _ _ _ e (ap (λ (x : ReadAnswer). x .settings) (read .ensures)) (c .before .before .before .steps .ensures))
+    (c .before .before .put-day .ensures)
+
+pub print-spec : {M : Type 1} → statement M
+print-spec =
+    tie.close
+    (tie.spec
+    read-requires
+    enum-known-reading
+    put-refused-requires
+    enum-known-reading-2
+    steps-requires
+    put-day-requires
+    same-length
+    returns
+    same-length-2
+    returns-2)

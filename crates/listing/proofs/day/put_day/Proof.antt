@@ -1,0 +1,34 @@
+use borrow.Author.Needs.{needs}
+use native.Mathlib.Omega.{arith}
+use mathlib.Core.Path.{_∙_}
+use native.Mathlib.Nat.{zero-add}
+use denote.Ref.{now}
+use Rattle.listing.specs.Listing.{header, printed}
+use Rattle.listing.specs.Sheet.{room}
+use Rattle.listing.proofs.Puts.{then}
+use Rattle.listing.proofs.Days.{header-length}
+use Rattle.listing.proofs.day.put_day.Statement.{statement}
+use Rattle.listing.proofs.day.put_day.Tie as tie
+
+put-header-requires : tie.Need-put-header-requires
+unfolding room
+put-header-requires c κs = omega arith
+
+put-lines-requires : tie.Need-put-lines-requires
+unfolding room
+put-lines-requires c κs = let a = c .before .before .before .before .before .before .before .args in (omega (arith, header-length (a .c .posts) (a .count)), c .before .before .before .before .before .before .before .pre .1)
+
+same-length : tie.Need-same-length
+same-length c = search needs
+
+returns : tie.Need-returns
+unfolding printed room
+returns c =
+    let a = c .before .before .before .before .before .before .before .before .before .before .args in
+    let p =
+    then (now (a .buffer)) _ _ 0 _ _ (header (a .c .posts) (a .count)) _ (omega (arith, header-length (a .c .posts) (a .count)))
+    (c .before .before .before .before .before .before .put-header .ensures) (c .before .before .put-lines .ensures) in
+    (p .0 ∙ zero-add _, p .1)
+
+pub put-day-spec : {M : Type 1} → statement M
+put-day-spec = tie.close (tie.spec put-header-requires put-lines-requires same-length returns)

@@ -1,0 +1,27 @@
+use borrow.Author.Needs.{needs}
+use denote.Ref.{now}
+use mathlib.Core.Path.{refl, _∙_}
+use borrow.Author.Tests.{le-leb, lt-leb}
+use Rattle.listing.specs.Text.{listed, handedOver}
+use Rattle.listing.proofs.Puts.{at-front}
+use Rattle.listing.proofs.hand_over.Statement.{statement}
+use Rattle.listing.proofs.hand_over.Tie as tie
+
+returns : tie.Need-returns
+unfolding listed handedOver
+returns c = rw (lt-leb _ _ (c .if1 .taken)) (refl, refl)
+
+put-text-requires : tie.Need-put-text-requires
+put-text-requires c κs = search needs
+
+same-length : tie.Need-same-length
+same-length c = search needs
+
+returns-2 : tie.Need-returns-2
+unfolding listed handedOver
+returns-2 c =
+    let a = c .before .before .before .before .before .before .before .args in
+    rw (le-leb _ _ (c .before .before .before .before .if1 .left)) (refl, c .before .before .put-text .ensures .1 ∙ at-front (now (a .buffer)) (now (a .text)))
+
+pub hand-over-spec : {M : Type 1} → statement M
+hand-over-spec = tie.close (tie.spec returns put-text-requires same-length returns-2)

@@ -1,0 +1,57 @@
+use borrow.Author.Needs.{needs}
+use denote.Ref.{now}
+use Rattle.listing.specs.Panel.{panel}
+use Rattle.listing.proofs.Handed.{bytes-counted}
+use Rattle.panel.proofs.print.Statement.{statement}
+use Rattle.panel.proofs.print.Tie as tie
+
+panel-room-requires : tie.Need-panel-room-requires
+panel-room-requires c κs = search needs
+
+slice-aggregate-panel : tie.Need-slice-aggregate-panel
+slice-aggregate-panel c = search needs
+
+panel-requires : tie.Need-panel-requires
+panel-requires c κs = search needs
+
+enum-known-n : tie.Need-enum-known-n
+enum-known-n c = search needs
+
+array-share-prefix-text : tie.Need-array-share-prefix-text
+array-share-prefix-text c =
+    let r = c .before .before .before .before .panel in
+    bytes-counted (panel (now (c .before .before .before .before .before .before .before .before .args .file))) (c .before .before .before .before .before .before .panel-room .result) (r .last .1 .0) _ _ (r .ensures .0) (c .before .n .given .1)
+    (r .kept .1 .0) .0
+
+slice-aggregate-write-all : tie.Need-slice-aggregate-write-all
+slice-aggregate-write-all c =
+    let r = c .before .before .before .before .before .panel in
+    bytes-counted (panel (now (c .before .before .before .before .before .before .before .before .before .args .file))) (c .before .before .before .before .before .before .before .panel-room .result) (r .last .1 .0) _ _ (r .ensures .0) (c .before .before .n .given .1)
+    (r .kept .1 .0) .1
+
+write-all-requires : tie.Need-write-all-requires
+write-all-requires c κs = search needs
+
+enum-told : tie.Need-enum-told
+enum-told c = search needs
+
+returns : tie.Need-returns
+returns c = search needs
+
+returns-2 : tie.Need-returns-2
+returns-2 c = search needs
+
+pub print-spec : {M : Type 1} → statement M
+print-spec =
+    tie.close
+    (tie.spec
+    panel-room-requires
+    slice-aggregate-panel
+    panel-requires
+    enum-known-n
+    array-share-prefix-text
+    slice-aggregate-write-all
+    write-all-requires
+    enum-told
+    returns
+    returns-2)

@@ -1,0 +1,143 @@
+//! The stored days of `crates/days/data`: day files that each show what their name says, made
+//! and answered by this implementation.
+
+mod bench;
+mod coverage;
+mod every_refusal;
+mod lengths;
+mod refused;
+mod stretches;
+mod written;
+
+use crate::dayfile::MOST_STEPS;
+use crate::listing::{listing, panel};
+use crate::settings::{Settings, MATERIALISED, TELEPHONE};
+use bench::{A, B};
+
+pub struct StoredDay {
+    pub name: String,
+    pub file: Vec<u8>,
+}
+
+impl StoredDay {
+    /// Its three files: name and bytes.
+    pub fn files(&self) -> [(String, Vec<u8>); 3] {
+        let named = |ending: &str| format!("{}.{ending}", self.name);
+        [
+            (named("day"), self.file.clone()),
+            (named("listing"), listing(&self.file)),
+            (named("panel"), panel(&self.file)),
+        ]
+    }
+}
+
+const FORMS: [(u8, &str); 2] = [(TELEPHONE, "telephone"), (MATERIALISED, "materialised")];
+const TRACKS: [(u8, &str); 2] = [(A, "a"), (B, "b")];
+
+/// Days kept as text in the folder `days`.
+const WRITTEN: [(&str, &str); 11] = [
+    ("worked_example", include_str!("../days/worked_example.txt")),
+    ("annex_1", include_str!("../days/annex_1.txt")),
+    ("annex_2", include_str!("../days/annex_2.txt")),
+    ("annex_3", include_str!("../days/annex_3.txt")),
+    ("annex_5", include_str!("../days/annex_5.txt")),
+    ("annex_6", include_str!("../days/annex_6.txt")),
+    (
+        "fault_1_release",
+        include_str!("../days/fault_1_release.txt"),
+    ),
+    ("fault_2_key", include_str!("../days/fault_2_key.txt")),
+    ("fault_3_dark", include_str!("../days/fault_3_dark.txt")),
+    (
+        "last_train_survives_reversal",
+        include_str!("../days/last_train_survives_reversal.txt"),
+    ),
+    (
+        "same_number_on_both_tracks",
+        include_str!("../days/same_number_on_both_tracks.txt"),
+    ),
+];
+
+/// All of them. Panics where this implementation does not answer as a day demands, or where
+/// the days together do not show what `coverage` lists.
+pub fn days() -> Vec<StoredDay> {
+    let mut days = Vec::new();
+    add_written(&mut days);
+    add_every_refusal(&mut days);
+    add_stretches(&mut days);
+    add_drawn(&mut days);
+    add_lengths(&mut days);
+    for (name, file) in refused::files() {
+        add(&mut days, name, file);
+    }
+    coverage::demand(&days);
+    days
+}
+
+fn add(days: &mut Vec<StoredDay>, name: &str, file: Vec<u8>) {
+    let name = name.to_string();
+    assert!(days.iter().all(|day| day.name != name), "{name} twice");
+    days.push(StoredDay { name, file });
+}
+
+fn add_written(days: &mut Vec<StoredDay>) {
+    for (name, text) in WRITTEN {
+        add(days, name, written::day(text));
+    }
+}
+
+fn add_every_refusal(days: &mut Vec<StoredDay>) {
+    for n in [2, 3, 16] {
+        for (form, form_name) in FORMS {
+            for (track, track_name) in TRACKS {
+                let name = format!("every_refusal_{n}_{form_name}_{track_name}");
+                add(days, &name, every_refusal::day(n, form, track));
+            }
+        }
+    }
+}
+
+fn add_stretches(days: &mut Vec<StoredDay>) {
+    for (name, form, mask, track) in [
+        ("stretches_ends_only_a", TELEPHONE, 0x8001, A),
+        ("stretches_every_post_b", MATERIALISED, 0xffff, B),
+        ("stretches_some_posts_a", MATERIALISED, 0x8421, A),
+        ("stretches_some_posts_b", TELEPHONE, 0x8421, B),
+    ] {
+        add(days, name, stretches::day(form, mask, track));
+    }
+}
+
+/// The masks leave posts without signals, so that passes go on inside a stretch too.
+fn add_drawn(days: &mut Vec<StoredDay>) {
+    for (n, mask) in [(2, 0x3), (3, 0x5), (7, 0x49), (16, 0x9249)] {
+        for (form, form_name) in FORMS {
+            let name = format!("drawn_{n}_{form_name}");
+            let settings = settings(n, form, mask);
+            let seed = u64::from(n) * 2 + u64::from(form);
+            add(days, &name, lengths::drawn(settings, 250, seed));
+        }
+    }
+}
+
+fn add_lengths(days: &mut Vec<StoredDay>) {
+    let two = settings(2, TELEPHONE, 0x3);
+    let sixteen = settings(16, MATERIALISED, 0x8421);
+    add(days, "no_steps_2", lengths::without_steps(two));
+    add(days, "no_steps_16", lengths::without_steps(sixteen));
+    add(
+        days,
+        "steps_4096_16",
+        lengths::drawn(sixteen, MOST_STEPS, 4_096),
+    );
+    add(days, "steps_4096_819_seals", lengths::seals_819());
+}
+
+fn settings(n: u8, form: u8, mask: u16) -> Settings {
+    Settings {
+        n,
+        form,
+        mask,
+        line: 1,
+    }
+}
