@@ -5,9 +5,9 @@ ghost use Rattle.section.specs.Words.{saidNumber};
 ghost use Rattle.engine.specs.AcceptedCount.{acceptedCount};
 ghost use Rattle.capi.specs.Engine.{freshAnswer, freshImage, judgedImage, imageAfter, shownOf};
 ghost use Rattle.capi.specs.Files.{settingsGiven};
+use crate::settings_given;
 use image::IMAGE_LENGTH;
 use section::Said;
-use section::Settings;
 use section::Verdict;
 
 // The fresh section's image, at the front of the buffer.
@@ -19,13 +19,7 @@ pub extern "C" fn bsr_fresh(n: u8, form: u8, mask: u16, line: u16, buffer: &mut 
     if buffer.len() < IMAGE_LENGTH {
         return 5;
     }
-    let c = Settings {
-        posts: n,
-        form: form,
-        mask: mask,
-        line: line,
-    };
-    image::put_image(buffer, section::fresh(c));
+    image::put_image(buffer, section::fresh(settings_given(n, form, mask, line)));
     0
 }
 
@@ -79,11 +73,5 @@ pub extern "C" fn bsr_indications(bytes: &[u8], track: u8, post: u8) -> u16
 pub extern "C" fn bsr_accepted(n: u8, form: u8, mask: u16, line: u16, steps: &[u8]) -> u64
     ensures { λ r. ⌜ r ≡ acceptedCount (settingsGiven n form mask line) (now (steps .entry)) ⌝ }
 {
-    let c = Settings {
-        posts: n,
-        form: form,
-        mask: mask,
-        line: line,
-    };
-    engine::accepted_count(c, steps) as u64
+    engine::accepted_count(settings_given(n, form, mask, line), steps) as u64
 }

@@ -4,9 +4,9 @@ ghost use lib.ListN.{length};
 ghost use Rattle.dayfile.specs.Layout.{stepsPart};
 ghost use Rattle.dayfile.specs.Tests.{readOf, writeVerdict, writtenInto};
 ghost use Rattle.capi.specs.Files.{packedReading, packedSettings, packedWritten, settingsGiven};
+use crate::settings_given;
 use dayfile::Reading;
 use dayfile::Written;
-use section::Settings;
 
 // Reads a day file: the refusal, and the count of steps or the refusal's index.
 #[no_mangle]
@@ -56,13 +56,7 @@ pub extern "C" fn bsr_write(
     ensures { λ r. ⌜ r ≡ packedWritten (writeVerdict (settingsGiven n form mask line) (now (steps .entry)) (length (now (buffer .entry)))) ⌝ }
     ensures { λ _. ⌜ now (buffer .exit) ≡ writtenInto (settingsGiven n form mask line) (now (steps .entry)) (now (buffer .entry)) ⌝ }
 {
-    let c = Settings {
-        posts: n,
-        form: form,
-        mask: mask,
-        line: line,
-    };
-    let done = dayfile::write(c, steps, buffer);
+    let done = dayfile::write(settings_given(n, form, mask, line), steps, buffer);
     match done {
         Written::Bytes(length) => ((length % 4294967296) as u64) * 256,
         Written::Refused(number, index) => (number as u64) + ((index % 4294967296) as u64) * 256,

@@ -1,7 +1,10 @@
-use borrow.Author.Needs.{needs}
 use Rattle.capi.specs.Files.{packedWritten}
+use borrow.Author.Needs.{needs}
 use Rattle.capi.proofs.file_calls.bsr_write.Statement.{statement}
 use Rattle.capi.proofs.file_calls.bsr_write.Tie as tie
+
+settings-given-requires : tie.Need-settings-given-requires
+settings-given-requires c κs = search needs
 
 write-requires : tie.Need-write-requires
 write-requires c κs = search needs
@@ -29,21 +32,26 @@ same-length c = search needs
 
 returns : tie.Need-returns
 unfolding packedWritten
-returns c =
-    let w = c .before .before .before .before .before .write in (rw (← w .ensures .0, c .before .done .given .1), w .ensures .1)
+returns c = 
+    let w = c .before .before .before .before .before in
+    let e = rw (w .before .before .settings-given .ensures) at (w .write .ensures) in
+    (rw (← e .0, c .before .done .given .1), e .1)
 
 same-length-2 : tie.Need-same-length-2
 same-length-2 c = search needs
 
 returns-2 : tie.Need-returns-2
 unfolding packedWritten
-returns-2 c =
-    let w = c .before .before .before .before .before .write in (rw (← w .ensures .0, c .before .done2 .given .1), w .ensures .1)
+returns-2 c = 
+    let w = c .before .before .before .before .before in
+    let e = rw (w .before .before .settings-given .ensures) at (w .write .ensures) in
+    (rw (← e .0, c .before .done2 .given .1), e .1)
 
 pub bsr-write-spec : {M : Type 1} → statement M
 bsr-write-spec =
     tie.close
     (tie.spec
+    settings-given-requires
     write-requires
     enum-known-done
     mul-result
