@@ -1,2 +1,3 @@
 pub mod Readings
 pub mod Images
+pub mod Sheets

@@ -2,6 +2,7 @@
 // It is not stable: names, packed numbers and the layout of a section's image may change with any delivery.
 mod engine_calls;
 mod file_calls;
+mod listing_calls;
 
 ghost use mathlib.Core.Path.{_≡_};
 ghost use Rattle.capi.specs.Files.{settingsGiven};

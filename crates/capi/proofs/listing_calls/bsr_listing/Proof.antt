@@ -1,0 +1,22 @@
+use mathlib.Core.Path.{_∙_, ap}
+use denote.Ref.{now}
+use Rattle.capi.proofs.Sheets.{listed-fits}
+use Rattle.capi.specs.Listings.{packedListed}
+use borrow.Author.Needs.{needs}
+use Rattle.capi.proofs.listing_calls.bsr_listing.Statement.{statement}
+use Rattle.capi.proofs.listing_calls.bsr_listing.Tie as tie
+
+listing-requires : tie.Need-listing-requires
+listing-requires c κs = search needs
+
+packed-requires : tie.Need-packed-requires
+packed-requires c κs = listed-fits _ (now (c .before .before .before .before .before .before .args .buffer)) _ (c .before .before .listing .ensures .0) (c .before .before .before .before .before .before .good .1 .0 .1)
+
+same-length : tie.Need-same-length
+same-length c = search needs
+
+returns : tie.Need-returns
+returns c = let e = c .before .before .before .listing .ensures in (c .packed .ensures ∙ ap packedListed (e .0), e .1)
+
+pub bsr-listing-spec : {M : Type 1} → statement M
+bsr-listing-spec = tie.close (tie.spec listing-requires packed-requires same-length returns)
