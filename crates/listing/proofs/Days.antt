@@ -80,6 +80,11 @@ pub fewer-fit : (sheet : Sheet) (count : ℕ) → count ≤ mostSteps → room s
 unfolding room
 fewer-fit sheet count h = omega (arith, mul-le-mul-left (lineRoom sheet) h)
 
+pub most-room : (sheet : Sheet) → room sheet mostSteps ≤ 426008
+unfolding room lineRoom
+most-room OfSteps = omega arith
+most-room OfPosts = omega arith
+
 -- ## The loop over the steps
 
 abbrev pub lineAt : Sheet → Section → List ℕ → ℕ → List ℕ
