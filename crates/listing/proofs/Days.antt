@@ -33,7 +33,7 @@ use Rattle.text.specs.Text.{decimal, written}
 use Rattle.text.proofs.Laws.{decimal-length}
 use Rattle.listing.specs.declared.Sheet.{Sheet}
 use Rattle.listing.specs.declared.Sheet.the-variants.{OfSteps, OfPosts}
-use Rattle.listing.specs.Text.{space, lineFeed, trackLetter, inTurn}
+use Rattle.listing.specs.Text.{inTurn}
 use Rattle.listing.specs.Listing.{refusedLine, header, verdictFields, fields, stepLine, sectionBefore, answerTo, printed}
 use Rattle.listing.specs.Panel.{trackName, lampsOf, panelFields, panelLine}
 use Rattle.listing.specs.Sheet.{lineOn, lineRoom, room, printedOn}
