@@ -100,7 +100,7 @@ module _ {s : Section} {bytes : List ℕ} {x : TrackStep} {t : Track} {e : Site}
     accepted {w} {u} k ek a eu =
         let after : u ≡ trackAfter (s .settings) (x .step) (siteOf s x) (trackOf s (x .track)) = eu ∙ rw (l .track, l .site) in
         let section : withTrack s k u ≡ sectionAfter s x =
-          ap (λ (y : Bool). withTrack s y u) (sym ek) ∙ ap (withTrack s (x .track)) after in
+        ap (λ (y : Bool). withTrack s y u) (sym ek) ∙ ap (withTrack s (x .track)) after in
         rw (a, section) (answer-of a)
 
     pub refused : {k : ℕ} → v ≡ Refused k → record { verdict = v; section = s } ≡ judgeInRange s bytes

@@ -44,7 +44,7 @@ same-length-2 : tie.Need-same-length-2
 same-length-2 c = search needs
 
 returns-2 : tie.Need-returns-2
-returns-2 c = 
+returns-2 c =
     let x = c .before .before .before .before .before .before .before .before .before .before .before .before .before .before .before .before .before .args in
     let e = c .before .before .before .before .before .before .before .before .before .before .before .before in
     accepted (now (x .bytes)) (now (x .step)) (told-true (e .before .image-right .ensures) (e .if1 .left)) (c .before .before .before .before .before .before .before .before .before .before .section-of .ensures) (c .before .before .before .before .before .before .before .before .before .judge .ensures)
@@ -54,7 +54,7 @@ same-length-3 : tie.Need-same-length-3
 same-length-3 c = search needs
 
 returns-3 : tie.Need-returns-3
-returns-3 c = 
+returns-3 c =
     let x = c .before .before .before .before .before .before .before .before .before .before .before .args in
     let e = c .before .before .before .before .before .before in
     refused (now (x .bytes)) (now (x .step)) (told-true (e .before .image-right .ensures) (e .if1 .left)) (c .before .before .before .before .section-of .ensures) (c .before .before .before .judge .ensures)
