@@ -32,7 +32,7 @@ pub fn four_of(a: u8, b: u8, c: u8, d: u8) -> u32
 }
 
 // The 32-bit number from byte i on.
-pub fn four_at(s: &[u8], i: usize) -> u32
+pub(crate) fn four_at(s: &[u8], i: usize) -> u32
     requires { ⌜ i + 4 ≤ length (now s) ⌝ }
     ensures { λ r. ⌜ r ≡ fourAt (now (s .entry)) i ⌝ }
 {
@@ -40,7 +40,7 @@ pub fn four_at(s: &[u8], i: usize) -> u32
 }
 
 // The settings that eight bytes say.
-pub fn settings_of(s: &[u8]) -> Settings
+pub(crate) fn settings_of(s: &[u8]) -> Settings
     requires { ⌜ settingsLength ≤ length (now s) ⌝ }
     ensures { λ r. ⌜ r ≡ settingsOf (now (s .entry)) ⌝ }
 {
@@ -53,7 +53,7 @@ pub fn settings_of(s: &[u8]) -> Settings
 }
 
 // The trailer, as a part of the file.
-pub fn trailer_in(file: &[u8]) -> &[u8]
+pub(crate) fn trailer_in(file: &[u8]) -> &[u8]
     requires { ⌜ settingsDistance ≤ length (now file) ⌝ }
     ensures { λ r. ⌜ now r ≡ trailerIn (now (file .entry)) ⌝ }
 {
@@ -62,7 +62,7 @@ pub fn trailer_in(file: &[u8]) -> &[u8]
 }
 
 // The settings' eight bytes, as a part of the file.
-pub fn settings_in(file: &[u8]) -> &[u8]
+pub(crate) fn settings_in(file: &[u8]) -> &[u8]
     requires { ⌜ settingsDistance ≤ length (now file) ⌝ }
     ensures { λ r. ⌜ now r ≡ settingsIn (now (file .entry)) ⌝ }
 {
@@ -72,7 +72,7 @@ pub fn settings_in(file: &[u8]) -> &[u8]
 }
 
 // All that stands before the settings.
-pub fn steps_in(file: &[u8]) -> &[u8]
+pub(crate) fn steps_in(file: &[u8]) -> &[u8]
     requires { ⌜ settingsDistance ≤ length (now file) ⌝ }
     ensures { λ r. ⌜ now r ≡ stepsIn (now (file .entry)) ⌝ }
 {
@@ -120,7 +120,7 @@ pub fn settings_bytes(c: Settings) -> [u8; 8]
 }
 
 // The trailer of a file with so many steps.
-pub fn trailer(count: usize) -> [u8; 16]
+pub(crate) fn trailer(count: usize) -> [u8; 16]
     requires { ⌜ count ≤ mostSteps ⌝ }
     ensures { λ r. ⌜ r ≡ trailer count ⌝ }
 {

@@ -26,7 +26,7 @@ pub fn length_wrong(length: usize) -> bool
 }
 
 // Whether the trailer's first four bytes are the mark.
-pub fn mark_right(t: &[u8]) -> bool
+pub(crate) fn mark_right(t: &[u8]) -> bool
     requires { ⌜ trailerLength ≤ length (now t) ⌝ }
     ensures { λ r. ⌜ r ≡ markRight (now (t .entry)) ⌝ }
 {
@@ -43,7 +43,7 @@ pub fn mark_right(t: &[u8]) -> bool
 }
 
 // Whether the trailer is that of a file with so many steps.
-pub fn trailer_right(count: usize, t: &[u8]) -> bool
+pub(crate) fn trailer_right(count: usize, t: &[u8]) -> bool
     requires { ⌜ (count ≤ mostSteps) × (trailerLength ≤ length (now t)) ⌝ }
     ensures { λ r. ⌜ r ≡ trailerRight count (now (t .entry)) ⌝ }
 {
@@ -60,7 +60,7 @@ pub fn trailer_right(count: usize, t: &[u8]) -> bool
 }
 
 // Whether eight bytes are settings: within their ranges, and bytes 6 and 7 zero.
-pub fn settings_bytes_right(s: &[u8]) -> bool
+pub(crate) fn settings_bytes_right(s: &[u8]) -> bool
     requires { ⌜ settingsLength ≤ length (now s) ⌝ }
     ensures { λ r. ⌜ r ≡ settingsBytesRight (now (s .entry)) ⌝ }
 {

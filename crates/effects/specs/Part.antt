@@ -6,7 +6,8 @@ use Rattle.section.specs.declared.Walk.{Walk}
 use Rattle.section.specs.declared.Said.{Said}
 use Rattle.section.specs.declared.Said.the-variants.{Nothing}
 use Rattle.section.specs.declared.Step.{Step}
-use Rattle.section.specs.declared.Step.the-variants.{Order, Set, Announce, Acknowledge, Start, Pass, Leave, MeasuresOn, MeasuresOff, FaultOn, FaultOff, Release, Key}
+use Rattle.section.specs.declared.Step.the-variants.{Order, Set, Announce, Acknowledge, Start, Pass, Leave, MeasuresOn, MeasuresOff, FaultOn}
+use Rattle.section.specs.declared.Step.the-variants.{FaultOff, Release, Key}
 use Rattle.section.specs.Numbers.{mostSeals}
 use Rattle.rules.specs.declared.Site.{Site}
 use Rattle.rules.specs.declared.Movement.{Movement}

@@ -108,7 +108,7 @@ fn shown_at(c: Settings, e: Site, trains: &[u16; 15]) -> Indications
 }
 
 // What a post of a track in its ranges shows.
-pub fn shown_on(c: Settings, track: bool, post: u8, t: Track) -> Indications
+pub(crate) fn shown_on(c: Settings, track: bool, post: u8, t: Track) -> Indications
     requires { ⌜ (settingsRight c ≡ true) × (trackFits (c .posts) track t ≡ true) × (post < c .posts) ⌝ }
     ensures { λ r. ⌜ r ≡ shownAt c (siteOn true track post t) (t .trains) ⌝ }
 {

@@ -47,7 +47,8 @@ pub few-posts : (s : Section) → inRange s ≡ true → s .settings .posts ≤ 
 unfolding inRange settingsRight within
 few-posts s e =
     let n = s .settings .posts in
-    leb-true n mostPosts (and-right (leb leastPosts n) (leb n mostPosts) (and-left (leb leastPosts n && leb n mostPosts) _ (and-left (settingsRight (s .settings)) _ e)))
+    leb-true n mostPosts (and-right (leb leastPosts n) (leb n mostPosts) (and-left (leb leastPosts n && leb n mostPosts) _ (and-left (settingsRight (s
+    .settings)) _ e)))
 
 -- ## How long a line is
 

@@ -91,7 +91,7 @@ fn put_day(sheet: Sheet, buffer: &mut [u8], c: Settings, steps: &[u8], count: us
 }
 
 // Writes what is printed of a file, and returns its length.
-pub fn print(sheet: Sheet, file: &[u8], buffer: &mut [u8]) -> usize
+pub(crate) fn print(sheet: Sheet, file: &[u8], buffer: &mut [u8]) -> usize
     requires { ⌜ room sheet mostSteps ≤ length (now buffer) ⌝ }
     ensures { λ r. ⌜ r ≡ length (printedOn sheet (now (file .entry))) ⌝ }
     ensures { λ _. ⌜ now (buffer .exit) ≡ written (now (buffer .entry)) 0 (printedOn sheet (now (file .entry))) ⌝ }

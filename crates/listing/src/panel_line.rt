@@ -56,7 +56,7 @@ fn track_name(track: u8) -> u8
 }
 
 // Writes the line of a step, and returns the next place.
-pub fn put_panel(buffer: &mut [u8], at: usize, index: usize, track: u8, s: Section) -> usize
+pub(crate) fn put_panel(buffer: &mut [u8], at: usize, index: usize, track: u8, s: Section) -> usize
     requires { ⌜ (at + 104 ≤ length (now buffer)) × (s .settings .posts ≤ mostPosts) ⌝ }
     ensures { λ r. ⌜ r ≡ at + length (panelFields index track s) ⌝ }
     ensures { λ _. ⌜ now (buffer .exit) ≡ written (now (buffer .entry)) at (panelFields index track s) ⌝ }

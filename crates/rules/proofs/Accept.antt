@@ -90,7 +90,10 @@ module _ (c : Settings) where
     step-accepted x h =
         rw (verdict-is x, all-accepted (checksOf s x) (word s x) (h .held)) (ap (λ n. record { verdict = Accepted (word s x); section = n }) (section-is x))
 
-    pub step-refused : (x : Seen) (k : ℕ) → verdictOf (checksOf s x) (word s x) ≡ Refused k → judgeStep s (shown x) ≡ record { verdict = Refused k; section = s }
+    pub step-refused : (x : Seen) (k : ℕ) → verdictOf (checksOf s x) (word s x) ≡ Refused k → judgeStep s (shown x) ≡ record {
+      verdict = Refused k;
+      section = s;
+    }
     unfolding judgeStep answerOf
     step-refused x k q = rw (verdict-is x, q) refl
 

@@ -386,7 +386,8 @@ module _ (c : Settings) where
         cvt-same : trackOf (next c s (stepOf c b x)) b .cvt ≡ trackOf s b .cvt
         cvt-same = ap (λ t. t .cvt) (here-after c s b (x .post) (x .kind)) ∙ rw e (order-moves (otherSettledOnVns s b) b (x .post) (trackOf s b) .1)
 
-    unfoldable pub progress : (b : Bool) (x : AcceptedStep c b) → Ok c s (stepOf c b x) → word c s (stepOf c b x) ≡ x .taken .said → Progress s ds → Onward s ds b x
+    unfoldable pub progress : (b : Bool) (x : AcceptedStep c b) → Ok c s (stepOf c b x) → word c s (stepOf c b x) ≡ x .taken .said → Progress s ds →
+        Onward s ds b x
     unfolding Ok by-track settled-kind begins same-track other-track does does-set does-onward goes-before held-back closes
     progress b x h said (settled first pf kp ws) = go (settled-kind (otherSettledOnVns s b) b (x .post) (x .kind) (trackOf s b) h (ws b))
       where

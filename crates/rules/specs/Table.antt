@@ -13,7 +13,8 @@ use Rattle.section.specs.declared.Walk.{Walk}
 use Rattle.section.specs.declared.Walk.the-variants.{Settled, Turn}
 use Rattle.section.specs.declared.Track.{Track}
 use Rattle.section.specs.declared.Step.{Step}
-use Rattle.section.specs.declared.Step.the-variants.{Order, Set, Announce, Acknowledge, Start, Pass, Leave, MeasuresOn, MeasuresOff, FaultOn, FaultOff, Release, Key}
+use Rattle.section.specs.declared.Step.the-variants.{Order, Set, Announce, Acknowledge, Start, Pass, Leave, MeasuresOn, MeasuresOff, FaultOn}
+use Rattle.section.specs.declared.Step.the-variants.{FaultOff, Release, Key}
 use Rattle.section.specs.declared.Said.{Said}
 use Rattle.section.specs.declared.Said.the-variants.{Nothing, Cvt, Cvtz, Vns, Vnsz}
 use Rattle.section.specs.Numbers.{mostSeals}

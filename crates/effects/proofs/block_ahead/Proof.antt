@@ -24,7 +24,15 @@ cast-result : tie.Need-cast-result
 cast-result c = search needs
 
 returns : tie.Need-returns
-returns c = let b = c .before .before .before in let e : c .block .result ≡ blockAhead (b .args .c) (b .args .e) = rw (c .block .ensures, c .before .rank-at .ensures, c .before .before .is-upward .ensures) in (e, omega (arith, e, ahead-lt _ _ (b .pre .0) (b .pre .1)))
+returns c =
+    let b = c .before .before .before in
+    let e : c .block .result ≡ blockAhead (b .args .c) (b .args .e) = rw (
+      c .block .ensures,
+      c .before .rank-at .ensures,
+      c .before .before .is-upward
+          .ensures,
+    ) in
+    (e, omega (arith, e, ahead-lt _ _ (b .pre .0) (b .pre .1)))
 
 pub block-ahead-spec : {M : Type 1} → statement M
 block-ahead-spec =

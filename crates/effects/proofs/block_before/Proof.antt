@@ -28,7 +28,15 @@ cast-result : tie.Need-cast-result
 cast-result c = search needs
 
 returns : tie.Need-returns
-returns c = let b = c .before .before .before in let e : c .block .result ≡ blockBefore (b .args .c) (b .args .e) = rw (c .block .ensures, c .before .rank-at .ensures, c .before .before .is-upward .ensures) in (e, omega (arith, e, before-lt _ _ (b .pre .0) (b .pre .1)))
+returns c =
+    let b = c .before .before .before in
+    let e : c .block .result ≡ blockBefore (b .args .c) (b .args .e) = rw (
+      c .block .ensures,
+      c .before .rank-at .ensures,
+      c .before .before
+          .is-upward .ensures,
+    ) in
+    (e, omega (arith, e, before-lt _ _ (b .pre .0) (b .pre .1)))
 
 pub block-before-spec : {M : Type 1} → statement M
 block-before-spec =

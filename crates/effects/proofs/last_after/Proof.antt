@@ -29,7 +29,9 @@ enum-known-m-2 c = search needs
 
 block-ahead-requires-2 : tie.Need-block-ahead-requires-2
 unfolding HasBlocks
-block-ahead-requires-2 c κs = let b = c .before .before .before in (b .pre .0, subst (HasBlocks (b .args .c) (b .args .e)) (c .before .m2 .given .1) (b .pre .1) .1)
+block-ahead-requires-2 c κs =
+    let b = c .before .before .before in
+    (b .pre .0, subst (HasBlocks (b .args .c) (b .args .e)) (c .before .m2 .given .1) (b .pre .1) .1)
 
 mul-last-2 : tie.Need-mul-last-2
 mul-last-2 c = search needs

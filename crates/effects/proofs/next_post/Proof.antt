@@ -16,7 +16,9 @@ add-result : tie.Need-add-result
 add-result c = search needs
 
 sub-result : tie.Need-sub-result
-sub-result c = let b = c .before .before .before in above-zero _ (upAt (b .args .c) (b .args .e)) _ (sym (c .before .before .is-upward .ensures) ∙ c .before .if1 .left) (b .pre .0 .post) (b .pre .1)
+sub-result c =
+    let b = c .before .before .before in
+    above-zero _ (upAt (b .args .c) (b .args .e)) _ (sym (c .before .before .is-upward .ensures) ∙ c .before .if1 .left) (b .pre .0 .post) (b .pre .1)
 
 returns : tie.Need-returns
 returns c = let h = sym (c .before .before .is-upward .ensures) ∙ c .before .if1 .taken in rw (add-one, h)

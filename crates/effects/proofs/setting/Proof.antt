@@ -23,13 +23,19 @@ permitted-requires : tie.Need-permitted-requires
 permitted-requires c κs = search needs
 
 returns : tie.Need-returns
-returns c = let b = c .before .before in let h = sym (b .at-receiving-end .ensures) ∙ c .before .if1 .taken in rw (c .permitted .ensures, b .before .marked .ensures, b .before .before .turned .ensures, h)
+returns c =
+    let b = c .before .before in
+    let h = sym (b .at-receiving-end .ensures) ∙ c .before .if1 .taken in
+    rw (c .permitted .ensures, b .before .marked .ensures, b .before .before .turned .ensures, h)
 
 walking-requires : tie.Need-walking-requires
 walking-requires c κs = search needs
 
 returns-2 : tie.Need-returns-2
-returns-2 c = let b = c .before .before in let h = sym (b .at-receiving-end .ensures) ∙ c .before .if1 .left in rw (c .walking .ensures, b .before .marked .ensures, b .before .before .turned .ensures, h)
+returns-2 c =
+    let b = c .before .before in
+    let h = sym (b .at-receiving-end .ensures) ∙ c .before .if1 .left in
+    rw (c .walking .ensures, b .before .marked .ensures, b .before .before .turned .ensures, h)
 
 pub setting-spec : {M : Type 1} → statement M
 setting-spec =

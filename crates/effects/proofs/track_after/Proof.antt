@@ -24,14 +24,26 @@ array-set-from-posts : tie.Need-array-set-from-posts
 array-set-from-posts c = search needs
 
 trains-after-requires : tie.Need-trains-after-requires
-trains-after-requires c κs = let b = c .before .before .before .before .before in (b .before .pre .0, subst (λ (f : Effect). HasBlocks (b .before .args .c) (b .before .args .e) (f .train)) (sym (b .effect-of .ensures)) (b .before .pre .1 .blocks))
+trains-after-requires c κs =
+    let b = c .before .before .before .before .before in (
+      b .before .pre .0,
+      subst (λ (f : Effect). HasBlocks (b .before .args .c) (b .before .args .e) (f .train)) (sym (b .effect-of .ensures)) (b
+          .before .pre .1 .blocks),
+    )
 
 last-after-requires : tie.Need-last-after-requires
-last-after-requires c κs = let b = c .before .before .before .before .before .before in (b .before .pre .0, subst (λ (f : Effect). HasBlocks (b .before .args .c) (b .before .args .e) (f .train)) (sym (b .effect-of .ensures)) (b .before .pre .1 .blocks))
+last-after-requires c κs =
+    let b = c .before .before .before .before .before .before in (
+      b .before .pre .0,
+      subst (λ (f : Effect). HasBlocks (b .before .args .c) (b .before .args .e) (f .train)) (sym (b .effect-of .ensures)) (b
+          .before .pre .1 .blocks),
+    )
 
 returns : tie.Need-returns
 unfolding trackAfter
-returns c = let b = c .before .before .before .before .before .before .before in rw (c .last-after .ensures, c .before .trains-after .ensures, b .effect-of .ensures)
+returns c =
+    let b = c .before .before .before .before .before .before .before in
+    rw (c .last-after .ensures, c .before .trains-after .ensures, b .effect-of .ensures)
 
 pub track-after-spec : {M : Type 1} → statement M
 track-after-spec =

@@ -30,11 +30,15 @@ enum-known-m-2 c = search needs
 
 block-before-requires : tie.Need-block-before-requires
 unfolding HasBlocks
-block-before-requires c κs = let b = c .before .before .before in (b .pre .0, subst (HasBlocks (b .args .c) (b .args .e)) (c .before .m2 .given .1) (b .pre .1) .0)
+block-before-requires c κs =
+    let b = c .before .before .before in
+    (b .pre .0, subst (HasBlocks (b .args .c) (b .args .e)) (c .before .m2 .given .1) (b .pre .1) .0)
 
 block-ahead-requires-2 : tie.Need-block-ahead-requires-2
 unfolding HasBlocks
-block-ahead-requires-2 c κs = let b = c .before .before .before .before in (b .pre .0, subst (HasBlocks (b .args .c) (b .args .e)) (c .before .before .m2 .given .1) (b .pre .1) .1)
+block-ahead-requires-2 c κs =
+    let b = c .before .before .before .before in
+    (b .pre .0, subst (HasBlocks (b .args .c) (b .args .e)) (c .before .before .m2 .given .1) (b .pre .1) .1)
 
 mul-trains-2 : tie.Need-mul-trains-2
 mul-trains-2 c = search needs

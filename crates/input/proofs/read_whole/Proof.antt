@@ -54,7 +54,9 @@ loop-again : tie.Need-loop-again Inv-loop μ-loop
 loop-again c =
     let h = c .before .before .before .before .before .before .before .before .before .loop in
     let got = rw (c .before .before .more .given .1) at (c .before .before .before .before .before .before .read-once .ensures) in
-    let e = same-len-mid (h .done) (length (h .buffer) - h .done) (h .buffer) (c .before .before .before .before .before .before .read-once .last .0) (c .before .before .before .before .before .before .read-once .kept .0) in
+    let e =
+    same-len-mid (h .done) (length (h .buffer) - h .done) (h .buffer) (c .before .before .before .before .before .before .read-once .last .0) (c
+    .before .before .before .before .before .before .read-once .kept .0) in
     (omega (arith, h .inv .0), omega (arith, got .0, part-length (h .done) (h .buffer), c .before .before .before .before .before .before .read-once .kept .0))
 
 same-length-2 : tie.Need-same-length-2 Inv-loop μ-loop
@@ -69,7 +71,9 @@ same-length-3 c = search needs
 returns-3 : tie.Need-returns-3 Inv-loop μ-loop
 returns-3 c =
     let h = c .before .before .before .before .before .before .before .before .before .loop in
-    let e = same-len-mid (h .done) (length (h .buffer) - h .done) (h .buffer) (c .before .before .before .before .before .before .read-once .last .0) (c .before .before .before .before .before .before .read-once .kept .0) in
+    let e =
+    same-len-mid (h .done) (length (h .buffer) - h .done) (h .buffer) (c .before .before .before .before .before .before .read-once .last .0) (c
+    .before .before .before .before .before .before .read-once .kept .0) in
     counted _ _ (omega arith)
 
 pub read-whole-spec : {M : Type 1} → statement M

@@ -57,7 +57,8 @@ own c = c .before .before .before .before .before .before .before .before .if1 .
 
 looked : (c : tie.After-last2) →
     Looked (start c .args .s) (now (start c .args .bytes)) (step c) (own c)
-    (siteOn (c .before .before .before .before .settled-on-vns .result) (step c .track) (c .before .before .before .before .before .before .post-of .result) (own c))
+    (siteOn (c .before .before .before .before .settled-on-vns .result) (step c .track) (c .before .before .before .before .before .before .post-of
+    .result) (own c))
 looked c =
     let b = c .before .before .before .before in
     let picked = own-track (b .before .before .before .before) in
@@ -65,7 +66,9 @@ looked c =
       range = in-its-range (well c);
       well = says (well c);
       track = picked;
-      site = site-is (start c .args .s) (step c) (b .settled-on-vns .ensures ∙ ap settledOnVns (other-track (b .before .before .before))) (b .before .before .post-of .ensures) picked;
+      site =
+          site-is (start c .args .s) (step c) (b .settled-on-vns .ensures ∙ ap settledOnVns (other-track (b .before .before .before))) (b .before
+          .before .post-of .ensures) picked;
     }
 
 decode-requires : tie.Need-decode-requires
@@ -102,16 +105,24 @@ enum-told-2 : tie.Need-enum-told-2
 enum-told-2 c = search needs
 
 track-after-requires : tie.Need-track-after-requires
-track-after-requires c κs = let b = c .before .before .before in (placed (looked b), fits (looked b) (c .before .before .verdict .ensures) (c .enum-told2 .given .1))
+track-after-requires c κs =
+    let b = c .before .before .before in
+    (placed (looked b), fits (looked b) (c .before .before .verdict .ensures) (c .enum-told2 .given .1))
 
 enum-told-3 : tie.Need-enum-told-3
 enum-told-3 c = search needs
 
 returns-2 : tie.Need-returns-2
-returns-2 c = let b = c .before .before .before .before in accepted (looked (b .before)) (b .verdict .ensures) true (c .if3 .taken) (c .before .before .enum-told2 .given .1) (c .before .track-after .ensures)
+returns-2 c =
+    let b = c .before .before .before .before in
+    accepted (looked (b .before)) (b .verdict .ensures) true (c .if3 .taken) (c .before .before .enum-told2 .given .1) (c .before .track-after
+    .ensures)
 
 returns-3 : tie.Need-returns-3
-returns-3 c = let b = c .before .before .before .before in accepted (looked (b .before)) (b .verdict .ensures) false (c .if3 .left) (c .before .before .enum-told2 .given .1) (c .before .track-after .ensures)
+returns-3 c =
+    let b = c .before .before .before .before in
+    accepted (looked (b .before)) (b .verdict .ensures) false (c .if3 .left) (c .before .before .enum-told2 .given .1) (c .before .track-after
+    .ensures)
 
 returns-4 : tie.Need-returns-4
 returns-4 c = let b = c .before .before .before in refused (looked b) (c .before .before .verdict .ensures) (c .enum-told3 .given .1)

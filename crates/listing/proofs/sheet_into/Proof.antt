@@ -53,7 +53,8 @@ same-length-2 c = search needs
 returns-2 : tie.Need-returns-2
 returns-2 c =
     let a = c .before .before .before .before .before .before .before .before .before .before .before .before .before .before .args in
-    rw (front-taken (c .before .before .before .before .before .before .before .before .before .most-room .result) _ (printedOn (a .sheet) (now (a .file))) _ (c .before .before .before .before .before .before .before .print2 .ensures)) at (c .before .before .hand-over .ensures)
+    rw (front-taken (c .before .before .before .before .before .before .before .before .before .most-room .result) _ (printedOn (a .sheet) (now (a
+    .file))) _ (c .before .before .before .before .before .before .before .print2 .ensures)) at (c .before .before .hand-over .ensures)
 
 pub sheet-into-spec : {M : Type 1} → statement M
 sheet-into-spec =

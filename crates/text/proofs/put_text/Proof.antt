@@ -27,8 +27,11 @@ same-length : tie.Need-same-length
 same-length c = search needs
 
 returns : tie.Need-returns
-returns c = let a = c .before .before .before .before .before .before .args in
-    (refl, part-copied (now (a .buffer)) (now (a .text)) _ (a .at) (c .before .before .before .before .before .before .pre) (c .before .before .copy .ensures .1))
+returns c = let a = c .before .before .before .before .before .before .args in (
+  refl,
+  part-copied (now (a .buffer)) (now (a .text)) _ (a .at) (c .before .before .before .before .before .before .pre) (c .before .before .copy
+      .ensures .1),
+)
 
 pub put-text-spec : {M : Type 1} → statement M
 put-text-spec =

@@ -56,7 +56,8 @@ returns-4 c =
     let i = l .before in
     let a = i .before .before .args in
     let r = told-true (i .before .in-range .ensures) (i .if1 .left) in
-    c .shown-on .ensures ∙ shown-is (a .s) (a .track) (a .post) true r (omega (arith, l .if2 .left)) (omega (arith, e .if3 .left)) (eq-eqb _ _ (c .before .if4 .taken))
+    c .shown-on .ensures ∙ shown-is (a .s) (a .track) (a .post) true r (omega (arith, l .if2 .left)) (omega (arith, e .if3 .left)) (eq-eqb _ _ (c
+    .before .if4 .taken))
 
 shown-on-requires-2 : tie.Need-shown-on-requires-2
 shown-on-requires-2 c κs =
@@ -73,7 +74,8 @@ returns-5 c =
     let i = l .before in
     let a = i .before .before .args in
     let r = told-true (i .before .in-range .ensures) (i .if1 .left) in
-    c .shown-on2 .ensures ∙ shown-is (a .s) (a .track) (a .post) false r (omega (arith, l .if2 .left)) (omega (arith, e .if3 .left)) (ne-eqb _ _ (c .before .if4 .left))
+    c .shown-on2 .ensures ∙ shown-is (a .s) (a .track) (a .post) false r (omega (arith, l .if2 .left)) (omega (arith, e .if3 .left)) (ne-eqb _ _ (c
+    .before .if4 .left))
 
 pub indications-spec : {M : Type 1} → statement M
 indications-spec =

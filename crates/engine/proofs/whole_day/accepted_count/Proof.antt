@@ -8,7 +8,8 @@ use mathlib.Core.Bool.{true}
 use Rattle.section.specs.Range.{inRange}
 use Rattle.section.proofs.Told.{told-true, told-false}
 use Rattle.engine.specs.AcceptedCount.{acceptedFrom, acceptedCount}
-use Rattle.engine.proofs.Laws.{counts-at-most, none-counted, part-offered, one-more, all-counted, settings-wrong, judged-in-range, range-kept, fresh-range}
+use Rattle.engine.proofs.Laws.{counts-at-most, none-counted, part-offered, one-more, all-counted, settings-wrong, judged-in-range, range-kept}
+use Rattle.engine.proofs.Laws.{fresh-range}
 use Rattle.engine.proofs.whole_day.accepted_count.Statement.{statement}
 use Rattle.engine.proofs.whole_day.accepted_count.Tie as tie
 
@@ -27,7 +28,14 @@ fresh-requires : tie.Need-fresh-requires Inv-loop μ-loop
 fresh-requires c κs = search needs
 
 loop-holds : tie.Need-loop-holds Inv-loop μ-loop
-loop-holds c = (refl, omega arith, omega arith, none-counted (acceptedFrom _ _ 0) _, fresh-range _ _ (told-true (c .before .before .settings-right .ensures) (c .before .if1 .left)) (c .fresh .ensures))
+loop-holds c = (
+  refl,
+  omega arith,
+  omega arith,
+  none-counted (acceptedFrom _ _ 0) _,
+  fresh-range _ _ (told-true (c .before .before .settings-right .ensures) (c
+      .before .if1 .left)) (c .fresh .ensures),
+)
 
 mul-at : tie.Need-mul-at Inv-loop μ-loop
 mul-at c = omega arith
@@ -68,7 +76,8 @@ loop-again c =
       refl,
       omega arith,
       omega (arith, n),
-      one-more (l .section) (a .steps .now) (l .i) _ _ _ _ _ _ _ (omega arith) (l .inv .3) (part-offered (a .steps .now) (l .i)) (judged-in-range _ _ _ (l .inv .4) (j .judge-in-range .ensures)) (c .before .counts-as .ensures),
+      one-more (l .section) (a .steps .now) (l .i) _ _ _ _ _ _ _ (omega arith) (l .inv .3) (part-offered (a .steps .now) (l .i)) (judged-in-range _ _
+          _ (l .inv .4) (j .judge-in-range .ensures)) (c .before .counts-as .ensures),
       range-kept _ _ _ (l .inv .4) (j .judge-in-range .ensures),
     )
 

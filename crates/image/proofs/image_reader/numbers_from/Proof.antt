@@ -50,7 +50,8 @@ loop-again c =
       omega arith,
       (
         length-set (a .numbers) (a .i) (c .number-at .result) ∙ a .inv .1 .0,
-        filled-more (λ (m : ℕ). numberAt (now (x .bytes)) (x .at + numberLength * m)) (numbersFrom (now (x .bytes)) (x .at)) (λ m. refl) (a .numbers) (a .i) (c .number-at .result) (omega arith) (a .inv .1 .1) (c .number-at .ensures),
+        filled-more (λ (m : ℕ). numberAt (now (x .bytes)) (x .at + numberLength * m)) (numbersFrom (now (x .bytes)) (x .at)) (λ m. refl) (a .numbers)
+            (a .i) (c .number-at .result) (omega arith) (a .inv .1 .1) (c .number-at .ensures),
       ),
     )
 

@@ -53,7 +53,8 @@ loop-again c =
       omega arith,
       (
         length-set (a .posts) (a .i) (c .post-at .result) ∙ a .inv .1 .0,
-        filled-more (λ (m : ℕ). postAt (now (x .bytes)) (x .at + postLength * m)) (postsFrom (now (x .bytes)) (x .at)) (λ m. refl) (a .posts) (a .i) (c .post-at .result) (omega arith) (a .inv .1 .1) (c .post-at .ensures),
+        filled-more (λ (m : ℕ). postAt (now (x .bytes)) (x .at + postLength * m)) (postsFrom (now (x .bytes)) (x .at)) (λ m. refl) (a .posts) (a .i)
+            (c .post-at .result) (omega arith) (a .inv .1 .1) (c .post-at .ensures),
       ),
     )
 

@@ -25,8 +25,10 @@ same-length c = search needs
 returns : tie.Need-returns
 returns c =
     let x = c .before .before .before .before .before .before .before .before .before .before .before .before .before .before .before in
-    image-put (now (x .args .buffer)) (x .args .s) (x .pre) (c .before .before .before .before .before .before .before .before .before .before .before .before .before .settings-bytes .ensures)
-    (c .before .before .before .before .before .before .before .before .before .before .put-text .ensures) (c .before .before .before .before .before .before .put-track .ensures) (c .before .before .put-track2 .ensures)
+    image-put (now (x .args .buffer)) (x .args .s) (x .pre) (c .before .before .before .before .before .before .before .before .before .before .before
+    .before .before .settings-bytes .ensures)
+    (c .before .before .before .before .before .before .before .before .before .before .put-text .ensures) (c .before .before .before .before .before
+    .before .put-track .ensures) (c .before .before .put-track2 .ensures)
 
 pub put-image-spec : {M : Type 1} → statement M
 put-image-spec =

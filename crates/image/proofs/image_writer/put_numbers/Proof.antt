@@ -53,7 +53,8 @@ loop-again c =
     let e = p .ensures in
     let g = c .before .before .put-text .ensures in (
       omega arith,
-      rw (numbers-more (a .i) (c .before .before .before .before .before .before .before .before .before .args .t3), ← e) (put-next (a .inv .1) (p .result) (omega (arith, numbers-length (a .i) (c .before .before .before .before .before .before .before .before .before .args .t3))) g),
+      rw (numbers-more (a .i) (c .before .before .before .before .before .before .before .before .before .args .t3), ← e) (put-next (a .inv .1) (p
+          .result) (omega (arith, numbers-length (a .i) (c .before .before .before .before .before .before .before .before .before .args .t3))) g),
     )
 
 same-length : tie.Need-same-length Inv-loop μ-loop

@@ -27,9 +27,14 @@ same-length c = search needs
 
 returns : tie.Need-returns
 returns c =
-    let x = c .before .before .before .before .before .before .before .before .before .before .before .before .before .before .before .before .before .before .before .before .before .before in
-    track-put (now (x .args .buffer)) (x .args .at) (x .args .t) (x .pre) (c .before .before .before .before .before .before .before .before .before .before .before .before .before .before .before .before .before .before .before .before .track-head .ensures)
-    (c .before .before .before .before .before .before .before .before .before .before .before .before .before .before .put-text .ensures) (c .before .before .before .before .before .before .before .before .before .before .put-posts .ensures) (c .before .before .before .before .before .before .put-numbers .ensures) (c .before .before .put-numbers2 .ensures)
+    let x =
+    c .before .before .before .before .before .before .before .before .before .before .before .before .before .before .before .before .before
+    .before .before .before .before .before in
+    track-put (now (x .args .buffer)) (x .args .at) (x .args .t) (x .pre) (c .before .before .before .before .before .before .before .before .before
+    .before .before .before .before .before .before .before .before .before .before .before .track-head .ensures)
+    (c .before .before .before .before .before .before .before .before .before .before .before .before .before .before .put-text .ensures) (c .before
+    .before .before .before .before .before .before .before .before .before .put-posts .ensures) (c .before .before .before .before .before
+    .before .put-numbers .ensures) (c .before .before .put-numbers2 .ensures)
 
 pub put-track-spec : {M : Type 1} → statement M
 put-track-spec =

@@ -42,7 +42,9 @@ returns : tie.Need-returns
 returns c =
     let a = c .before .before .before .before .before .before .before .before .before .before .args in
     let put = c .before .before .put-refused in
-    let e = ap (λ (x : ReadAnswer). x .reading) (sym (c .before .before .before .before .before .before .before .read .ensures)) ∙ c .before .before .before .before .before .reading .given .1 in
+    let e =
+    ap (λ (x : ReadAnswer). x .reading) (sym (c .before .before .before .before .before .before .before .read .ensures)) ∙ c .before .before
+    .before .before .before .reading .given .1 in
     same-text (now (a .buffer)) _ _ _ _ (printed-refused (a .sheet) (now (a .file)) _ _ e) (put .ensures .0 ∙ zero-add _, put .ensures .1)
 
 same-length-2 : tie.Need-same-length-2

@@ -16,7 +16,9 @@ put-header-requires c κs = omega arith
 
 put-lines-requires : tie.Need-put-lines-requires
 unfolding room
-put-lines-requires c κs = let a = c .before .before .before .before .before .before .before .args in (omega (arith, header-length (a .c .posts) (a .count)), c .before .before .before .before .before .before .before .pre .1)
+put-lines-requires c κs =
+    let a = c .before .before .before .before .before .before .before .args in
+    (omega (arith, header-length (a .c .posts) (a .count)), c .before .before .before .before .before .before .before .pre .1)
 
 same-length : tie.Need-same-length
 same-length c = search needs

@@ -19,7 +19,9 @@ track-letter-requires-2 c κs = search needs
 
 put-fields-requires : tie.Need-put-fields-requires
 unfolding lineRoom
-put-fields-requires c κs = let a = c .before .before .before .before .before .before .before .before .args in omega (arith, rw (c .before .before .before .enum-told .given .1) at (c .before .before .before .before .before .before .before .before .pre .0))
+put-fields-requires c κs =
+    let a = c .before .before .before .before .before .before .before .before .args in
+    omega (arith, rw (c .before .before .before .enum-told .given .1) at (c .before .before .before .before .before .before .before .before .pre .0))
 
 enum-told-2 : tie.Need-enum-told-2
 enum-told-2 c = search needs
@@ -29,14 +31,24 @@ shared-slice-read-put-panel c = search needs
 
 put-panel-requires : tie.Need-put-panel-requires
 unfolding lineRoom
-put-panel-requires c κs = (omega (arith, rw (c .before .before .enum-told2 .given .1) at (c .before .before .before .before .before .before .before .pre .0)), c .before .before .before .before .before .before .before .pre .1 .1)
+put-panel-requires c κs = (
+  omega (arith, rw (c .before .before .enum-told2 .given .1) at (c .before .before .before .before .before .before .before .pre .0)),
+  c .before
+      .before .before .before .before .before .before .pre .1 .1,
+)
 
 same-length : tie.Need-same-length
 same-length c = search needs
 
 returns : tie.Need-returns
 unfolding lineOn stepLine
-returns c = rw (c .before .before .before .before .before .before .enum-told .given .1, ← c .before .before .before .before .track-letter .ensures, ← c .before .before .before .track-letter2 .ensures) (c .before .before .put-fields .ensures)
+returns c =
+    rw (
+      c .before .before .before .before .before .before .enum-told .given .1,
+      ← c .before .before .before .before .track-letter .ensures,
+      ← c
+          .before .before .before .track-letter2 .ensures,
+    ) (c .before .before .put-fields .ensures)
 
 same-length-2 : tie.Need-same-length-2
 same-length-2 c = search needs

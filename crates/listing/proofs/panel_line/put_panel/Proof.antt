@@ -19,10 +19,13 @@ put-byte-requires : tie.Need-put-byte-requires
 put-byte-requires c κs = omega (arith, number-length (c .before .before .before .before .before .before .before .args .index) 32)
 
 put-posts-requires : tie.Need-put-posts-requires
-put-posts-requires c κs = omega (arith, number-length (c .before .before .before .before .before .before .before .before .before .before .before .args .index) 32)
+put-posts-requires c κs =
+    omega (arith, number-length (c .before .before .before .before .before .before .before .before .before .before .before .args .index) 32)
 
 put-byte-requires-2 : tie.Need-put-byte-requires-2
-put-byte-requires-2 c κs = let a = c .before .before .before .before .before .before .before .before .before .before .before .before .before .before .before .args in omega (arith, number-length (a .index) 32, lamps-length (a .s) (a .track))
+put-byte-requires-2 c κs =
+    let a = c .before .before .before .before .before .before .before .before .before .before .before .before .before .before .before .args in
+    omega (arith, number-length (a .index) 32, lamps-length (a .s) (a .track))
 
 same-length : tie.Need-same-length
 same-length c = search needs
@@ -30,13 +33,18 @@ same-length c = search needs
 returns : tie.Need-returns
 unfolding panelFields
 returns c =
-    let a = c .before .before .before .before .before .before .before .before .before .before .before .before .before .before .before .before .before .before .args in
+    let a =
+    c .before .before .before .before .before .before .before .before .before .before .before .before .before .before .before .before .before
+    .before .args in
     let h = number-length (a .index) 32 in
     let k = lamps-length (a .s) (a .track) in
     rw (← c .before .before .before .before .before .before .before .before .before .before .before .track-name .ensures)
-    (number-then (now (a .buffer)) _ _ (a .at) _ _ (a .index) 32 _ (omega arith) (c .before .before .before .before .before .before .before .before .before .before .before .before .before .before .before .put-number .ensures)
-    (then _ _ _ _ _ _ (c .before .before .before .before .before .before .before .before .before .before .before .track-name .result ∷ []) _ (omega arith) (c .before .before .before .before .before .before .before .before .before .before .put-byte .ensures)
-    (then _ _ _ _ _ _ (lampsOf (a .s) (a .track)) _ (omega arith) (c .before .before .before .before .before .before .put-posts .ensures) (c .before .before .put-byte2 .ensures))))
+    (number-then (now (a .buffer)) _ _ (a .at) _ _ (a .index) 32 _ (omega arith) (c .before .before .before .before .before .before .before .before
+    .before .before .before .before .before .before .before .put-number .ensures)
+    (then _ _ _ _ _ _ (c .before .before .before .before .before .before .before .before .before .before .before .track-name .result ∷ []) _ (omega
+    arith) (c .before .before .before .before .before .before .before .before .before .before .put-byte .ensures)
+    (then _ _ _ _ _ _ (lampsOf (a .s) (a .track)) _ (omega arith) (c .before .before .before .before .before .before .put-posts .ensures) (c .before
+    .before .put-byte2 .ensures))))
 
 pub put-panel-spec : {M : Type 1} → statement M
 put-panel-spec =

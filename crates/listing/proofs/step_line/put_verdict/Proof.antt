@@ -29,7 +29,8 @@ unfolding verdictFields
 returns c =
     let a = c .before .before .before .before .before .before .before .before .before .before .before .args in
     rw (← c .before .before .before .before .before .before .before .before .refusal-of .ensures, ← c .before .before .before .said-by .ensures)
-    (number-then (now (a .buffer)) _ _ (a .at) _ _ (c .before .before .before .before .before .before .before .before .refusal-of .result) 32 _ (omega arith) (c .before .before .before .before .before .before .before .put-number .ensures)
+    (number-then (now (a .buffer)) _ _ (a .at) _ _ (c .before .before .before .before .before .before .before .before .refusal-of .result) 32 _ (omega
+    arith) (c .before .before .before .before .before .before .before .put-number .ensures)
     (c .before .before .put-said .ensures))
 
 pub put-verdict-spec : {M : Type 1} → statement M
