@@ -14,7 +14,9 @@ same-length : tie.Need-same-length
 same-length c = search needs
 
 returns : tie.Need-returns
-returns c = let x = c .before .before .before .before .before .args in no-image (now (x .bytes)) (now (x .step)) (told-false (c .before .image-right .ensures) (c .if1 .taken))
+returns c =
+    let x = c .before .before .before .before .before .args in
+    no-image (now (x .bytes)) (now (x .step)) (told-false (c .before .image-right .ensures) (c .if1 .taken))
 
 section-of-requires : tie.Need-section-of-requires
 section-of-requires c κs = omega (arith, right-length _ (told-true (c .before .before .image-right .ensures) (c .before .if1 .left)))
@@ -26,7 +28,9 @@ enum-known-verdict : tie.Need-enum-known-verdict
 enum-known-verdict c = search needs
 
 put-image-requires : tie.Need-put-image-requires
-put-image-requires c κs = omega (arith, right-length _ (told-true (c .before .before .before .before .before .before .before .before .before .image-right .ensures) (c .before .before .before .before .before .before .before .before .if1 .left)))
+put-image-requires c κs =
+    let e = c .before .before .before .before .before .before .before .before in
+    omega (arith, right-length _ (told-true (e .before .image-right .ensures) (e .if1 .left)))
 
 said-number-requires : tie.Need-said-number-requires
 said-number-requires c κs = search needs
@@ -44,21 +48,28 @@ same-length-2 : tie.Need-same-length-2
 same-length-2 c = search needs
 
 returns-2 : tie.Need-returns-2
-returns-2 c = 
-    let x = c .before .before .before .before .before .before .before .before .before .before .before .before .before .before .before .before .before .args in
-    let e = c .before .before .before .before .before .before .before .before .before .before .before .before in
-    accepted (now (x .bytes)) (now (x .step)) (told-true (e .before .image-right .ensures) (e .if1 .left)) (c .before .before .before .before .before .before .before .before .before .before .section-of .ensures) (c .before .before .before .before .before .before .before .before .before .judge .ensures)
-    (c .before .before .before .before .before .before .before .verdict .given .1) (c .said-number .ensures) (c .before .before .before .put-image .ensures)
+returns-2 c =
+    let put = c .before .before .before in
+    let v = put .before .before .before .before in
+    let j = v .before .before in
+    let r = j .before in
+    let e = r .before .before in
+    let x = e .before .before .before .before .before .args in
+    accepted (now (x .bytes)) (now (x .step)) (told-true (e .before .image-right .ensures) (e .if1 .left)) (r .section-of .ensures)
+    (j .judge .ensures) (v .verdict .given .1) (c .said-number .ensures) (put .put-image .ensures)
 
 same-length-3 : tie.Need-same-length-3
 same-length-3 c = search needs
 
 returns-3 : tie.Need-returns-3
-returns-3 c = 
-    let x = c .before .before .before .before .before .before .before .before .before .before .before .args in
-    let e = c .before .before .before .before .before .before in
-    refused (now (x .bytes)) (now (x .step)) (told-true (e .before .image-right .ensures) (e .if1 .left)) (c .before .before .before .before .section-of .ensures) (c .before .before .before .judge .ensures)
-    (c .before .verdict2 .given .1)
+returns-3 c =
+    let v = c .before in
+    let j = v .before .before in
+    let r = j .before in
+    let e = r .before .before in
+    let x = e .before .before .before .before .before .args in
+    refused (now (x .bytes)) (now (x .step)) (told-true (e .before .image-right .ensures) (e .if1 .left)) (r .section-of .ensures)
+    (j .judge .ensures) (v .verdict2 .given .1)
 
 pub bsr-judge-spec : {M : Type 1} → statement M
 bsr-judge-spec =
