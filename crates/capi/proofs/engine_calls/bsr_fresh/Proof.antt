@@ -22,7 +22,7 @@ same-length c = search needs
 
 returns-2 : tie.Need-returns-2
 unfolding freshAnswer freshImage
-returns-2 c = 
+returns-2 c =
     let e = le-ltb _ _ (c .before .before .before .before .before .before .if1 .left) in
     let f = rw (c .before .before .before .before .settings-given .ensures) at (c .before .before .before .fresh .ensures) in
     (rw e, rw (e, ← f) (c .before .before .put-image .ensures))

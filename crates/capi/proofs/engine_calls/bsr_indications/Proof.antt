@@ -42,7 +42,7 @@ add-result-2 c = search needs
 
 returns-2 : tie.Need-returns-2
 unfolding shownOf packedIndications
-returns-2 c = 
+returns-2 c =
     rw (
       told-true (c .before .before .before .before .before .before .image-right .ensures) (c .before .before .before .before .before .if1 .left),
       ← c .before .before .before .before .section-of .ensures,

@@ -1,3 +1,4 @@
+-- A right image is as long as what is written, so the whole of it is written back.
 use native.Mathlib.Omega.{arith}
 use denote.Ref.{now}
 use Rattle.section.proofs.Told.{told-false, told-true}

@@ -32,7 +32,7 @@ same-length c = search needs
 
 returns : tie.Need-returns
 unfolding packedWritten
-returns c = 
+returns c =
     let w = c .before .before .before .before .before in
     let e = rw (w .before .before .settings-given .ensures) at (w .write .ensures) in
     (rw (← e .0, c .before .done .given .1), e .1)
@@ -42,7 +42,7 @@ same-length-2 c = search needs
 
 returns-2 : tie.Need-returns-2
 unfolding packedWritten
-returns-2 c = 
+returns-2 c =
     let w = c .before .before .before .before .before in
     let e = rw (w .before .before .settings-given .ensures) at (w .write .ensures) in
     (rw (← e .0, c .before .done2 .given .1), e .1)
