@@ -24,24 +24,15 @@ use Rattle.section.specs.Fresh.{freshSection}
 use Rattle.section.specs.Range.{walkFits, trackFits, inRange}
 use Rattle.section.specs.Settings.{isMaterialised, settingsRight}
 use Rattle.section.specs.Store.{trackOf}
-use Rattle.section.proofs.Laws.{posts-right, track-right, turn-right}
+use Rattle.section.proofs.Laws.{posts-right, track-right, turn-right, fresh-in-range}
 use Rattle.rules.specs.declared.Site.{Site}
 use Rattle.rules.specs.Site.{siteOn, upAt, rankAt, atReceivingEnd, watchedOccupied}
-use Rattle.rules.specs.Judge.{judge}
+use Rattle.rules.specs.Judge.{judgeInRange, judge}
+use Rattle.rules.proofs.RangeLaw.{ranges-kept}
 use Rattle.rules.specs.Indications.{setCount, isNextToSet, lampsAt, circulation, troncon, shown, dark, indicationsOn, indications}
 use Rattle.engine.specs.AcceptedCount.{countsAs, offeredAt, acceptedFrom, acceptedCount}
 use Rattle.engine.specs.LampsAt.{shownAt}
-use Rattle.engine.specs.Fit.{Fit}
-
--- ## A site
-
-pub fit-on :
-    (c : Settings) (vns track : Bool) (t : Track) (p : ℕ) → settingsRight c ≡ true → trackFits (c .posts) track t ≡ true → p < c .posts
-    → Fit c (siteOn vns track p t)
-fit-on c vns track t p right fits below =
-    let n = posts-right c right in
-    let r = track-right (c .posts) track t fits in
-    record { placed = record { least = n .0; most = n .1; post = below }; seals = r .seals p below; walk = r .walk }
+use Rattle.judging.specs.Fit.{Fit}
 
 -- ## Lamps
 
@@ -162,3 +153,24 @@ all-counted c s₀ s steps i m done fresh end count t =
     let z : m - i ≡ 0 = omega arith in
     let u : acceptedFrom s₀ steps 0 m ≡ done + 0 = t ∙ ap (λ (k : ℕ). done + acceptedFrom s steps i k) z in
     sym (add-zero done) ∙ sym u ∙ ap (λ (x : Section). acceptedFrom x steps 0 m) fresh ∙ ap (acceptedFrom (freshSection c) steps 0) count
+
+-- a section out of its ranges accepts nothing
+none-accepted : (s : Section) (steps : List ℕ) (i m : ℕ) → inRange s ≡ false → acceptedFrom s steps i m ≡ 0
+unfolding acceptedFrom countsAs judge
+none-accepted s steps i zero h = refl
+none-accepted s steps i (suc m) h = rw h (omega (arith, none-accepted s steps (suc i) m h))
+
+pub settings-wrong : (c : Settings) (steps : List ℕ) → settingsRight c ≡ false → 0 ≡ acceptedCount c steps
+unfolding acceptedCount inRange freshSection
+settings-wrong c steps h = sym (none-accepted (freshSection c) steps 0 (length steps / 8) (rw h refl))
+
+-- judging a section in its ranges, and what it leaves
+pub judged-in-range : (s : Section) (bytes : List ℕ) (after : Answer) → inRange s ≡ true → after ≡ judgeInRange s bytes → after ≡ judge s bytes
+unfolding judge
+judged-in-range s bytes after h e = rw h e
+
+pub range-kept : (s : Section) (bytes : List ℕ) (after : Answer) → inRange s ≡ true → after ≡ judgeInRange s bytes → inRange (after .section) ≡ true
+range-kept s bytes after h e = rw (judged-in-range s bytes after h e) (ranges-kept s bytes h)
+
+pub fresh-range : (c : Settings) (s : Section) → settingsRight c ≡ true → s ≡ freshSection c → inRange s ≡ true
+fresh-range c s right e = rw e (fresh-in-range c right)

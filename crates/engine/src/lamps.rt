@@ -6,7 +6,7 @@ ghost use Rattle.section.specs.Range.{walkFits, trackFits};
 ghost use Rattle.section.specs.Settings.{isMaterialised, settingsRight};
 ghost use Rattle.rules.specs.Site.{siteOn, upAt, rankAt};
 ghost use Rattle.rules.specs.Indications.{setCount, isNextToSet, circulation, troncon, dark, indications};
-ghost use Rattle.engine.specs.Fit.{Fit};
+ghost use Rattle.judging.specs.Fit.{Fit};
 ghost use Rattle.engine.specs.LampsAt.{shownAt};
 use rules::Site;
 use section::Act;

@@ -1,8 +1,24 @@
 // The engine: a step offered to a section is judged, and a post's indications are shown.
-mod judging;
 mod lamps;
 mod whole_day;
 
-pub use judging::judge;
+ghost use mathlib.Core.Path.{_≡_};
+ghost use Rattle.rules.specs.Judge.{judge};
 pub use lamps::indications;
+use section::Answer;
+use section::Section;
+use section::Verdict;
 pub use whole_day::accepted_count;
+
+// Judges bytes offered to a section: 6, then 4, then the table. A refusal returns the section as it came.
+pub fn judge(s: Section, bytes: &[u8]) -> Answer
+    ensures { λ r. ⌜ r ≡ judge s (now (bytes .entry)) ⌝ }
+{
+    if !section::in_range(s) {
+        return Answer {
+            verdict: Verdict::Refused(6),
+            section: s,
+        };
+    }
+    judging::judge_in_range(s, bytes)
+}

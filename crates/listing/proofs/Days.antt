@@ -33,7 +33,7 @@ use Rattle.text.specs.Text.{decimal, written}
 use Rattle.text.proofs.Laws.{decimal-length}
 use Rattle.listing.specs.declared.Sheet.{Sheet}
 use Rattle.listing.specs.declared.Sheet.the-variants.{OfSteps, OfPosts}
-use Rattle.listing.specs.Text.{space, lineFeed, trackLetter, inTurn}
+use Rattle.listing.specs.Text.{inTurn}
 use Rattle.listing.specs.Listing.{refusedLine, header, verdictFields, fields, stepLine, sectionBefore, answerTo, printed}
 use Rattle.listing.specs.Panel.{trackName, lampsOf, panelFields, panelLine}
 use Rattle.listing.specs.Sheet.{lineOn, lineRoom, room, printedOn}
@@ -79,6 +79,11 @@ line-fits w i count h = rw (mul-suc w i) at (mul-le-mul-left w h)
 pub fewer-fit : (sheet : Sheet) (count : ℕ) → count ≤ mostSteps → room sheet count ≤ room sheet mostSteps
 unfolding room
 fewer-fit sheet count h = omega (arith, mul-le-mul-left (lineRoom sheet) h)
+
+pub most-room : (sheet : Sheet) → room sheet mostSteps ≤ 426008
+unfolding room lineRoom
+most-room OfSteps = omega arith
+most-room OfPosts = omega arith
 
 -- ## The loop over the steps
 

@@ -12,27 +12,29 @@ use Rattle.dayfile.specs.Layout.{stepAt, stepsIn}
 use Rattle.dayfile.specs.Tests.{readOf}
 use Rattle.dayfile.specs.declared.Reading.{Reading}
 use Rattle.dayfile.specs.declared.Reading.the-variants.{Day, Refused}
-use Rattle.text.specs.Text.{decimal}
-use Rattle.listing.specs.Text.{space, lineFeed, word, trackLetter, inTurn}
+use Rattle.text.specs.Text.{ascii, decimal}
+use Rattle.listing.specs.Text.{word, trackLetter, inTurn}
 
 -- "one line, `refused K I` (number, index)"
 unfoldable pub refusedLine : ℕ → ℕ → List ℕ
-refusedLine number index =
-    114 ∷ 101 ∷ 102 ∷ 117 ∷ 115 ∷ 101 ∷ 100 ∷ space ∷ (decimal number ++ (space ∷ (decimal index ++ (lineFeed ∷ []))))
+refusedLine number index = ascii "refused " ++ (decimal number ++ (ascii " " ++ (decimal index ++ ascii "\n")))
 
 -- "a header (`posts`, n, `steps`, the count)"
 unfoldable pub header : ℕ → ℕ → List ℕ
-header n count =
-    112 ∷ 111 ∷ 115 ∷ 116 ∷ 115 ∷ space
-    ∷ (decimal n ++ (space ∷ 115 ∷ 116 ∷ 101 ∷ 112 ∷ 115 ∷ space ∷ (decimal count ++ (lineFeed ∷ []))))
+header n count = ascii "posts " ++ (decimal n ++ (ascii " steps " ++ (decimal count ++ ascii "\n")))
 
 -- "0 or refusal, what is said or `-`"
 unfoldable pub verdictFields : Verdict → List ℕ
-verdictFields verdict = decimal (refusalOf verdict) ++ (space ∷ word (saidBy verdict))
+verdictFields verdict = decimal (refusalOf verdict) ++ (ascii " " ++ word (saidBy verdict))
+
+-- a track's letter, after a space
+abbrev pub letterField : ℕ → List ℕ
+letterField letter = ascii " " ++ (letter ∷ [])
 
 -- "index, 0 or refusal, what is said or `-`, tracks A and B after the step", "fields one space apart"
 unfoldable pub fields : ℕ → Verdict → ℕ → ℕ → List ℕ
-fields index verdict a b = decimal index ++ (space ∷ (verdictFields verdict ++ (space ∷ a ∷ space ∷ b ∷ lineFeed ∷ [])))
+fields index verdict a b =
+    decimal index ++ (ascii " " ++ (verdictFields verdict ++ (letterField a ++ (letterField b ++ ascii "\n"))))
 
 unfoldable pub stepLine : ℕ → Answer → List ℕ
 stepLine index answer = fields index (answer .verdict) (trackLetter (answer .section .a)) (trackLetter (answer .section .b))

@@ -1,5 +1,6 @@
 -- The panel of a file: after each step a line with what every post shows on the step's track.
 use Prim.Native.Nat.{ℕ}
+use Prim.Native.Char.{code}
 use mathlib.Core.Bool.{cond}
 use mathlib.Core.List.{List, [], _∷_, _++_}
 use lib.Dec.{eqb}
@@ -10,13 +11,14 @@ use Rattle.section.specs.Bytes.{byte}
 use Rattle.rules.specs.Indications.{indications}
 use Rattle.dayfile.specs.Layout.{stepsIn}
 use Rattle.dayfile.specs.Tests.{readOf}
-use Rattle.text.specs.Text.{digit, decimal}
-use Rattle.listing.specs.Text.{space, lineFeed, inTurn}
+use Rattle.text.specs.Text.{ascii, digit, decimal}
+use Rattle.listing.specs.Text.{inTurn}
 use Rattle.listing.specs.Listing.{printed}
 
 -- a post's CIRCULATION, TRONÇON and permission, a stroke between, after a space
 unfoldable pub lamps : Indications → List ℕ
-lamps l = space ∷ digit (l .circulation) ∷ 47 ∷ digit (l .troncon) ∷ 47 ∷ digit (l .permission) ∷ []
+lamps l =
+    ascii " " ++ (digit (l .circulation) ∷ (ascii "/" ++ (digit (l .troncon) ∷ (ascii "/" ++ (digit (l .permission) ∷ [])))))
 
 -- those of every post, from post 0 on
 unfoldable pub lampsOf : Section → ℕ → List ℕ
@@ -24,11 +26,11 @@ lampsOf s track = inTurn (λ p. lamps (indications s track p)) (s .settings .pos
 
 -- the step's track
 unfoldable pub trackName : ℕ → ℕ
-trackName track = cond (eqb track 1) 66 65
+trackName track = cond (eqb track 1) (code "B") (code "A")
 
 -- the index, the step's track as a letter, and every post's lamps
 unfoldable pub panelFields : ℕ → ℕ → Section → List ℕ
-panelFields index track s = decimal index ++ (space ∷ trackName track ∷ (lampsOf s track ++ (lineFeed ∷ [])))
+panelFields index track s = decimal index ++ (ascii " " ++ (trackName track ∷ (lampsOf s track ++ ascii "\n")))
 
 unfoldable pub panelLine : ℕ → List ℕ → Answer → List ℕ
 panelLine index bytes answer = panelFields index (byte bytes 1) (answer .section)

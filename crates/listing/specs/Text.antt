@@ -1,7 +1,8 @@
 -- The words and letters of the listing (document 01, "The bench listing"), and a text handed over in a lent buffer.
 use Prim.Native.Nat.{ℕ, zero, suc}
+use Prim.Native.Char.{code}
 use mathlib.Core.Bool.{Bool, true, false, cond}
-use mathlib.Core.List.{List, [], _∷_, _++_}
+use mathlib.Core.List.{List, [], _++_}
 use lib.Dec.{leb}
 use lib.ListN.{length, drop}
 use Rattle.section.specs.declared.Said.{Said}
@@ -9,27 +10,22 @@ use Rattle.section.specs.declared.Said.the-variants.{Nothing, Cvt, Cvtz, Vns, V
 use Rattle.section.specs.declared.Walk.{Walk}
 use Rattle.section.specs.declared.Walk.the-variants.{Settled, Turn}
 use Rattle.section.specs.declared.Track.{Track}
+use Rattle.text.specs.Text.{ascii}
 use Rattle.listing.specs.declared.Listed.{Listed}
 use Rattle.listing.specs.declared.Listed.the-variants.{Bytes, TooShort}
 
-abbrev pub space : ℕ
-space = 32
-
-abbrev pub lineFeed : ℕ
-lineFeed = 10
-
 -- "what is said or `-`"
 unfoldable pub word : Said → List ℕ
-word Nothing = 45 ∷ []
-word Cvt = 67 ∷ 86 ∷ 84 ∷ []
-word Cvtz = 67 ∷ 86 ∷ 84 ∷ 122 ∷ []
-word Vns = 86 ∷ 78 ∷ 83 ∷ []
-word Vnsz = 86 ∷ 78 ∷ 83 ∷ 122 ∷ []
+word Nothing = ascii "-"
+word Cvt = ascii "CVT"
+word Cvtz = ascii "CVTz"
+word Vns = ascii "VNS"
+word Vnsz = ascii "VNSz"
 
 -- "V or C settled; c or v, reversing to CVT or VNS"
 unfoldable pub letter : Walk → Bool → ℕ
-letter Settled cvt = cond cvt 67 86
-letter (Turn p act) cvt = cond cvt 118 99
+letter Settled cvt = cond cvt (code "C") (code "V")
+letter (Turn p act) cvt = cond cvt (code "v") (code "c")
 
 unfoldable pub trackLetter : Track → ℕ
 trackLetter t = letter (t .walk) (t .cvt)

@@ -5,9 +5,11 @@ mod step_line;
 
 ghost use mathlib.Core.Path.{_≡_};
 ghost use lib.ListN.{length};
+ghost use Rattle.dayfile.specs.Layout.{mostSteps};
 ghost use Rattle.listing.specs.Text.{listed, handedOver};
 ghost use Rattle.listing.specs.Listing.{listing};
 ghost use Rattle.listing.specs.Panel.{panel};
+ghost use Rattle.listing.specs.Sheet.{room, printedOn};
 use day::print;
 
 // How many bytes were put at the front of the buffer, or that it is too short for them.
@@ -34,18 +36,34 @@ fn hand_over(text: &[u8], buffer: &mut [u8]) -> Listed
     Listed::Bytes(text.len())
 }
 
-// Room for the longest listing.
-fn listing_room() -> [u8; 86040]
-    ensures { λ r. ⌜ 86040 ≡ length r ⌝ }
+// Room for the longest sheet.
+fn room_for(sheet: Sheet) -> usize
+    ensures { λ r. ⌜ r ≡ room sheet mostSteps ⌝ }
 {
-    [0; 86040]
+    match sheet {
+        Sheet::OfSteps => 86040,
+        Sheet::OfPosts => 426008,
+    }
 }
 
-// Room for the longest panel.
-fn panel_room() -> [u8; 426008]
+// Room for the longest sheet of either kind.
+fn most_room() -> [u8; 426008]
     ensures { λ r. ⌜ 426008 ≡ length r ⌝ }
 {
     [0; 426008]
+}
+
+// A sheet of a file, at the front of the buffer, if it is long enough. A buffer that any sheet fits is written to at once.
+fn sheet_into(sheet: Sheet, file: &[u8], buffer: &mut [u8]) -> Listed
+    ensures { λ r. ⌜ r ≡ listed (printedOn sheet (now (file .entry))) (now (buffer .entry)) ⌝ }
+    ensures { λ _. ⌜ now (buffer .exit) ≡ handedOver (printedOn sheet (now (file .entry))) (now (buffer .entry)) ⌝ }
+{
+    if room_for(sheet) <= buffer.len() {
+        return Listed::Bytes(print(sheet, file, buffer));
+    }
+    let mut space = most_room();
+    let length = print(sheet, file, &mut space);
+    hand_over(&space[0..length], buffer)
 }
 
 // The bench listing of a file.
@@ -53,9 +71,7 @@ pub fn listing(file: &[u8], buffer: &mut [u8]) -> Listed
     ensures { λ r. ⌜ r ≡ listed (listing (now (file .entry))) (now (buffer .entry)) ⌝ }
     ensures { λ _. ⌜ now (buffer .exit) ≡ handedOver (listing (now (file .entry))) (now (buffer .entry)) ⌝ }
 {
-    let mut space = listing_room();
-    let length = print(Sheet::OfSteps, file, &mut space);
-    hand_over(&space[0..length], buffer)
+    sheet_into(Sheet::OfSteps, file, buffer)
 }
 
 // The panel of a file.
@@ -63,7 +79,5 @@ pub fn panel(file: &[u8], buffer: &mut [u8]) -> Listed
     ensures { λ r. ⌜ r ≡ listed (panel (now (file .entry))) (now (buffer .entry)) ⌝ }
     ensures { λ _. ⌜ now (buffer .exit) ≡ handedOver (panel (now (file .entry))) (now (buffer .entry)) ⌝ }
 {
-    let mut space = panel_room();
-    let length = print(Sheet::OfPosts, file, &mut space);
-    hand_over(&space[0..length], buffer)
+    sheet_into(Sheet::OfPosts, file, buffer)
 }

@@ -1,9 +1,16 @@
--- Text in bytes: a number in decimal, and a buffer with a text written at a place.
+-- Text in bytes: words, a number in decimal, and a buffer with a text written at a place.
 use Prim.Native.Nat.{ℕ, zero, suc, _+_, _/_, _%_}
+use Prim.Native.Char.{Char, code}
+use Prim.Native.String.{String, [] as end, _∷_ as _then_}
 use mathlib.Core.Bool.{Bool, true, false, cond}
 use mathlib.Core.List.{List, [], _∷_, _++_}
 use lib.ListN.{length, take, drop}
 use lib.Dec.{ltb}
+
+-- the bytes of a word in ASCII
+abbrev pub ascii : String → List ℕ
+ascii end = []
+ascii (c then s) = code c ∷ ascii s
 
 -- the digit of a number below ten
 abbrev pub digit : ℕ → ℕ

@@ -32,7 +32,7 @@ fn trailers() -> Vec<Named> {
         ("refused_2_distance_to_settings", with_trailer_byte(4, 16)),
         ("refused_2_distance_to_steps", with_trailer_byte(9, 1)),
         ("refused_2_count", with_trailer_byte(12, 3)),
-        ("refused_2_before_3", with_settings(&[(0, 17)], Some(b'X'))),
+        ("refused_2_before_3", with_mark_and_seventeen_posts()),
     ];
     demand_all(&files, 2);
     files
@@ -40,25 +40,16 @@ fn trailers() -> Vec<Named> {
 
 fn settings() -> Vec<Named> {
     let files = vec![
-        ("refused_3_one_post", with_settings(&[(0, 1), (2, 1)], None)),
-        ("refused_3_seventeen_posts", with_settings(&[(0, 17)], None)),
-        ("refused_3_form_2", with_settings(&[(1, 2)], None)),
-        (
-            "refused_3_mask_without_post_0",
-            with_settings(&[(2, 6)], None),
-        ),
-        (
-            "refused_3_mask_without_last_post",
-            with_settings(&[(2, 3)], None),
-        ),
-        (
-            "refused_3_mask_above_last_post",
-            with_settings(&[(2, 15)], None),
-        ),
-        ("refused_3_line_0", with_settings(&[(4, 0), (5, 0)], None)),
-        ("refused_3_line_1000", with_settings(&[(4, 0xe8)], None)),
-        ("refused_3_byte_6", with_settings(&[(6, 1)], None)),
-        ("refused_3_byte_7", with_settings(&[(7, 1)], None)),
+        ("refused_3_one_post", with_settings(&[(0, 1), (2, 1)])),
+        ("refused_3_seventeen_posts", with_settings(&[(0, 17)])),
+        ("refused_3_form_2", with_settings(&[(1, 2)])),
+        ("refused_3_mask_without_post_0", with_settings(&[(2, 6)])),
+        ("refused_3_mask_without_last_post", with_settings(&[(2, 3)])),
+        ("refused_3_mask_above_last_post", with_settings(&[(2, 15)])),
+        ("refused_3_line_0", with_settings(&[(4, 0), (5, 0)])),
+        ("refused_3_line_1000", with_settings(&[(4, 0xe8)])),
+        ("refused_3_byte_6", with_settings(&[(6, 1)])),
+        ("refused_3_byte_7", with_settings(&[(7, 1)])),
         ("refused_3_before_4", with_malformed_step_and_form()),
     ];
     demand_all(&files, 3);
@@ -144,15 +135,19 @@ fn with_trailer_byte(place: usize, value: u8) -> Vec<u8> {
     file
 }
 
-fn with_settings(changes: &[(usize, u8)], mark: Option<u8>) -> Vec<u8> {
+fn with_settings(changes: &[(usize, u8)]) -> Vec<u8> {
     let mut file = good_day();
     let settings = file.len() - SETTINGS_FROM_END;
     for &(place, value) in changes {
         file[settings + place] = value;
     }
-    if let Some(mark) = mark {
-        file[settings + SETTINGS_LENGTH] = mark;
-    }
+    file
+}
+
+fn with_mark_and_seventeen_posts() -> Vec<u8> {
+    let mut file = with_trailer_byte(3, b'2');
+    let settings = file.len() - SETTINGS_FROM_END;
+    file[settings] = 17;
     file
 }
 
@@ -164,7 +159,7 @@ fn malformed(index: usize, place: usize, value: u8) -> (Vec<u8>, u32) {
 }
 
 fn with_malformed_step_and_form() -> Vec<u8> {
-    let mut file = with_settings(&[(1, 2)], None);
+    let mut file = with_settings(&[(1, 2)]);
     file[0] = 14;
     file
 }

@@ -1,56 +1,18 @@
 use borrow.Author.Needs.{needs}
-use native.Mathlib.Omega.{arith}
-use denote.Ref.{now}
-use Rattle.listing.specs.declared.Sheet.the-variants.{OfPosts}
 use Rattle.listing.specs.Panel.{panel}
-use Rattle.listing.specs.Sheet.{lineOn, lineRoom, room, printedOn}
-use Rattle.listing.proofs.Puts.{front-fits, front-taken}
+use Rattle.listing.specs.Sheet.{lineOn, printedOn}
 use Rattle.listing.proofs.panel.Statement.{statement}
 use Rattle.listing.proofs.panel.Tie as tie
 
-panel-room-requires : tie.Need-panel-room-requires
-panel-room-requires c κs = search needs
-
-slice-aggregate-print : tie.Need-slice-aggregate-print
-slice-aggregate-print c = search needs
-
-print-requires : tie.Need-print-requires
-unfolding room lineRoom
-print-requires c κs = omega (arith, c .before .panel-room .ensures)
-
-sub-hand-over : tie.Need-sub-hand-over
-sub-hand-over c = search needs
-
-part-hand-over-start : tie.Need-part-hand-over-start
-part-hand-over-start c = search needs
-
-part-hand-over-end : tie.Need-part-hand-over-end
-part-hand-over-end c =
-    front-fits (c .before .before .before .before .panel-room .result) _ (printedOn OfPosts (now (c .before .before .before .before .before .before .before .args .file))) _ (c .before .before .print .ensures) (c .before .before .print .kept .1 .1 .0)
-
-hand-over-requires : tie.Need-hand-over-requires
-hand-over-requires c κs = search needs
+sheet-into-requires : tie.Need-sheet-into-requires
+sheet-into-requires c κs = search needs
 
 same-length : tie.Need-same-length
 same-length c = search needs
 
 returns : tie.Need-returns
 unfolding panel printedOn lineOn
-returns c =
-    let a = c .before .before .before .before .before .before .before .before .before .before .before .before .args in
-    let print = c .before .before .before .before .before .before .before .print in
-    rw (front-taken (c .before .before .before .before .before .before .before .before .before .panel-room .result) _ (printedOn OfPosts (now (a .file))) _ (print .ensures)) at (c .before .before .hand-over .ensures)
+returns c = c .before .before .sheet-into .ensures
 
 pub panel-spec : {M : Type 1} → statement M
-panel-spec =
-    tie.close
-    (tie.spec
-    panel-room-requires
-    slice-aggregate-print
-    print-requires
-    sub-hand-over
-    part-hand-over-start
-    part-hand-over-end
-    hand-over-requires
-    same-length
-    returns)
+panel-spec = tie.close (tie.spec sheet-into-requires same-length returns)

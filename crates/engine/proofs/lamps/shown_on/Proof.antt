@@ -2,7 +2,7 @@ use borrow.Author.Needs.{needs}
 use mathlib.Core.Bool.{true}
 use native.Mathlib.Omega.{arith}
 use Rattle.section.proofs.Laws.{posts-right}
-use Rattle.engine.proofs.Laws.{fit-on}
+use Rattle.judging.proofs.Sites.{fit-on}
 use Rattle.engine.proofs.lamps.shown_on.Statement.{statement}
 use Rattle.engine.proofs.lamps.shown_on.Tie as tie
 use Rattle.engine.proofs.lamps.shown_on.Reads as reads

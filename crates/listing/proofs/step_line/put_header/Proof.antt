@@ -1,9 +1,8 @@
 use borrow.Author.Needs.{needs}
 use denote.Ref.{now}
 use native.Mathlib.Omega.{arith}
-use mathlib.Core.List.{[], _∷_, _++_}
 use Rattle.listing.proofs.Puts.{named-length, named-then}
-use Rattle.text.specs.Text.{decimal}
+use Rattle.text.specs.Text.{ascii}
 use Rattle.listing.specs.Listing.{header}
 use Rattle.listing.proofs.step_line.put_header.Statement.{statement}
 use Rattle.listing.proofs.step_line.put_header.Tie as tie
@@ -18,7 +17,7 @@ slice-aggregate-put-named-2 : tie.Need-slice-aggregate-put-named-2
 slice-aggregate-put-named-2 c = search needs
 
 put-named-requires-2 : tie.Need-put-named-requires-2
-put-named-requires-2 c κs = omega (arith, named-length (112 ∷ 111 ∷ 115 ∷ 116 ∷ 115 ∷ 32 ∷ []) (c .before .before .before .before .before .before .before .before .args .n) 32)
+put-named-requires-2 c κs = omega (arith, named-length (ascii "posts ") (c .before .before .before .before .before .before .before .before .args .n) 32)
 
 same-length : tie.Need-same-length
 same-length c = search needs
@@ -27,7 +26,7 @@ returns : tie.Need-returns
 unfolding header
 returns c =
     let a = c .before .before .before .before .before .before .before .before .before .before .before .args in
-    named-then (now (a .buffer)) _ _ (a .at) _ _ (112 ∷ 111 ∷ 115 ∷ 116 ∷ 115 ∷ 32 ∷ []) (a .n) 32 _ (omega arith)
+    named-then (now (a .buffer)) _ _ (a .at) _ _ (ascii "posts ") (a .n) 32 _ (omega arith)
     (c .before .before .before .before .before .before .before .put-named .ensures) (c .before .before .put-named2 .ensures)
 
 pub put-header-spec : {M : Type 1} → statement M

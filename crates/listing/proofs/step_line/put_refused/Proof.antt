@@ -1,9 +1,8 @@
 use borrow.Author.Needs.{needs}
 use denote.Ref.{now}
 use native.Mathlib.Omega.{arith}
-use mathlib.Core.List.{[], _∷_, _++_}
 use Rattle.listing.proofs.Puts.{named-length, named-then}
-use Rattle.text.specs.Text.{decimal}
+use Rattle.text.specs.Text.{ascii}
 use Rattle.listing.specs.Listing.{refusedLine}
 use Rattle.listing.proofs.step_line.put_refused.Statement.{statement}
 use Rattle.listing.proofs.step_line.put_refused.Tie as tie
@@ -15,7 +14,7 @@ put-named-requires : tie.Need-put-named-requires
 put-named-requires c κs = search needs
 
 put-number-requires : tie.Need-put-number-requires
-put-number-requires c κs = omega (arith, named-length (114 ∷ 101 ∷ 102 ∷ 117 ∷ 115 ∷ 101 ∷ 100 ∷ 32 ∷ []) (c .before .before .before .before .before .before .before .args .number) 32)
+put-number-requires c κs = omega (arith, named-length (ascii "refused ") (c .before .before .before .before .before .before .before .args .number) 32)
 
 same-length : tie.Need-same-length
 same-length c = search needs
@@ -24,7 +23,7 @@ returns : tie.Need-returns
 unfolding refusedLine
 returns c =
     let a = c .before .before .before .before .before .before .before .before .before .before .args in
-    named-then (now (a .buffer)) _ _ (a .at) _ _ (114 ∷ 101 ∷ 102 ∷ 117 ∷ 115 ∷ 101 ∷ 100 ∷ 32 ∷ []) (a .number) 32 _ (omega arith)
+    named-then (now (a .buffer)) _ _ (a .at) _ _ (ascii "refused ") (a .number) 32 _ (omega arith)
     (c .before .before .before .before .before .before .put-named .ensures) (c .before .before .put-number .ensures)
 
 pub put-refused-spec : {M : Type 1} → statement M

@@ -1,10 +1,11 @@
-// Judging a step: 6, then 4, then the table. The section is copied as little as its struct allows: the leaves take a post, a walk and the
+// Judging a step on a section whose ranges hold: 4, then the table. The section is copied as little as its struct allows: the leaves take a post, a walk and the
 // trains' cells, and only what is accepted takes a whole track.
-ghost use mathlib.Core.Bool.{not, _&&_};
+ghost use mathlib.Core.Bool.{true, not, _&&_};
 ghost use mathlib.Core.Path.{_≡_};
+ghost use Rattle.section.specs.Range.{inRange};
 ghost use Rattle.section.specs.Step.{postOf};
 ghost use Rattle.rules.specs.Site.{isSettled};
-ghost use Rattle.rules.specs.Judge.{judge};
+ghost use Rattle.rules.specs.Judge.{judgeInRange};
 use rules::Site;
 use section::Answer;
 use section::Decoded;
@@ -43,16 +44,11 @@ fn settled_on_vns(walk: Walk, cvt: bool) -> bool
     }
 }
 
-// Bytes offered to any section. An accepted step changes its own track; a refused one leaves the section as it came.
-pub fn judge(mut s: Section, bytes: &[u8]) -> Answer
-    ensures { λ r. ⌜ r ≡ judge s (now (bytes .entry)) ⌝ }
+// Judges bytes offered to a section in its ranges. An accepted step changes its own track; a refused one leaves the section as it came.
+pub fn judge_in_range(mut s: Section, bytes: &[u8]) -> Answer
+    requires { ⌜ inRange s ≡ true ⌝ }
+    ensures { λ r. ⌜ r ≡ judgeInRange s (now (bytes .entry)) ⌝ }
 {
-    if !section::in_range(s) {
-        return Answer {
-            verdict: Verdict::Refused(6),
-            section: s,
-        };
-    }
     let c = s.settings;
     let d = section::decode(c.posts, bytes);
     let Decoded::Well(x) = d else {

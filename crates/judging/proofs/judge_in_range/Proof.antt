@@ -11,44 +11,35 @@ use Rattle.section.specs.declared.Decoded.the-variants.{Well}
 use Rattle.section.specs.Range.{inRange}
 use Rattle.section.specs.Step.{decoded}
 use Rattle.section.specs.Store.{trackOf}
-use Rattle.section.proofs.Told.{told-true, told-false}
 use Rattle.rules.specs.Site.{siteOn, settledOnVns}
-use Rattle.engine.proofs.Looked.{Looked, post-among, site-is, out-of-range, malformed, placed, fits, accepted, refused}
+use Rattle.judging.proofs.Looked.{Looked, post-among, site-is, malformed, placed, fits, accepted, refused}
 use borrow.Author.Needs.{needs}
-use Rattle.engine.proofs.judging.judge.Statement.{statement}
-use Rattle.engine.proofs.judging.judge.Tie as tie
-use Rattle.engine.proofs.judging.judge.Reads as reads
-use Rattle.engine.proofs.judging.judge.Lts as lts
-use Rattle.checks.proofs.verdict.Reads as verdict-reads
-use Rattle.effects.proofs.track_after.Reads as track-after-reads
-use Rattle.engine.proofs.judging.post_of.Reads as post-of-reads
-use Rattle.engine.proofs.judging.settled_on_vns.Reads as settled-on-vns-reads
-use Rattle.section.proofs.in_range.Reads as in-range-reads
-use Rattle.section.proofs.decode.Reads as decode-reads
+use Rattle.judging.proofs.judge_in_range.Statement.{statement}
+use Rattle.judging.proofs.judge_in_range.Tie as tie
 
 -- the step's own track and the other, as the code picks them
-own-track : (c : tie.Joined2) →
-    c .if2 .t ≡ trackOf (c .before .before .before .before .before .before .before .before .before .args .s) (c .before .before .d .given .0 .0 .track)
+own-track : (c : tie.Joined1) →
+    c .if1 .t ≡ trackOf (c .before .before .before .before .before .before .before .args .s) (c .before .before .d .given .0 .0 .track)
 own-track c =
-    let s = c .before .before .before .before .before .before .before .before .before .args .s in
-    ⊎-elim (λ w. w .2 ∙ ap (trackOf s) (sym (w .0 .taken))) (λ w. w .2 ∙ ap (trackOf s) (sym (w .0 .left))) (c .if2 .came)
+    let s = c .before .before .before .before .before .before .before .args .s in
+    ⊎-elim (λ w. w .2 ∙ ap (trackOf s) (sym (w .0 .taken))) (λ w. w .2 ∙ ap (trackOf s) (sym (w .0 .left))) (c .if1 .came)
 
-other-track : (c : tie.Joined3) →
-    c .if3 .other
-    ≡ trackOf (c .before .before .before .before .before .before .before .before .before .before .args .s) (not (c .before .before .before .d .given .0 .0 .track))
+other-track : (c : tie.Joined2) →
+    c .if2 .other
+    ≡ trackOf (c .before .before .before .before .before .before .before .before .args .s) (not (c .before .before .before .d .given .0 .0 .track))
 other-track c =
-    let s = c .before .before .before .before .before .before .before .before .before .before .args .s in
+    let s = c .before .before .before .before .before .before .before .before .args .s in
     ⊎-elim
     (λ w. w .2 ∙ ap (λ (k : Bool). trackOf s (not k)) (sym (w .0 .taken)))
     (λ w. w .2 ∙ ap (λ (k : Bool). trackOf s (not k)) (sym (w .0 .left)))
-    (c .if3 .came)
+    (c .if2 .came)
 
 -- the step that the bytes say, in a section in its ranges
-in-its-range : (c : tie.After-d) → inRange (c .before .before .before .before .before .before .before .args .s) ≡ true
-in-its-range c = told-true (c .before .before .before .before .before .in-range .ensures) (c .before .before .before .before .if1 .left)
+in-its-range : (c : tie.After-d) → inRange (c .before .before .before .before .before .args .s) ≡ true
+in-its-range c = c .before .before .before .before .before .pre
 
 says : (c : tie.After-d) →
-    let b = c .before .before .before .before .before .before .before in
+    let b = c .before .before .before .before .before in
     decoded (b .args .s .settings .posts) (now (b .args .bytes)) ≡ Well (c .d .given .0 .0)
 says c = sym (c .before .before .decode .ensures) ∙ c .d .given .1
 
@@ -56,13 +47,13 @@ abbrev well : tie.After-last2 → tie.After-d
 well c = c .before .before .before .before .before .before .before .before .before .before
 
 abbrev start : tie.After-last2 → tie.Start
-start c = well c .before .before .before .before .before .before .before
+start c = well c .before .before .before .before .before
 
 abbrev step : tie.After-last2 → TrackStep
 step c = well c .d .given .0 .0
 
 abbrev own : tie.After-last2 → Track
-own c = c .before .before .before .before .before .before .before .before .if2 .t
+own c = c .before .before .before .before .before .before .before .before .if1 .t
 
 looked : (c : tie.After-last2) →
     Looked (start c .args .s) (now (start c .args .bytes)) (step c) (own c)
@@ -77,12 +68,6 @@ looked c =
       site = site-is (start c .args .s) (step c) (b .settled-on-vns .ensures ∙ ap settledOnVns (other-track (b .before .before .before))) (b .before .before .post-of .ensures) picked;
     }
 
-in-range-requires : tie.Need-in-range-requires
-in-range-requires c κs = search needs
-
-returns : tie.Need-returns
-returns c = out-of-range _ _ (told-false (c .before .in-range .ensures) (c .if1 .taken))
-
 decode-requires : tie.Need-decode-requires
 decode-requires c κs = search needs
 
@@ -92,8 +77,8 @@ enum-known-d c = search needs
 enum-told : tie.Need-enum-told
 enum-told c = search needs
 
-returns-2 : tie.Need-returns-2
-returns-2 c = let b = c .before .before in malformed _ _ (told-true (b .before .before .before .in-range .ensures) (b .before .before .if1 .left)) (sym (b .decode .ensures) ∙ c .enum-told .given .1)
+returns : tie.Need-returns
+returns c = let b = c .before .before in malformed _ _ (b .before .before .before .pre) (sym (b .decode .ensures) ∙ c .enum-told .given .1)
 
 post-of-requires : tie.Need-post-of-requires
 post-of-requires c κs = search needs
@@ -122,25 +107,23 @@ track-after-requires c κs = let b = c .before .before .before in (placed (looke
 enum-told-3 : tie.Need-enum-told-3
 enum-told-3 c = search needs
 
+returns-2 : tie.Need-returns-2
+returns-2 c = let b = c .before .before .before .before in accepted (looked (b .before)) (b .verdict .ensures) true (c .if3 .taken) (c .before .before .enum-told2 .given .1) (c .before .track-after .ensures)
+
 returns-3 : tie.Need-returns-3
-returns-3 c = let b = c .before .before .before .before in accepted (looked (b .before)) (b .verdict .ensures) true (c .if4 .taken) (c .before .before .enum-told2 .given .1) (c .before .track-after .ensures)
+returns-3 c = let b = c .before .before .before .before in accepted (looked (b .before)) (b .verdict .ensures) false (c .if3 .left) (c .before .before .enum-told2 .given .1) (c .before .track-after .ensures)
 
 returns-4 : tie.Need-returns-4
-returns-4 c = let b = c .before .before .before .before in accepted (looked (b .before)) (b .verdict .ensures) false (c .if4 .left) (c .before .before .enum-told2 .given .1) (c .before .track-after .ensures)
+returns-4 c = let b = c .before .before .before in refused (looked b) (c .before .before .verdict .ensures) (c .enum-told3 .given .1)
 
-returns-5 : tie.Need-returns-5
-returns-5 c = let b = c .before .before .before in refused (looked b) (c .before .before .verdict .ensures) (c .enum-told3 .given .1)
-
-pub judge-spec : {M : Type 1} → statement M
-judge-spec =
+pub judge-in-range-spec : {M : Type 1} → statement M
+judge-in-range-spec =
     tie.close
     (tie.spec
-    in-range-requires
-    returns
     decode-requires
     enum-known-d
     enum-told
-    returns-2
+    returns
     post-of-requires
     cast-at
     mul-own
@@ -150,6 +133,6 @@ judge-spec =
     enum-told-2
     track-after-requires
     enum-told-3
+    returns-2
     returns-3
-    returns-4
-    returns-5)
+    returns-4)

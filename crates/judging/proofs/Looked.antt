@@ -22,13 +22,13 @@ use Rattle.section.proofs.Laws.{posts-right, settings-in-range, track-in-range}
 use Rattle.rules.specs.declared.Site.{Site}
 use Rattle.rules.specs.Site.{siteOn, otherSettledOnVns, occupancyAt}
 use Rattle.rules.specs.Table.{trackAfter}
-use Rattle.rules.specs.Judge.{answerOf, siteOf, verdictOn, sectionAfter, judgeStep, judgeDecoded, judgeInRange, judge}
+use Rattle.rules.specs.Judge.{answerOf, siteOf, verdictOn, sectionAfter, judgeStep, judgeDecoded, judgeInRange}
 use Rattle.occupancy.specs.Placed.{Placed}
 use Rattle.checks.specs.VerdictAt.{verdictAt}
 use Rattle.effects.specs.Part.{Fitting}
 use Rattle.effects.proofs.Accepted.{fitting}
-use Rattle.engine.specs.Fit.{Fit}
-use Rattle.engine.proofs.Laws.{fit-on}
+use Rattle.judging.specs.Fit.{Fit}
+use Rattle.judging.proofs.Sites.{fit-on}
 
 -- the site that the code puts together
 pub site-is :
@@ -40,15 +40,11 @@ site-is s x {v} {p} {t} ev ep et =
     ∙ ap (λ (u : Track). siteOn (otherSettledOnVns s (x .track)) (x .track) (postOf (x .step)) u) et)
 
 module _ (s : Section) (bytes : List ℕ) where
-  pub out-of-range : inRange s ≡ false → record { verdict = Refused 6; section = s } ≡ judge s bytes
-  unfolding judge
-  out-of-range h = rw h
+  decodes : {d : Decoded} → inRange s ≡ true → decoded (s .settings .posts) bytes ≡ d → judgeDecoded s d ≡ judgeInRange s bytes
+  unfolding judgeInRange
+  decodes h k = rw k
 
-  decodes : {d : Decoded} → inRange s ≡ true → decoded (s .settings .posts) bytes ≡ d → judgeDecoded s d ≡ judge s bytes
-  unfolding judge judgeInRange
-  decodes h k = rw (h, k)
-
-  pub malformed : inRange s ≡ true → decoded (s .settings .posts) bytes ≡ Malformed → record { verdict = Refused 4; section = s } ≡ judge s bytes
+  pub malformed : inRange s ≡ true → decoded (s .settings .posts) bytes ≡ Malformed → record { verdict = Refused 4; section = s } ≡ judgeInRange s bytes
   unfolding judgeDecoded
   malformed h k = decodes h k
 
@@ -93,20 +89,20 @@ module _ {s : Section} {bytes : List ℕ} {x : TrackStep} {t : Track} {e : Site}
         (sym (l .site))
         (fitting (s .settings) (siteOf s x) _ (fit .placed) (fit .walk) (fit .seals) _ w (x .step) (sym verdict-is ∙ a))
 
-    answer-of : {w : Verdict} → v ≡ w → answerOf w s (sectionAfter s x) ≡ judge s bytes
+    answer-of : {w : Verdict} → v ≡ w → answerOf w s (sectionAfter s x) ≡ judgeInRange s bytes
     unfolding judgeDecoded judgeStep
     answer-of a = ap (λ (w : Verdict). answerOf w s (sectionAfter s x)) (sym a ∙ verdict-is) ∙ decodes s bytes (l .range) (l .well)
 
     pub accepted :
         {w : Said} {u : Track} (k : Bool) → x .track ≡ k → v ≡ Accepted w → u ≡ trackAfter (s .settings) (x .step) e t →
-        record { verdict = v; section = withTrack s k u } ≡ judge s bytes
+        record { verdict = v; section = withTrack s k u } ≡ judgeInRange s bytes
     unfolding answerOf sectionAfter
     accepted {w} {u} k ek a eu =
         let after : u ≡ trackAfter (s .settings) (x .step) (siteOf s x) (trackOf s (x .track)) = eu ∙ rw (l .track, l .site) in
         let section : withTrack s k u ≡ sectionAfter s x =
-          ap (λ (y : Bool). withTrack s y u) (sym ek) ∙ ap (withTrack s (x .track)) after in
+        ap (λ (y : Bool). withTrack s y u) (sym ek) ∙ ap (withTrack s (x .track)) after in
         rw (a, section) (answer-of a)
 
-    pub refused : {k : ℕ} → v ≡ Refused k → record { verdict = v; section = s } ≡ judge s bytes
+    pub refused : {k : ℕ} → v ≡ Refused k → record { verdict = v; section = s } ≡ judgeInRange s bytes
     unfolding answerOf
     refused a = rw a (answer-of a)

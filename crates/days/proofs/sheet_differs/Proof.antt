@@ -1,0 +1,67 @@
+-- What was read is a part of the buffer, so it is no longer than `agrees` asks.
+use native.Mathlib.Omega.{arith}
+use lib.ListN.{length-take}
+use borrow.Author.Needs.{needs}
+use Rattle.days.proofs.sheet_differs.Statement.{statement}
+use Rattle.days.proofs.sheet_differs.Tie as tie
+
+open-sheet-requires : tie.Need-open-sheet-requires
+open-sheet-requires c κs = search needs
+
+slice-aggregate-report : tie.Need-slice-aggregate-report
+slice-aggregate-report c = search needs
+
+report-requires : tie.Need-report-requires
+report-requires c κs = search needs
+
+returns : tie.Need-returns
+returns c = search needs
+
+slice-aggregate-read-full : tie.Need-slice-aggregate-read-full
+slice-aggregate-read-full c = search needs
+
+read-full-requires : tie.Need-read-full-requires
+read-full-requires c κs = search needs
+
+close-requires : tie.Need-close-requires
+close-requires c κs = search needs
+
+sub-agrees : tie.Need-sub-agrees
+sub-agrees c = search needs
+
+part-agrees-start : tie.Need-part-agrees-start
+part-agrees-start c = search needs
+
+part-agrees-end : tie.Need-part-agrees-end
+part-agrees-end c = search needs
+
+agrees-requires : tie.Need-agrees-requires
+agrees-requires c κs = simp length-take (omega arith)
+
+returns-2 : tie.Need-returns-2
+returns-2 c = search needs
+
+report-sheet-requires : tie.Need-report-sheet-requires
+report-sheet-requires c κs = search needs
+
+returns-3 : tie.Need-returns-3
+returns-3 c = search needs
+
+pub sheet-differs-spec : {M : Type 1} → statement M
+sheet-differs-spec =
+    tie.close
+    (tie.spec
+    open-sheet-requires
+    slice-aggregate-report
+    report-requires
+    returns
+    slice-aggregate-read-full
+    read-full-requires
+    close-requires
+    sub-agrees
+    part-agrees-start
+    part-agrees-end
+    agrees-requires
+    returns-2
+    report-sheet-requires
+    returns-3)

@@ -1,0 +1,21 @@
+use borrow.Author.Needs.{needs}
+use Rattle.listing.specs.Sheet.{lineRoom, room}
+use Rattle.listing.proofs.room_for.Statement.{statement}
+use Rattle.listing.proofs.room_for.Tie as tie
+
+enum-told : tie.Need-enum-told
+enum-told c = search needs
+
+enum-told-2 : tie.Need-enum-told-2
+enum-told-2 c = search needs
+
+returns : tie.Need-returns
+unfolding room lineRoom
+returns c = rw (c .enum-told .given .1)
+
+returns-2 : tie.Need-returns-2
+unfolding room lineRoom
+returns-2 c = rw (c .enum-told2 .given .1)
+
+pub room-for-spec : {M : Type 1} → statement M
+room-for-spec = tie.close (tie.spec enum-told enum-told-2 returns returns-2)

@@ -1,0 +1,74 @@
+use borrow.Author.Needs.{needs}
+use native.Mathlib.Omega.{arith}
+use denote.Ref.{now}
+use Rattle.listing.specs.Sheet.{printedOn}
+use Rattle.listing.proofs.Puts.{front-fits, front-taken}
+use Rattle.listing.proofs.Handed.{put-at-once}
+use Rattle.listing.proofs.Days.{most-room}
+use Rattle.listing.proofs.sheet_into.Statement.{statement}
+use Rattle.listing.proofs.sheet_into.Tie as tie
+
+room-for-requires : tie.Need-room-for-requires
+room-for-requires c κs = search needs
+
+print-requires : tie.Need-print-requires
+print-requires c κs = search needs
+
+same-length : tie.Need-same-length
+same-length c = search needs
+
+returns : tie.Need-returns
+returns c =
+    let a = c .before .before .before .before .before .before .before .before .args in
+    let p = c .before .before .print in
+    put-at-once (now (a .buffer)) _ (printedOn (a .sheet) (now (a .file))) (p .result) (p .ensures) (p .kept .1 .1 .0)
+
+most-room-requires : tie.Need-most-room-requires
+most-room-requires c κs = search needs
+
+slice-aggregate-print : tie.Need-slice-aggregate-print
+slice-aggregate-print c = search needs
+
+print-requires-2 : tie.Need-print-requires-2
+print-requires-2 c κs = omega (arith, c .before .most-room .ensures, most-room (c .before .before .before .before .before .before .args .sheet))
+
+sub-hand-over : tie.Need-sub-hand-over
+sub-hand-over c = search needs
+
+part-hand-over-start : tie.Need-part-hand-over-start
+part-hand-over-start c = search needs
+
+part-hand-over-end : tie.Need-part-hand-over-end
+part-hand-over-end c =
+    let a = c .before .before .before .before .before .before .before .before .before .args in
+    let p = c .before .before .print2 in
+    front-fits (c .before .before .before .before .most-room .result) _ (printedOn (a .sheet) (now (a .file))) _ (p .ensures) (p .kept .1 .1 .0)
+
+hand-over-requires : tie.Need-hand-over-requires
+hand-over-requires c κs = search needs
+
+same-length-2 : tie.Need-same-length-2
+same-length-2 c = search needs
+
+returns-2 : tie.Need-returns-2
+returns-2 c =
+    let a = c .before .before .before .before .before .before .before .before .before .before .before .before .before .before .args in
+    rw (front-taken (c .before .before .before .before .before .before .before .before .before .most-room .result) _ (printedOn (a .sheet) (now (a .file))) _ (c .before .before .before .before .before .before .before .print2 .ensures)) at (c .before .before .hand-over .ensures)
+
+pub sheet-into-spec : {M : Type 1} → statement M
+sheet-into-spec =
+    tie.close
+    (tie.spec
+    room-for-requires
+    print-requires
+    same-length
+    returns
+    most-room-requires
+    slice-aggregate-print
+    print-requires-2
+    sub-hand-over
+    part-hand-over-start
+    part-hand-over-end
+    hand-over-requires
+    same-length-2
+    returns-2)
