@@ -30,8 +30,8 @@ reading-small file =
     first = firstMalformed (settingsOf (settingsIn file) .posts) (stepsIn file)
 
     go : (wrong : Bool) → lengthWrong (length file) ≡ wrong → (trailer settings malformed : Bool) → ltb first count ≡ malformed →
-        countOrIndex (cond wrong (Refused 1 0) (cond trailer (Refused 2 0) (cond settings (Refused 3 0) (cond malformed (Refused 4 first) (Day
-        count))))) ≤ mostSteps
+        countOrIndex (cond wrong (Refused 1 0) (cond trailer (Refused 2 0) (cond settings (Refused 3 0)
+        (cond malformed (Refused 4 first) (Day count))))) ≤ mostSteps
     go true e t s m h = omega arith
     go false e true s m h = omega arith
     go false e false true m h = omega arith

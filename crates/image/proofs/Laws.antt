@@ -22,9 +22,10 @@ use Rattle.section.proofs.Laws.{and-left}
 use Rattle.dayfile.specs.Layout.{pairBytes, settingsBytes}
 use Rattle.text.specs.Text.{digits, written}
 use Rattle.text.proofs.Laws.{Put, put-nothing, put-then, written-length}
-use Rattle.image.specs.Image.{trackA, trackB, numberLength, postLength, postsLength, numbersLength, headLength, trackLength, imageLength, settingsLength}
-use Rattle.image.specs.Image.{flag, postImage, postsImage, numbersImage, walkImage, trackHead, trackImage, imageOf, postRight, postsRight}
-use Rattle.image.specs.Image.{trackRight, imageRight}
+use Rattle.image.specs.Image.{trackA, trackB, numberLength, postLength, postsLength}
+use Rattle.image.specs.Image.{numbersLength, headLength, trackLength, imageLength, settingsLength}
+use Rattle.image.specs.Image.{flag, postImage, postsImage, numbersImage, walkImage, trackHead}
+use Rattle.image.specs.Image.{trackImage, imageOf, postRight, postsRight, trackRight, imageRight}
 
 -- ## Lengths
 

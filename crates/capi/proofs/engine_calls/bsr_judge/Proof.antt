@@ -1,3 +1,4 @@
+-- A right image is as long as what is written, so the whole of it is written back.
 use native.Mathlib.Omega.{arith}
 use denote.Ref.{now}
 use Rattle.section.proofs.Told.{told-false, told-true}
@@ -29,11 +30,8 @@ enum-known-verdict c = search needs
 
 put-image-requires : tie.Need-put-image-requires
 put-image-requires c κs =
-    omega (
-      arith,
-      right-length _ (told-true (c .before .before .before .before .before .before .before .before .before .image-right .ensures) (c
-          .before .before .before .before .before .before .before .before .if1 .left)),
-    )
+    let e = c .before .before .before .before .before .before .before .before in
+    omega (arith, right-length _ (told-true (e .before .image-right .ensures) (e .if1 .left)))
 
 said-number-requires : tie.Need-said-number-requires
 said-number-requires c κs = search needs
@@ -52,23 +50,27 @@ same-length-2 c = search needs
 
 returns-2 : tie.Need-returns-2
 returns-2 c =
-    let x = c .before .before .before .before .before .before .before .before .before .before .before .before .before .before .before .before .before .args in
-    let e = c .before .before .before .before .before .before .before .before .before .before .before .before in
-    accepted (now (x .bytes)) (now (x .step)) (told-true (e .before .image-right .ensures) (e .if1 .left)) (c .before .before .before .before .before
-    .before .before .before .before .before .section-of .ensures) (c .before .before .before .before .before .before .before .before .before
-    .judge .ensures)
-    (c .before .before .before .before .before .before .before .verdict .given .1) (c .said-number .ensures) (c .before .before .before .put-image .ensures)
+    let put = c .before .before .before in
+    let v = put .before .before .before .before in
+    let j = v .before .before in
+    let r = j .before in
+    let e = r .before .before in
+    let x = e .before .before .before .before .before .args in
+    accepted (now (x .bytes)) (now (x .step)) (told-true (e .before .image-right .ensures) (e .if1 .left)) (r .section-of .ensures)
+    (j .judge .ensures) (v .verdict .given .1) (c .said-number .ensures) (put .put-image .ensures)
 
 same-length-3 : tie.Need-same-length-3
 same-length-3 c = search needs
 
 returns-3 : tie.Need-returns-3
 returns-3 c =
-    let x = c .before .before .before .before .before .before .before .before .before .before .before .args in
-    let e = c .before .before .before .before .before .before in
-    refused (now (x .bytes)) (now (x .step)) (told-true (e .before .image-right .ensures) (e .if1 .left)) (c .before .before .before .before
-    .section-of .ensures) (c .before .before .before .judge .ensures)
-    (c .before .verdict2 .given .1)
+    let v = c .before in
+    let j = v .before .before in
+    let r = j .before in
+    let e = r .before .before in
+    let x = e .before .before .before .before .before .args in
+    refused (now (x .bytes)) (now (x .step)) (told-true (e .before .image-right .ensures) (e .if1 .left)) (r .section-of .ensures)
+    (j .judge .ensures) (v .verdict2 .given .1)
 
 pub bsr-judge-spec : {M : Type 1} → statement M
 bsr-judge-spec =

@@ -11,8 +11,8 @@ panel-requires c κs = search needs
 
 packed-requires : tie.Need-packed-requires
 packed-requires c κs =
-    listed-fits _ (now (c .before .before .before .before .before .before .args .buffer)) _ (c .before .before .panel .ensures .0) (c .before .before
-    .before .before .before .before .good .1 .0 .1)
+    let x = c .before .before .before .before .before .before in
+    listed-fits _ (now (x .args .buffer)) _ (c .before .before .panel .ensures .0) (x .good .1 .0 .1)
 
 same-length : tie.Need-same-length
 same-length c = search needs

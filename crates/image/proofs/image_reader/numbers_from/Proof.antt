@@ -46,14 +46,12 @@ unfolding numbersFrom
 loop-again c =
     let a = c .before .before .loop in
     let x = c .before .before .before .before .args in
-    let h : a .i ≤ 15 = a .inv .0 in (
-      omega arith,
-      (
-        length-set (a .numbers) (a .i) (c .number-at .result) ∙ a .inv .1 .0,
-        filled-more (λ (m : ℕ). numberAt (now (x .bytes)) (x .at + numberLength * m)) (numbersFrom (now (x .bytes)) (x .at)) (λ m. refl) (a .numbers)
-            (a .i) (c .number-at .result) (omega arith) (a .inv .1 .1) (c .number-at .ensures),
-      ),
-    )
+    let h : a .i ≤ 15 = a .inv .0 in
+    let bytes = now (x .bytes) in
+    let more =
+    filled-more (λ (m : ℕ). numberAt bytes (x .at + numberLength * m)) (numbersFrom bytes (x .at)) (λ m. refl)
+    (a .numbers) (a .i) (c .number-at .result) (omega arith) (a .inv .1 .1) (c .number-at .ensures) in
+    (omega arith, (length-set (a .numbers) (a .i) (c .number-at .result) ∙ a .inv .1 .0, more))
 
 returns : tie.Need-returns Inv-loop μ-loop
 returns c =

@@ -49,14 +49,12 @@ unfolding postsFrom
 loop-again c =
     let a = c .before .before .loop in
     let x = c .before .before .before .before .before .args in
-    let h : a .i ≤ 16 = a .inv .0 in (
-      omega arith,
-      (
-        length-set (a .posts) (a .i) (c .post-at .result) ∙ a .inv .1 .0,
-        filled-more (λ (m : ℕ). postAt (now (x .bytes)) (x .at + postLength * m)) (postsFrom (now (x .bytes)) (x .at)) (λ m. refl) (a .posts) (a .i)
-            (c .post-at .result) (omega arith) (a .inv .1 .1) (c .post-at .ensures),
-      ),
-    )
+    let h : a .i ≤ 16 = a .inv .0 in
+    let bytes = now (x .bytes) in
+    let more =
+    filled-more (λ (m : ℕ). postAt bytes (x .at + postLength * m)) (postsFrom bytes (x .at)) (λ m. refl)
+    (a .posts) (a .i) (c .post-at .result) (omega arith) (a .inv .1 .1) (c .post-at .ensures) in
+    (omega arith, (length-set (a .posts) (a .i) (c .post-at .result) ∙ a .inv .1 .0, more))
 
 returns : tie.Need-returns Inv-loop μ-loop
 returns c =

@@ -22,8 +22,8 @@ track-right-requires-2 c κs = search needs
 returns-3 : tie.Need-returns-3
 unfolding imageRight
 returns-3 c =
-    rw (eq-eqb _ _ (c .before .before .before .if1 .left), told-true (c .before .before .track-right .ensures) (c .before .if2 .left)) (c
-    .track-right2 .ensures)
+    let a = c .before .before in
+    rw (eq-eqb _ _ (a .before .if1 .left), told-true (a .track-right .ensures) (c .before .if2 .left)) (c .track-right2 .ensures)
 
 pub image-right-spec : {M : Type 1} → statement M
 image-right-spec =

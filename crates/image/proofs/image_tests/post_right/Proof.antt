@@ -40,13 +40,10 @@ shared-slice-read-if4 c = search needs
 returns-4 : tie.Need-returns-4
 unfolding postRight
 returns-4 c =
-    rw (
-      le-leb _ _ (c .before .before .before .before .before .before .if1 .left),
-      le-leb _ _ (c .before .before .before .before .if2 .left),
-      le-leb _
-          _ (c .before .before .if3 .left),
-      lt-leb _ _ (c .if4 .taken),
-    )
+    let three = c .before .before in
+    let two = three .before .before in
+    let one = two .before .before in
+    rw (le-leb _ _ (one .if1 .left), le-leb _ _ (two .if2 .left), le-leb _ _ (three .if3 .left), lt-leb _ _ (c .if4 .taken))
 
 add-result : tie.Need-add-result
 add-result c = search needs
@@ -57,13 +54,11 @@ shared-slice-read-result c = search needs
 returns-5 : tie.Need-returns-5
 unfolding postRight
 returns-5 c =
-    rw (
-      le-leb _ _ (c .before .before .before .before .before .before .before .if1 .left),
-      le-leb _ _ (c .before .before .before .before .before .if2
-          .left),
-      le-leb _ _ (c .before .before .before .if3 .left),
-      le-leb _ _ (c .before .if4 .left),
-    )
+    let four = c .before in
+    let three = four .before .before in
+    let two = three .before .before in
+    let one = two .before .before in
+    rw (le-leb _ _ (one .if1 .left), le-leb _ _ (two .if2 .left), le-leb _ _ (three .if3 .left), le-leb _ _ (four .if4 .left))
 
 pub post-right-spec : {M : Type 1} → statement M
 post-right-spec =

@@ -34,8 +34,8 @@ returns : tie.Need-returns Inv-loop μ-loop
 returns c =
     let a = c .before .before .before in
     let x = a .before .before .args in
-    sym (a .loop .inv .1 ∙ stops (now (x .bytes)) (x .at) (a .loop .i) (c .before .before .loop-test .taken) (told-false (c .before .post-right
-    .ensures) (c .if1 .taken)))
+    let fails = told-false (c .before .post-right .ensures) (c .if1 .taken) in
+    sym (a .loop .inv .1 ∙ stops (now (x .bytes)) (x .at) (a .loop .i) (c .before .before .loop-test .taken) fails)
 
 loop-less : tie.Need-loop-less Inv-loop μ-loop
 loop-less c = omega arith
@@ -43,11 +43,9 @@ loop-less c = omega arith
 loop-again : tie.Need-loop-again Inv-loop μ-loop
 loop-again c =
     let a = c .before .before .before in
-    let x = a .before .before .args in (
-      omega arith,
-      a .loop .inv .1 ∙ goes-on (now (x .bytes)) (x .at) (a .loop .i) (c .before .before .loop-test .taken) (told-true (c .before .post-right
-          .ensures) (c .if1 .left)),
-    )
+    let x = a .before .before .args in
+    let holds = told-true (c .before .post-right .ensures) (c .if1 .left) in
+    (omega arith, a .loop .inv .1 ∙ goes-on (now (x .bytes)) (x .at) (a .loop .i) (c .before .before .loop-test .taken) holds)
 
 returns-2 : tie.Need-returns-2 Inv-loop μ-loop
 unfolding postsRight

@@ -24,11 +24,13 @@ same-length c = search needs
 
 returns : tie.Need-returns
 returns c =
-    let x = c .before .before .before .before .before .before .before .before .before .before .before .before .before .before .before in
-    image-put (now (x .args .buffer)) (x .args .s) (x .pre) (c .before .before .before .before .before .before .before .before .before .before .before
-    .before .before .settings-bytes .ensures)
-    (c .before .before .before .before .before .before .before .before .before .before .put-text .ensures) (c .before .before .before .before .before
-    .before .put-track .ensures) (c .before .before .put-track2 .ensures)
+    let b = c .before .before in
+    let a = b .before .before .before .before in
+    let text = a .before .before .before .before in
+    let settings = text .before .before .before in
+    let x = settings .before .before in
+    image-put (now (x .args .buffer)) (x .args .s) (x .pre)
+    (settings .settings-bytes .ensures) (text .put-text .ensures) (a .put-track .ensures) (b .put-track2 .ensures)
 
 pub put-image-spec : {M : Type 1} → statement M
 put-image-spec =

@@ -35,10 +35,10 @@ slice-aggregate-put-text c = search needs
 
 put-text-requires : tie.Need-put-text-requires Inv-loop μ-loop
 put-text-requires c κs =
-    let a = c .before .before .before .before .before .loop in
     let p = c .before .before .post-bytes in
-    room-after (a .inv .1) (length (p .result))
-    (omega (arith, posts-length (a .i) (c .before .before .before .before .before .before .before .args .t3), ap length (p .ensures) ∙ post-length _))
+    let a = c .before .before .before .before .before in
+    room-after (a .loop .inv .1) (length (p .result))
+    (omega (arith, posts-length (a .loop .i) (a .before .before .args .t3), ap length (p .ensures) ∙ post-length _))
 
 add-i : tie.Need-add-i Inv-loop μ-loop
 add-i c = omega arith
@@ -48,18 +48,11 @@ loop-less c = omega arith
 
 loop-again : tie.Need-loop-again Inv-loop μ-loop
 loop-again c =
-    let a = c .before .before .before .before .before .before .before .before .loop in
-    let p = c .before .before .before .before .before .post-bytes in
-    let e = p .ensures in
-    let g = c .before .before .put-text .ensures in (
-      omega arith,
-      rw (posts-more (a .i) (c .before .before .before .before .before .before .before .before .before .before .args .t3), ← e) (put-next (a .inv .1)
-          (p .result) (omega (
-            arith,
-            posts-length (a .i) (c .before .before .before .before .before .before .before .before .before .before .args
-                .t3),
-          )) g),
-    )
+    let p = c .before .before .before .before .before in
+    let a = p .before .before .before in
+    let l = a .before .before .args .t3 in
+    let one-more = put-next (a .loop .inv .1) (p .post-bytes .result) (omega (arith, posts-length (a .loop .i) l)) (c .before .before .put-text .ensures) in
+    (omega arith, rw (posts-more (a .loop .i) l, ← p .post-bytes .ensures) one-more)
 
 same-length : tie.Need-same-length Inv-loop μ-loop
 same-length c = let a = c .before .loop in same-after (a .inv .1) (omega (arith, posts-length (a .i) (c .before .before .before .args .t3)))

@@ -27,14 +27,14 @@ same-length c = search needs
 
 returns : tie.Need-returns
 returns c =
-    let x =
-    c .before .before .before .before .before .before .before .before .before .before .before .before .before .before .before .before .before
-    .before .before .before .before .before in
-    track-put (now (x .args .buffer)) (x .args .at) (x .args .t) (x .pre) (c .before .before .before .before .before .before .before .before .before
-    .before .before .before .before .before .before .before .before .before .before .before .track-head .ensures)
-    (c .before .before .before .before .before .before .before .before .before .before .before .before .before .before .put-text .ensures) (c .before
-    .before .before .before .before .before .before .before .before .before .put-posts .ensures) (c .before .before .before .before .before
-    .before .put-numbers .ensures) (c .before .before .put-numbers2 .ensures)
+    let last = c .before .before in
+    let trains = last .before .before .before .before in
+    let posts = trains .before .before .before .before in
+    let text = posts .before .before .before .before in
+    let head = text .before .before .before .before .before .before in
+    let x = head .before .before in
+    track-put (now (x .args .buffer)) (x .args .at) (x .args .t) (x .pre)
+    (head .track-head .ensures) (text .put-text .ensures) (posts .put-posts .ensures) (trains .put-numbers .ensures) (last .put-numbers2 .ensures)
 
 pub put-track-spec : {M : Type 1} → statement M
 put-track-spec =

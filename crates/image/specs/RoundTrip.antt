@@ -1,0 +1,33 @@
+-- What is written is read back. The proof is in proofs/RoundTrip.antt.
+use Prim.Native.Nat.{ℕ, _<_}
+use mathlib.Core.Bool.{true}
+use mathlib.Core.Path.{_≡_}
+use lib.ListN.{length, getD}
+use Rattle.section.specs.declared.Section.{Section}
+use Rattle.section.specs.declared.Track.{Track}
+use Rattle.section.specs.Numbers.{mostPosts, mostBlocks}
+use Rattle.section.specs.Post.{blank}
+use Rattle.image.specs.Image.{imageRight, imageOf, sectionOf}
+
+-- a number of 16 bits
+abbrev pub Small : ℕ → Type 0
+Small x = x < 65536
+
+-- as many posts and cells as a track's arrays have, and numbers of their widths
+pub record TrackHeld (t : Track) : Type 0 where
+  pub posts-held : length (t .posts) ≡ mostPosts
+  pub trains-held : length (t .trains) ≡ mostBlocks
+  pub last-held : length (t .last) ≡ mostBlocks
+  pub seals-small : (p : ℕ) → Small (getD (t .posts) p blank .seals)
+  pub trains-small : (i : ℕ) → Small (getD (t .trains) i 0)
+  pub last-small : (i : ℕ) → Small (getD (t .last) i 0)
+
+pub record SectionHeld (s : Section) : Type 0 where
+  pub mask-small : Small (s .settings .mask)
+  pub line-small : Small (s .settings .line)
+  pub a-held : TrackHeld (s .a)
+  pub b-held : TrackHeld (s .b)
+
+-- the image of every section that the code can hold is right, and says that section
+abbrev pub ReadsBack : Type 0
+ReadsBack = (s : Section) → SectionHeld s → (imageRight (imageOf s) ≡ true) × (sectionOf (imageOf s) ≡ s)
