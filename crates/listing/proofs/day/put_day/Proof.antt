@@ -3,8 +3,9 @@ use native.Mathlib.Omega.{arith}
 use mathlib.Core.Path.{_∙_}
 use native.Mathlib.Nat.{zero-add}
 use denote.Ref.{now}
-use Rattle.listing.specs.Listing.{header, printed}
-use Rattle.listing.specs.Sheet.{room}
+use Rattle.section.specs.Fresh.{freshSection}
+use Rattle.listing.specs.Listing.{header, lines, printed}
+use Rattle.listing.specs.Sheet.{lineOn, room}
 use Rattle.listing.proofs.Puts.{then}
 use Rattle.listing.proofs.Days.{header-length}
 use Rattle.listing.proofs.day.put_day.Statement.{statement}
@@ -26,7 +27,9 @@ unfolding printed room
 returns c =
     let a = c .before .before .before .before .before .before .before .before .before .before .args in
     let p =
-    then (now (a .buffer)) _ _ 0 _ _ (header (a .c .posts) (a .count)) _ (omega (arith, header-length (a .c .posts) (a .count)))
+    then (now (a .buffer)) _ _ 0 _ _ (header (a .c .posts) (a .count))
+    (lines (lineOn (a .sheet)) (freshSection (a .c)) (now (a .steps)) (a .count))
+    (omega (arith, header-length (a .c .posts) (a .count)))
     (c .before .before .before .before .before .before .put-header .ensures) (c .before .before .put-lines .ensures) in
     (p .0 ∙ zero-add _, p .1)
 
