@@ -24,12 +24,15 @@ either false x y p q = q
 
 shown-small : (l : Lamps) → OneDigit (shown l)
 unfolding shown circulation troncon
-shown-small l =
-    (either (l .fault3) _ _ (omega arith)
-    (either (l .materialised && l .nextToSet) _ _ (either (l .cvt) _ _ (omega arith) (omega arith))
-    (either (l .cvt) _ _ (omega arith) (omega arith))),
-    (either (l .commands) _ _ (either (l .fault1 || l .occupied) _ _ (omega arith) (omega arith)) (omega arith),
-    either (l .permission) _ _ (omega arith) (omega arith)))
+shown-small l = (
+  either (l .fault3) _ _ (omega arith)
+      (either (l .materialised && l .nextToSet) _ _ (either (l .cvt) _ _ (omega arith) (omega arith))
+      (either (l .cvt) _ _ (omega arith) (omega arith))),
+  (
+    either (l .commands) _ _ (either (l .fault1 || l .occupied) _ _ (omega arith) (omega arith)) (omega arith),
+    either (l .permission) _ _ (omega arith) (omega arith),
+  ),
+)
 
 chosen : (b : Bool) (l : Lamps) → OneDigit (cond b (shown l) dark)
 unfolding dark

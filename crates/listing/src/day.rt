@@ -23,7 +23,14 @@ use section::STEP_LENGTH;
 use section::Settings;
 
 // Writes the line of a step, and returns the next place.
-fn put_line(sheet: Sheet, buffer: &mut [u8], at: usize, index: usize, bytes: &[u8], answer: Answer) -> usize
+fn put_line(
+    sheet: Sheet,
+    buffer: &mut [u8],
+    at: usize,
+    index: usize,
+    bytes: &[u8],
+    answer: Answer,
+) -> usize
     requires { ⌜ at + lineRoom sheet ≤ length (now buffer) ⌝ }
     requires { ⌜ (1 < length (now bytes)) × (answer .section .settings .posts ≤ mostPosts) ⌝ }
     ensures { λ r. ⌜ r ≡ at + length (lineOn sheet index (now (bytes .entry)) answer) ⌝ }
@@ -32,13 +39,27 @@ fn put_line(sheet: Sheet, buffer: &mut [u8], at: usize, index: usize, bytes: &[u
     let verdict = answer.verdict;
     let s = answer.section;
     match sheet {
-        Sheet::OfSteps => put_fields(buffer, at, index, verdict, track_letter(s.a), track_letter(s.b)),
+        Sheet::OfSteps => put_fields(
+            buffer,
+            at,
+            index,
+            verdict,
+            track_letter(s.a),
+            track_letter(s.b),
+        ),
         Sheet::OfPosts => put_panel(buffer, at, index, bytes[1], s),
     }
 }
 
 // Writes the lines of all steps, each judged on the section that the one before left, and returns the next place.
-fn put_lines(sheet: Sheet, buffer: &mut [u8], at: usize, c: Settings, steps: &[u8], count: usize) -> usize
+fn put_lines(
+    sheet: Sheet,
+    buffer: &mut [u8],
+    at: usize,
+    c: Settings,
+    steps: &[u8],
+    count: usize,
+) -> usize
     requires { ⌜ at + lineRoom sheet * count ≤ length (now buffer) ⌝ }
     requires { ⌜ (stepLength * count ≤ length (now steps)) × (settingsRight c ≡ true) ⌝ }
     ensures { λ r. ⌜ r ≡ at + length (lines (lineOn sheet) (freshSection c) (now (steps .entry)) count) ⌝ }
@@ -79,6 +100,12 @@ pub fn print(sheet: Sheet, file: &[u8], buffer: &mut [u8]) -> usize
     let reading = answer.reading;
     match reading {
         Reading::Refused(number, index) => put_refused(buffer, 0, number, index),
-        Reading::Day(count) => put_day(sheet, buffer, answer.settings, dayfile::steps(file, count), count),
+        Reading::Day(count) => put_day(
+            sheet,
+            buffer,
+            answer.settings,
+            dayfile::steps(file, count),
+            count,
+        ),
     }
 }

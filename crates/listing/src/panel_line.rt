@@ -21,7 +21,14 @@ fn put_lamps(buffer: &mut [u8], at: usize, l: Indications) -> usize
     text::put_text(
         buffer,
         at,
-        &[b' ', b'0' + l.circulation, b'/', b'0' + l.troncon, b'/', b'0' + l.permission],
+        &[
+            b' ',
+            b'0' + l.circulation,
+            b'/',
+            b'0' + l.troncon,
+            b'/',
+            b'0' + l.permission,
+        ],
     )
 }
 

@@ -99,12 +99,8 @@ fn letter(walk: Walk, cvt: bool) -> u8
     ensures { λ r. ⌜ r ≡ letter walk cvt ⌝ }
 {
     match walk {
-        Walk::Settled => {
-            if cvt { b'C' } else { b'V' }
-        }
-        Walk::Turn(_, _) => {
-            if cvt { b'v' } else { b'c' }
-        }
+        Walk::Settled => { if cvt { b'C' } else { b'V' } }
+        Walk::Turn(_, _) => { if cvt { b'v' } else { b'c' } }
     }
 }
 
@@ -117,7 +113,14 @@ pub fn track_letter(t: Track) -> u8
 }
 
 // Writes the line of a step, and returns the next place.
-pub fn put_fields(buffer: &mut [u8], at: usize, index: usize, verdict: Verdict, a: u8, b: u8) -> usize
+pub fn put_fields(
+    buffer: &mut [u8],
+    at: usize,
+    index: usize,
+    verdict: Verdict,
+    a: u8,
+    b: u8,
+) -> usize
     requires { ⌜ at + 21 ≤ length (now buffer) ⌝ }
     ensures { λ r. ⌜ r ≡ at + length (fields index verdict a b) ⌝ }
     ensures { λ _. ⌜ now (buffer .exit) ≡ written (now (buffer .entry)) at (fields index verdict a b) ⌝ }

@@ -30,9 +30,10 @@ put-day-requires c κs =
     let a = c .before .before .before .before .before .before .before .before .args in
     let read = c .before .before .before .before .before .read in
     let e = ap (λ (x : ReadAnswer). x .reading) (sym (read .ensures)) ∙ c .before .before .before .reading2 .given .1 in
-    let file = now (a .file) in
-    (omega (arith, fewer-fit (a .sheet) _ (few-steps-read file _ e)),
-    (rw (c .steps .ensures) (steps-whole file _ e), rw (read .ensures) (settings-read-right file _ e)))
+    let file = now (a .file) in (
+      omega (arith, fewer-fit (a .sheet) _ (few-steps-read file _ e)),
+      (rw (c .steps .ensures) (steps-whole file _ e), rw (read .ensures) (settings-read-right file _ e)),
+    )
 
 same-length : tie.Need-same-length
 same-length c = search needs

@@ -58,10 +58,13 @@ put-line-requires c κs =
     let e =
     answered (f .result) (now (a .steps)) (h .i) _ _ (c .before .judge .result) (h .inv .1 .1 .0)
     (step-part (now (a .steps)) (h .i)) (c .before .judge .ensures) in
-    let t = c .before .before .before .loop-test .taken in
-    (omega (arith, lines-length (a .sheet) (f .result) (now (a .steps)) r (h .i), line-fits (lineRoom (a .sheet)) (h .i) (a .count) t),
-    (rw (step-part (now (a .steps)) (h .i), step-length (now (a .steps)) (h .i) (a .count) t (c .before .before .before .before .before .before .before .before .pre .1 .0)) (omega arith),
-    rw e (few-posts-after (a .sheet) (f .result) (now (a .steps)) r (h .i))))
+    let t = c .before .before .before .loop-test .taken in (
+      omega (arith, lines-length (a .sheet) (f .result) (now (a .steps)) r (h .i), line-fits (lineRoom (a .sheet)) (h .i) (a .count) t),
+      (
+        rw (step-part (now (a .steps)) (h .i), step-length (now (a .steps)) (h .i) (a .count) t (c .before .before .before .before .before .before .before .before .pre .1 .0)) (omega arith),
+        rw e (few-posts-after (a .sheet) (f .result) (now (a .steps)) r (h .i)),
+      ),
+    )
 
 add-i : tie.Need-add-i Inv-loop μ-loop
 add-i c = omega arith
@@ -77,13 +80,19 @@ loop-again c =
     let j = c .before .before .before .before .before .judge in
     let r = started (f .result) (a .c) (f .ensures) (c .before .before .before .before .before .before .before .before .before .before .before .before .pre .1 .1) in
     let part = step-part (now (a .steps)) (h .i) in
-    let e = answered (f .result) (now (a .steps)) (h .i) _ _ (j .result) (h .inv .1 .1 .0) part (j .ensures) in
-    (omega (arith, c .before .before .before .before .before .before .before .loop-test .taken), (omega (arith, h .inv .1 .0, c .before .before .before .put-line .kept),
-    (ap (λ (x : Answer). x .section) e ∙ step-after (f .result) (now (a .steps)) (h .i),
-    one-more-put (lineAt (a .sheet) (f .result) (now (a .steps))) (now (a .buffer)) _ _ (a .at) (h .i) _ _
-    (omega (arith, c .before .before .before .before .before .before .before .before .before .before .before .before .pre .0, lines-length (a .sheet) (f .result) (now (a .steps)) r (h .i), line-fits (lineRoom (a .sheet)) (h .i) (a .count) (c .before .before .before .before .before .before .before .loop-test .taken)))
-    (h .inv .1 .1 .1)
-    (line-put (a .sheet) (f .result) (now (a .steps)) (h .i) _ (j .result) _ _ _ _ part e (c .before .before .before .put-line .ensures)))))
+    let e = answered (f .result) (now (a .steps)) (h .i) _ _ (j .result) (h .inv .1 .1 .0) part (j .ensures) in (
+      omega (arith, c .before .before .before .before .before .before .before .loop-test .taken),
+      (
+        omega (arith, h .inv .1 .0, c .before .before .before .put-line .kept),
+        (
+          ap (λ (x : Answer). x .section) e ∙ step-after (f .result) (now (a .steps)) (h .i),
+          one-more-put (lineAt (a .sheet) (f .result) (now (a .steps))) (now (a .buffer)) _ _ (a .at) (h .i) _ _
+              (omega (arith, c .before .before .before .before .before .before .before .before .before .before .before .before .pre .0, lines-length (a .sheet) (f .result) (now (a .steps)) r (h .i), line-fits (lineRoom (a .sheet)) (h .i) (a .count) (c .before .before .before .before .before .before .before .loop-test .taken)))
+              (h .inv .1 .1 .1)
+              (line-put (a .sheet) (f .result) (now (a .steps)) (h .i) _ (j .result) _ _ _ _ part e (c .before .before .before .put-line .ensures)),
+        ),
+      ),
+    )
 
 same-length : tie.Need-same-length Inv-loop μ-loop
 same-length c = search needs

@@ -40,10 +40,14 @@ loop-again : tie.Need-loop-again Inv-loop μ-loop
 loop-again c =
     let a = c .before .before .before .before .before .before .before .before .args in
     let h = c .before .before .before .before .before .before .loop in
-    let put = rw (c .before .before .before .indications .ensures) at (c .before .before .put-lamps .ensures) in
-    (omega arith, (omega arith,
-    one-more-put (lampsAtPost (a .s) (a .track)) (now (a .buffer)) _ _ (a .at) (h .p) _ _ (omega (arith, six-each (a .s) (a .track) (h .p)))
-    (h .inv .1 .1) put))
+    let put = rw (c .before .before .before .indications .ensures) at (c .before .before .put-lamps .ensures) in (
+      omega arith,
+      (
+        omega arith,
+        one-more-put (lampsAtPost (a .s) (a .track)) (now (a .buffer)) _ _ (a .at) (h .p) _ _ (omega (arith, six-each (a .s) (a .track) (h .p)))
+            (h .inv .1 .1) put,
+      ),
+    )
 
 same-length : tie.Need-same-length Inv-loop μ-loop
 same-length c = search needs
