@@ -60,7 +60,8 @@ returns-2 c =
     let at-most-room = at-print2 .before .before in
     let entry = at-most-room .before .before .before .before .before in
     let a = entry .args in
-    rw (front-taken (at-most-room .most-room .result) _ (printedOn (a .sheet) (now (a .file))) _ (at-print2 .print2 .ensures)) at (at-hand-over .hand-over .ensures)
+    rw (front-taken (at-most-room .most-room .result) _ (printedOn (a .sheet) (now (a .file))) _ (at-print2 .print2 .ensures))
+    at (at-hand-over .hand-over .ensures)
 
 pub sheet-into-spec : {M : Type 1} → statement M
 sheet-into-spec =

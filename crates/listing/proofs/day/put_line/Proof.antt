@@ -47,7 +47,8 @@ returns c =
     let at-track-letter2 = at-put-fields .before in
     let at-track-letter = at-track-letter2 .before in
     let at-enum-told = at-track-letter .before .before in
-    rw (at-enum-told .enum-told .given .1, ← at-track-letter .track-letter .ensures, ← at-track-letter2 .track-letter2 .ensures) (at-put-fields .put-fields .ensures)
+    rw (at-enum-told .enum-told .given .1, ← at-track-letter .track-letter .ensures, ← at-track-letter2 .track-letter2 .ensures)
+    (at-put-fields .put-fields .ensures)
 
 same-length-2 : tie.Need-same-length-2
 same-length-2 c = search needs

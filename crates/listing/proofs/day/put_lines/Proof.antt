@@ -7,9 +7,8 @@ use lib.ListN.{length}
 use Rattle.section.specs.declared.Answer.{Answer}
 use Rattle.listing.specs.Text.{inTurn}
 use Rattle.listing.specs.Listing.{lines, sectionBefore}
-use Rattle.listing.specs.Sheet.{lineRoom}
 use Rattle.listing.proofs.Puts.{Putting, none-put, one-more-put}
-use Rattle.listing.proofs.Days.{lineAt, line-fits, few-posts-after, lines-length, answered, line-put, step-part, step-length, step-after, started}
+use Rattle.listing.proofs.Days.{lineAt, few-posts-after, one-more-fits, answered, line-put, step-part, step-length, step-after, started}
 use Rattle.listing.proofs.day.put_lines.Statement.{statement}
 use Rattle.listing.proofs.day.put_lines.Tie as tie
 
@@ -63,8 +62,9 @@ put-line-requires c κs =
     let e =
     answered (f .result) (now (a .steps)) (h .i) _ _ (at-judge .judge .result) (h .inv .1 .1 .0)
     (step-part (now (a .steps)) (h .i)) (at-judge .judge .ensures) in
-    let t = at-loop-test .loop-test .taken in (
-      omega (arith, lines-length (a .sheet) (f .result) (now (a .steps)) r (h .i), line-fits (lineRoom (a .sheet)) (h .i) (a .count) t),
+    let t = at-loop-test .loop-test .taken in
+    let fits = one-more-fits (a .sheet) (f .result) (now (a .steps)) r (h .i) (a .count) (a .at) _ t (entry .pre .0) in (
+      omega (arith, fits),
       (
         rw (step-part (now (a .steps)) (h .i), step-length (now (a .steps)) (h .i) (a .count) t (entry .pre .1 .0)) (omega arith),
         rw e (few-posts-after (a .sheet) (f .result) (now (a .steps)) r (h .i)),
@@ -91,14 +91,16 @@ loop-again c =
     let j = at-judge .judge in
     let r = started (f .result) (a .c) (f .ensures) (entry .pre .1 .1) in
     let part = step-part (now (a .steps)) (h .i) in
-    let e = answered (f .result) (now (a .steps)) (h .i) _ _ (j .result) (h .inv .1 .1 .0) part (j .ensures) in (
-      omega (arith, at-loop-test .loop-test .taken),
+    let e = answered (f .result) (now (a .steps)) (h .i) _ _ (j .result) (h .inv .1 .1 .0) part (j .ensures) in
+    let t = at-loop-test .loop-test .taken in
+    let fits = one-more-fits (a .sheet) (f .result) (now (a .steps)) r (h .i) (a .count) (a .at) _ t (entry .pre .0) in (
+      omega (arith, t),
       (
         omega (arith, h .inv .1 .0, at-put-line .put-line .kept),
         (
           ap (λ (x : Answer). x .section) e ∙ step-after (f .result) (now (a .steps)) (h .i),
           one-more-put (lineAt (a .sheet) (f .result) (now (a .steps))) (now (a .buffer)) _ _ (a .at) (h .i) _ _
-              (omega (arith, entry .pre .0, lines-length (a .sheet) (f .result) (now (a .steps)) r (h .i), line-fits (lineRoom (a .sheet)) (h .i) (a .count) (at-loop-test .loop-test .taken)))
+              (omega (arith, fits))
               (h .inv .1 .1 .1)
               (line-put (a .sheet) (f .result) (now (a .steps)) (h .i) _ (j .result) _ _ _ _ part e (at-put-line .put-line .ensures)),
         ),
