@@ -47,8 +47,8 @@ pub few-posts : (s : Section) → inRange s ≡ true → s .settings .posts ≤ 
 unfolding inRange settingsRight within
 few-posts s e =
     let n = s .settings .posts in
-    leb-true n mostPosts (and-right (leb leastPosts n) (leb n mostPosts) (and-left (leb leastPosts n && leb n mostPosts) _ (and-left (settingsRight (s
-    .settings)) _ e)))
+    let within-limits = and-left (leb leastPosts n && leb n mostPosts) _ (and-left (settingsRight (s .settings)) _ e) in
+    leb-true n mostPosts (and-right (leb leastPosts n) (leb n mostPosts) within-limits)
 
 -- ## How long a line is
 
@@ -57,7 +57,9 @@ unfolding stepLine fields
 step-line-length index answer =
     simp length-append (omega (arith, decimal-length index, verdict-length (answer .verdict)))
 
-panel-line-length : (index : ℕ) (bytes : List ℕ) (answer : Answer) → answer .section .settings .posts ≤ mostPosts → length (panelLine index bytes answer) ≤ 104
+panel-line-length :
+    (index : ℕ) (bytes : List ℕ) (answer : Answer) → answer .section .settings .posts ≤ mostPosts
+    → length (panelLine index bytes answer) ≤ 104
 unfolding panelLine panelFields
 panel-line-length index bytes answer h =
     simp length-append (omega (arith, decimal-length index, lamps-length (answer .section) (byte bytes 1)))
@@ -73,10 +75,7 @@ pub header-length : (n count : ℕ) → length (header n count) ≤ 24
 unfolding header
 header-length n count = simp length-append (omega (arith, decimal-length n, decimal-length count))
 
--- one line more has room, and fewer steps need no more
-pub line-fits : (w i count : ℕ) → i < count → w * i + w ≤ w * count
-line-fits w i count h = rw (mul-suc w i) at (mul-le-mul-left w h)
-
+-- fewer steps need no more room
 pub fewer-fit : (sheet : Sheet) (count : ℕ) → count ≤ mostSteps → room sheet count ≤ room sheet mostSteps
 unfolding room
 fewer-fit sheet count h = omega (arith, mul-le-mul-left (lineRoom sheet) h)
@@ -107,6 +106,13 @@ module _ (sheet : Sheet) (first : Section) (steps : List ℕ) (r : inRange first
   lines-length m =
       in-turn-length (lineAt sheet first steps) (lineRoom sheet) m
       (λ i. line-length sheet i (stepAt steps i) (answerTo first steps i) (few-posts-after i))
+
+  -- a buffer with room for all lines has room for one more
+  pub one-more-fits :
+      (i count at room : ℕ) → i < count → at + lineRoom sheet * count ≤ room
+      → at + length (inTurn (lineAt sheet first steps) i) + lineRoom sheet ≤ room
+  one-more-fits i count at room h all =
+      omega (arith, lines-length i, rw (mul-suc (lineRoom sheet) i) at (mul-le-mul-left (lineRoom sheet) h))
 
 -- the code judges on the same section and the same bytes
 pub answered :

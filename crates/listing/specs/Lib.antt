@@ -2,3 +2,4 @@ pub mod Text
 pub mod Listing
 pub mod Panel
 pub mod Sheet
+pub mod Worked

@@ -19,16 +19,22 @@ enum-known-n c = search needs
 
 array-share-prefix-text : tie.Need-array-share-prefix-text
 array-share-prefix-text c =
-    let r = c .before .before .before .before .listing in
-    bytes-counted (listing (now (c .before .before .before .before .before .before .before .before .args .file))) (c .before .before .before .before
-    .before .before .listing-room .result) (r .last .1 .0) _ _ (r .ensures .0) (c .before .n .given .1)
+    let at-n = c .before in
+    let at-listing = at-n .before .before .before in
+    let at-listing-room = at-listing .before .before in
+    let entry = at-listing-room .before .before in
+    let r = at-listing .listing in
+    bytes-counted (listing (now (entry .args .file))) (at-listing-room .listing-room .result) (r .last .1 .0) _ _ (r .ensures .0) (at-n .n .given .1)
     (r .kept .1 .0) .0
 
 slice-aggregate-write-all : tie.Need-slice-aggregate-write-all
 slice-aggregate-write-all c =
-    let r = c .before .before .before .before .before .listing in
-    bytes-counted (listing (now (c .before .before .before .before .before .before .before .before .before .args .file))) (c .before .before .before
-    .before .before .before .before .listing-room .result) (r .last .1 .0) _ _ (r .ensures .0) (c .before .before .n .given .1)
+    let at-n = c .before .before in
+    let at-listing = at-n .before .before .before in
+    let at-listing-room = at-listing .before .before in
+    let entry = at-listing-room .before .before in
+    let r = at-listing .listing in
+    bytes-counted (listing (now (entry .args .file))) (at-listing-room .listing-room .result) (r .last .1 .0) _ _ (r .ensures .0) (at-n .n .given .1)
     (r .kept .1 .0) .1
 
 write-all-requires : tie.Need-write-all-requires

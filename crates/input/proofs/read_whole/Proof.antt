@@ -43,21 +43,25 @@ returns c = search needs
 
 add-done : tie.Need-add-done Inv-loop μ-loop
 add-done c =
-    let h = c .before .before .before .before .before .before .before .before .before .loop in
-    let got = rw (c .before .before .more .given .1) at (c .before .before .before .before .before .before .read-once .ensures) in
-    omega (arith, got .0, part-length (h .done) (h .buffer), c .before .before .before .before .before .before .read-once .kept .0)
+    let at-more = c .before .before in
+    let at-read-once = at-more .before .before .before .before in
+    let at-loop = at-read-once .before .before .before in
+    let h = at-loop .loop in
+    let got = rw (at-more .more .given .1) at (at-read-once .read-once .ensures) in
+    omega (arith, got .0, part-length (h .done) (h .buffer), at-read-once .read-once .kept .0)
 
 loop-less : tie.Need-loop-less Inv-loop μ-loop
 loop-less c = search needs
 
 loop-again : tie.Need-loop-again Inv-loop μ-loop
 loop-again c =
-    let h = c .before .before .before .before .before .before .before .before .before .loop in
-    let got = rw (c .before .before .more .given .1) at (c .before .before .before .before .before .before .read-once .ensures) in
-    let e =
-    same-len-mid (h .done) (length (h .buffer) - h .done) (h .buffer) (c .before .before .before .before .before .before .read-once .last .0) (c
-    .before .before .before .before .before .before .read-once .kept .0) in
-    (omega (arith, h .inv .0), omega (arith, got .0, part-length (h .done) (h .buffer), c .before .before .before .before .before .before .read-once .kept .0))
+    let at-more = c .before .before in
+    let at-read-once = at-more .before .before .before .before in
+    let at-loop = at-read-once .before .before .before in
+    let h = at-loop .loop in
+    let got = rw (at-more .more .given .1) at (at-read-once .read-once .ensures) in
+    let e = same-len-mid (h .done) (length (h .buffer) - h .done) (h .buffer) (at-read-once .read-once .last .0) (at-read-once .read-once .kept .0) in
+    (omega (arith, h .inv .0), omega (arith, got .0, part-length (h .done) (h .buffer), at-read-once .read-once .kept .0))
 
 same-length-2 : tie.Need-same-length-2 Inv-loop μ-loop
 same-length-2 c = search needs
@@ -70,10 +74,10 @@ same-length-3 c = search needs
 
 returns-3 : tie.Need-returns-3 Inv-loop μ-loop
 returns-3 c =
-    let h = c .before .before .before .before .before .before .before .before .before .loop in
-    let e =
-    same-len-mid (h .done) (length (h .buffer) - h .done) (h .buffer) (c .before .before .before .before .before .before .read-once .last .0) (c
-    .before .before .before .before .before .before .read-once .kept .0) in
+    let at-read-once = c .before .before .before .before .before .before in
+    let at-loop = at-read-once .before .before .before in
+    let h = at-loop .loop in
+    let e = same-len-mid (h .done) (length (h .buffer) - h .done) (h .buffer) (at-read-once .read-once .last .0) (at-read-once .read-once .kept .0) in
     counted _ _ (omega arith)
 
 pub read-whole-spec : {M : Type 1} → statement M

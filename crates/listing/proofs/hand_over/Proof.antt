@@ -20,8 +20,11 @@ same-length c = search needs
 returns-2 : tie.Need-returns-2
 unfolding listed handedOver
 returns-2 c =
-    let a = c .before .before .before .before .before .before .before .args in
-    rw (le-leb _ _ (c .before .before .before .before .if1 .left)) (refl, c .before .before .put-text .ensures .1 ∙ at-front (now (a .buffer)) (now (a .text)))
+    let at-put-text = c .before .before in
+    let at-if1 = at-put-text .before .before in
+    let entry = at-if1 .before .before .before in
+    let a = entry .args in
+    rw (le-leb _ _ (at-if1 .if1 .left)) (refl, at-put-text .put-text .ensures .1 ∙ at-front (now (a .buffer)) (now (a .text)))
 
 pub hand-over-spec : {M : Type 1} → statement M
 hand-over-spec = tie.close (tie.spec returns put-text-requires same-length returns-2)

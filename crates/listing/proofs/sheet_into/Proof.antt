@@ -40,9 +40,12 @@ part-hand-over-start c = search needs
 
 part-hand-over-end : tie.Need-part-hand-over-end
 part-hand-over-end c =
-    let a = c .before .before .before .before .before .before .before .before .before .args in
-    let p = c .before .before .print2 in
-    front-fits (c .before .before .before .before .most-room .result) _ (printedOn (a .sheet) (now (a .file))) _ (p .ensures) (p .kept .1 .1 .0)
+    let at-print2 = c .before .before in
+    let at-most-room = at-print2 .before .before in
+    let entry = at-most-room .before .before .before .before .before in
+    let a = entry .args in
+    let p = at-print2 .print2 in
+    front-fits (at-most-room .most-room .result) _ (printedOn (a .sheet) (now (a .file))) _ (p .ensures) (p .kept .1 .1 .0)
 
 hand-over-requires : tie.Need-hand-over-requires
 hand-over-requires c κs = search needs
@@ -52,9 +55,13 @@ same-length-2 c = search needs
 
 returns-2 : tie.Need-returns-2
 returns-2 c =
-    let a = c .before .before .before .before .before .before .before .before .before .before .before .before .before .before .args in
-    rw (front-taken (c .before .before .before .before .before .before .before .before .before .most-room .result) _ (printedOn (a .sheet) (now (a
-    .file))) _ (c .before .before .before .before .before .before .before .print2 .ensures)) at (c .before .before .hand-over .ensures)
+    let at-hand-over = c .before .before in
+    let at-print2 = at-hand-over .before .before .before .before .before in
+    let at-most-room = at-print2 .before .before in
+    let entry = at-most-room .before .before .before .before .before in
+    let a = entry .args in
+    rw (front-taken (at-most-room .most-room .result) _ (printedOn (a .sheet) (now (a .file))) _ (at-print2 .print2 .ensures))
+    at (at-hand-over .hand-over .ensures)
 
 pub sheet-into-spec : {M : Type 1} → statement M
 sheet-into-spec =

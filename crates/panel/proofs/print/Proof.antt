@@ -19,16 +19,22 @@ enum-known-n c = search needs
 
 array-share-prefix-text : tie.Need-array-share-prefix-text
 array-share-prefix-text c =
-    let r = c .before .before .before .before .panel in
-    bytes-counted (panel (now (c .before .before .before .before .before .before .before .before .args .file))) (c .before .before .before .before
-    .before .before .panel-room .result) (r .last .1 .0) _ _ (r .ensures .0) (c .before .n .given .1)
+    let at-n = c .before in
+    let at-panel = at-n .before .before .before in
+    let at-panel-room = at-panel .before .before in
+    let entry = at-panel-room .before .before in
+    let r = at-panel .panel in
+    bytes-counted (panel (now (entry .args .file))) (at-panel-room .panel-room .result) (r .last .1 .0) _ _ (r .ensures .0) (at-n .n .given .1)
     (r .kept .1 .0) .0
 
 slice-aggregate-write-all : tie.Need-slice-aggregate-write-all
 slice-aggregate-write-all c =
-    let r = c .before .before .before .before .before .panel in
-    bytes-counted (panel (now (c .before .before .before .before .before .before .before .before .before .args .file))) (c .before .before .before
-    .before .before .before .before .panel-room .result) (r .last .1 .0) _ _ (r .ensures .0) (c .before .before .n .given .1)
+    let at-n = c .before .before in
+    let at-panel = at-n .before .before .before in
+    let at-panel-room = at-panel .before .before in
+    let entry = at-panel-room .before .before in
+    let r = at-panel .panel in
+    bytes-counted (panel (now (entry .args .file))) (at-panel-room .panel-room .result) (r .last .1 .0) _ _ (r .ensures .0) (at-n .n .given .1)
     (r .kept .1 .0) .1
 
 write-all-requires : tie.Need-write-all-requires

@@ -4,9 +4,6 @@ use Rattle.text.proofs.Laws.{part-copied}
 use borrow.Author.Needs.{needs}
 use Rattle.text.proofs.put_text.Statement.{statement}
 use Rattle.text.proofs.put_text.Tie as tie
-use Rattle.text.proofs.put_text.Reads as reads
-use Rattle.text.proofs.put_text.Lts as lts
-use Rattle.bytes.proofs.copy.Reads as copy-reads
 
 add-end : tie.Need-add-end
 add-end c = search needs
@@ -27,11 +24,11 @@ same-length : tie.Need-same-length
 same-length c = search needs
 
 returns : tie.Need-returns
-returns c = let a = c .before .before .before .before .before .before .args in (
-  refl,
-  part-copied (now (a .buffer)) (now (a .text)) _ (a .at) (c .before .before .before .before .before .before .pre) (c .before .before .copy
-      .ensures .1),
-)
+returns c =
+    let at-copy = c .before .before in
+    let entry = at-copy .before .before .before .before in
+    let a = entry .args in
+    (refl, part-copied (now (a .buffer)) (now (a .text)) _ (a .at) (entry .pre) (at-copy .copy .ensures .1))
 
 pub put-text-spec : {M : Type 1} → statement M
 put-text-spec =

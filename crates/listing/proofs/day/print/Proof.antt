@@ -27,9 +27,12 @@ steps-requires c κs = search needs
 
 put-day-requires : tie.Need-put-day-requires
 put-day-requires c κs =
-    let a = c .before .before .before .before .before .before .before .before .args in
-    let read = c .before .before .before .before .before .read in
-    let e = ap (λ (x : ReadAnswer). x .reading) (sym (read .ensures)) ∙ c .before .before .before .reading2 .given .1 in
+    let at-reading2 = c .before .before .before in
+    let at-read = at-reading2 .before .before in
+    let entry = at-read .before .before .before in
+    let a = entry .args in
+    let read = at-read .read in
+    let e = ap (λ (x : ReadAnswer). x .reading) (sym (read .ensures)) ∙ at-reading2 .reading2 .given .1 in
     let file = now (a .file) in (
       omega (arith, fewer-fit (a .sheet) _ (few-steps-read file _ e)),
       (rw (c .steps .ensures) (steps-whole file _ e), rw (read .ensures) (settings-read-right file _ e)),
@@ -40,11 +43,13 @@ same-length c = search needs
 
 returns : tie.Need-returns
 returns c =
-    let a = c .before .before .before .before .before .before .before .before .before .before .args in
-    let put = c .before .before .put-refused in
-    let e =
-    ap (λ (x : ReadAnswer). x .reading) (sym (c .before .before .before .before .before .before .before .read .ensures)) ∙ c .before .before
-    .before .before .before .reading .given .1 in
+    let at-put-refused = c .before .before in
+    let at-reading = at-put-refused .before .before .before in
+    let at-read = at-reading .before .before in
+    let entry = at-read .before .before .before in
+    let a = entry .args in
+    let put = at-put-refused .put-refused in
+    let e = ap (λ (x : ReadAnswer). x .reading) (sym (at-read .read .ensures)) ∙ at-reading .reading .given .1 in
     same-text (now (a .buffer)) _ _ _ _ (printed-refused (a .sheet) (now (a .file)) _ _ e) (put .ensures .0 ∙ zero-add _, put .ensures .1)
 
 same-length-2 : tie.Need-same-length-2
@@ -52,12 +57,17 @@ same-length-2 c = search needs
 
 returns-2 : tie.Need-returns-2
 returns-2 c =
-    let a = c .before .before .before .before .before .before .before .before .before .before .before .args in
-    let read = c .before .before .before .before .before .before .before .before .read in
-    let e = ap (λ (x : ReadAnswer). x .reading) (sym (read .ensures)) ∙ c .before .before .before .before .before .before .reading2 .given .1 in
+    let at-put-day = c .before .before in
+    let at-steps = at-put-day .before in
+    let at-reading2 = at-steps .before .before .before in
+    let at-read = at-reading2 .before .before in
+    let entry = at-read .before .before .before in
+    let a = entry .args in
+    let read = at-read .read in
+    let e = ap (λ (x : ReadAnswer). x .reading) (sym (read .ensures)) ∙ at-reading2 .reading2 .given .1 in
     same-text (now (a .buffer)) _ _ _ _
-    (printed-day (a .sheet) (now (a .file)) _ _ _ e (ap (λ (x : ReadAnswer). x .settings) (read .ensures)) (c .before .before .before .steps .ensures))
-    (c .before .before .put-day .ensures)
+    (printed-day (a .sheet) (now (a .file)) _ _ _ e (ap (λ (x : ReadAnswer). x .settings) (read .ensures)) (at-steps .steps .ensures))
+    (at-put-day .put-day .ensures)
 
 pub print-spec : {M : Type 1} → statement M
 print-spec =

@@ -3,8 +3,9 @@ use native.Mathlib.Omega.{arith}
 use mathlib.Core.Path.{_∙_}
 use native.Mathlib.Nat.{zero-add}
 use denote.Ref.{now}
-use Rattle.listing.specs.Listing.{header, printed}
-use Rattle.listing.specs.Sheet.{room}
+use Rattle.section.specs.Fresh.{freshSection}
+use Rattle.listing.specs.Listing.{header, lines, printed}
+use Rattle.listing.specs.Sheet.{lineOn, room}
 use Rattle.listing.proofs.Puts.{then}
 use Rattle.listing.proofs.Days.{header-length}
 use Rattle.listing.proofs.day.put_day.Statement.{statement}
@@ -17,8 +18,8 @@ put-header-requires c κs = omega arith
 put-lines-requires : tie.Need-put-lines-requires
 unfolding room
 put-lines-requires c κs =
-    let a = c .before .before .before .before .before .before .before .args in
-    (omega (arith, header-length (a .c .posts) (a .count)), c .before .before .before .before .before .before .before .pre .1)
+    let entry = c .before .before .before .before .before .before .before in
+    let a = entry .args in (omega (arith, header-length (a .c .posts) (a .count)), entry .pre .1)
 
 same-length : tie.Need-same-length
 same-length c = search needs
@@ -26,10 +27,15 @@ same-length c = search needs
 returns : tie.Need-returns
 unfolding printed room
 returns c =
-    let a = c .before .before .before .before .before .before .before .before .before .before .args in
+    let at-put-lines = c .before .before in
+    let at-put-header = at-put-lines .before .before .before .before in
+    let entry = at-put-header .before .before .before .before in
+    let a = entry .args in
     let p =
-    then (now (a .buffer)) _ _ 0 _ _ (header (a .c .posts) (a .count)) _ (omega (arith, header-length (a .c .posts) (a .count)))
-    (c .before .before .before .before .before .before .put-header .ensures) (c .before .before .put-lines .ensures) in
+    then (now (a .buffer)) _ _ 0 _ _ (header (a .c .posts) (a .count))
+    (lines (lineOn (a .sheet)) (freshSection (a .c)) (now (a .steps)) (a .count))
+    (omega (arith, header-length (a .c .posts) (a .count)))
+    (at-put-header .put-header .ensures) (at-put-lines .put-lines .ensures) in
     (p .0 ∙ zero-add _, p .1)
 
 pub put-day-spec : {M : Type 1} → statement M

@@ -20,8 +20,9 @@ track-letter-requires-2 c κs = search needs
 put-fields-requires : tie.Need-put-fields-requires
 unfolding lineRoom
 put-fields-requires c κs =
-    let a = c .before .before .before .before .before .before .before .before .args in
-    omega (arith, rw (c .before .before .before .enum-told .given .1) at (c .before .before .before .before .before .before .before .before .pre .0))
+    let at-enum-told = c .before .before .before in
+    let entry = at-enum-told .before .before .before .before .before in
+    let a = entry .args in omega (arith, rw (at-enum-told .enum-told .given .1) at (entry .pre .0))
 
 enum-told-2 : tie.Need-enum-told-2
 enum-told-2 c = search needs
@@ -31,11 +32,10 @@ shared-slice-read-put-panel c = search needs
 
 put-panel-requires : tie.Need-put-panel-requires
 unfolding lineRoom
-put-panel-requires c κs = (
-  omega (arith, rw (c .before .before .enum-told2 .given .1) at (c .before .before .before .before .before .before .before .pre .0)),
-  c .before
-      .before .before .before .before .before .before .pre .1 .1,
-)
+put-panel-requires c κs =
+    let at-enum-told2 = c .before .before in
+    let entry = at-enum-told2 .before .before .before .before .before in
+    (omega (arith, rw (at-enum-told2 .enum-told2 .given .1) at (entry .pre .0)), entry .pre .1 .1)
 
 same-length : tie.Need-same-length
 same-length c = search needs
@@ -43,12 +43,12 @@ same-length c = search needs
 returns : tie.Need-returns
 unfolding lineOn stepLine
 returns c =
-    rw (
-      c .before .before .before .before .before .before .enum-told .given .1,
-      ← c .before .before .before .before .track-letter .ensures,
-      ← c
-          .before .before .before .track-letter2 .ensures,
-    ) (c .before .before .put-fields .ensures)
+    let at-put-fields = c .before .before in
+    let at-track-letter2 = at-put-fields .before in
+    let at-track-letter = at-track-letter2 .before in
+    let at-enum-told = at-track-letter .before .before in
+    rw (at-enum-told .enum-told .given .1, ← at-track-letter .track-letter .ensures, ← at-track-letter2 .track-letter2 .ensures)
+    (at-put-fields .put-fields .ensures)
 
 same-length-2 : tie.Need-same-length-2
 same-length-2 c = search needs

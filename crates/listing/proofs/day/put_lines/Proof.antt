@@ -7,9 +7,8 @@ use lib.ListN.{length}
 use Rattle.section.specs.declared.Answer.{Answer}
 use Rattle.listing.specs.Text.{inTurn}
 use Rattle.listing.specs.Listing.{lines, sectionBefore}
-use Rattle.listing.specs.Sheet.{lineRoom}
 use Rattle.listing.proofs.Puts.{Putting, none-put, one-more-put}
-use Rattle.listing.proofs.Days.{lineAt, line-fits, few-posts-after, lines-length, answered, line-put, step-part, step-length, step-after, started}
+use Rattle.listing.proofs.Days.{lineAt, few-posts-after, one-more-fits, answered, line-put, step-part, step-length, step-after, started}
 use Rattle.listing.proofs.day.put_lines.Statement.{statement}
 use Rattle.listing.proofs.day.put_lines.Tie as tie
 
@@ -51,21 +50,23 @@ judge-requires c κs = search needs
 
 put-line-requires : tie.Need-put-line-requires Inv-loop μ-loop
 put-line-requires c κs =
-    let a = c .before .before .before .before .before .before .before .before .args in
-    let f = c .before .before .before .before .before .fresh in
-    let h = c .before .before .before .before .loop in
-    let r = started (f .result) (a .c) (f .ensures) (c .before .before .before .before .before .before .before .before .pre .1 .1) in
+    let at-judge = c .before in
+    let at-loop-test = at-judge .before .before in
+    let at-loop = at-loop-test .before in
+    let at-fresh = at-loop .before in
+    let entry = at-fresh .before .before .before in
+    let a = entry .args in
+    let f = at-fresh .fresh in
+    let h = at-loop .loop in
+    let r = started (f .result) (a .c) (f .ensures) (entry .pre .1 .1) in
     let e =
-    answered (f .result) (now (a .steps)) (h .i) _ _ (c .before .judge .result) (h .inv .1 .1 .0)
-    (step-part (now (a .steps)) (h .i)) (c .before .judge .ensures) in
-    let t = c .before .before .before .loop-test .taken in (
-      omega (arith, lines-length (a .sheet) (f .result) (now (a .steps)) r (h .i), line-fits (lineRoom (a .sheet)) (h .i) (a .count) t),
+    answered (f .result) (now (a .steps)) (h .i) _ _ (at-judge .judge .result) (h .inv .1 .1 .0)
+    (step-part (now (a .steps)) (h .i)) (at-judge .judge .ensures) in
+    let t = at-loop-test .loop-test .taken in
+    let fits = one-more-fits (a .sheet) (f .result) (now (a .steps)) r (h .i) (a .count) (a .at) _ t (entry .pre .0) in (
+      omega (arith, fits),
       (
-        rw (
-          step-part (now (a .steps)) (h .i),
-          step-length (now (a .steps)) (h .i) (a .count) t (c .before .before .before .before .before .before
-              .before .before .pre .1 .0),
-        ) (omega arith),
+        rw (step-part (now (a .steps)) (h .i), step-length (now (a .steps)) (h .i) (a .count) t (entry .pre .1 .0)) (omega arith),
         rw e (few-posts-after (a .sheet) (f .result) (now (a .steps)) r (h .i)),
       ),
     )
@@ -78,31 +79,30 @@ loop-less c = omega arith
 
 loop-again : tie.Need-loop-again Inv-loop μ-loop
 loop-again c =
-    let a = c .before .before .before .before .before .before .before .before .before .before .before .before .args in
-    let f = c .before .before .before .before .before .before .before .before .before .fresh in
-    let h = c .before .before .before .before .before .before .before .before .loop in
-    let j = c .before .before .before .before .before .judge in
-    let r =
-    started (f .result) (a .c) (f .ensures) (c .before .before .before .before .before .before .before .before .before .before .before .before
-    .pre .1 .1) in
+    let at-put-line = c .before .before .before in
+    let at-judge = at-put-line .before .before in
+    let at-loop-test = at-judge .before .before in
+    let at-loop = at-loop-test .before in
+    let at-fresh = at-loop .before in
+    let entry = at-fresh .before .before .before in
+    let a = entry .args in
+    let f = at-fresh .fresh in
+    let h = at-loop .loop in
+    let j = at-judge .judge in
+    let r = started (f .result) (a .c) (f .ensures) (entry .pre .1 .1) in
     let part = step-part (now (a .steps)) (h .i) in
-    let e = answered (f .result) (now (a .steps)) (h .i) _ _ (j .result) (h .inv .1 .1 .0) part (j .ensures) in (
-      omega (arith, c .before .before .before .before .before .before .before .loop-test .taken),
+    let e = answered (f .result) (now (a .steps)) (h .i) _ _ (j .result) (h .inv .1 .1 .0) part (j .ensures) in
+    let t = at-loop-test .loop-test .taken in
+    let fits = one-more-fits (a .sheet) (f .result) (now (a .steps)) r (h .i) (a .count) (a .at) _ t (entry .pre .0) in (
+      omega (arith, t),
       (
-        omega (arith, h .inv .1 .0, c .before .before .before .put-line .kept),
+        omega (arith, h .inv .1 .0, at-put-line .put-line .kept),
         (
           ap (λ (x : Answer). x .section) e ∙ step-after (f .result) (now (a .steps)) (h .i),
           one-more-put (lineAt (a .sheet) (f .result) (now (a .steps))) (now (a .buffer)) _ _ (a .at) (h .i) _ _
-              (omega (
-                arith,
-                c .before .before .before .before .before .before .before .before .before .before .before .before .pre .0,
-                lines-length
-                    (a .sheet) (f .result) (now (a .steps)) r (h .i),
-                line-fits (lineRoom (a .sheet)) (h .i) (a .count) (c .before .before .before
-                    .before .before .before .before .loop-test .taken),
-              ))
+              (omega (arith, fits))
               (h .inv .1 .1 .1)
-              (line-put (a .sheet) (f .result) (now (a .steps)) (h .i) _ (j .result) _ _ _ _ part e (c .before .before .before .put-line .ensures)),
+              (line-put (a .sheet) (f .result) (now (a .steps)) (h .i) _ (j .result) _ _ _ _ part e (at-put-line .put-line .ensures)),
         ),
       ),
     )
@@ -113,8 +113,11 @@ same-length c = search needs
 returns : tie.Need-returns Inv-loop μ-loop
 unfolding lines
 returns c =
-    let e : c .before .loop .i ≡ c .before .before .before .before .before .args .count = omega arith in
-    rw (← c .before .before .fresh .ensures, ← e) (c .before .loop .inv .1 .1 .1)
+    let at-loop = c .before in
+    let at-fresh = at-loop .before in
+    let entry = at-fresh .before .before .before in
+    let e : at-loop .loop .i ≡ entry .args .count = omega arith in
+    rw (← at-fresh .fresh .ensures, ← e) (at-loop .loop .inv .1 .1 .1)
 
 pub put-lines-spec : {M : Type 1} → statement M
 put-lines-spec =

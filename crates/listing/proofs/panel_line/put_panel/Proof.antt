@@ -20,12 +20,13 @@ put-byte-requires c κs = omega (arith, number-length (c .before .before .before
 
 put-posts-requires : tie.Need-put-posts-requires
 put-posts-requires c κs =
-    omega (arith, number-length (c .before .before .before .before .before .before .before .before .before .before .before .args .index) 32)
+    let entry = c .before .before .before .before .before .before .before .before .before .before .before in
+    omega (arith, number-length (entry .args .index) 32)
 
 put-byte-requires-2 : tie.Need-put-byte-requires-2
 put-byte-requires-2 c κs =
-    let a = c .before .before .before .before .before .before .before .before .before .before .before .before .before .before .before .args in
-    omega (arith, number-length (a .index) 32, lamps-length (a .s) (a .track))
+    let entry = c .before .before .before .before .before .before .before .before .before .before .before .before .before .before .before in
+    let a = entry .args in omega (arith, number-length (a .index) 32, lamps-length (a .s) (a .track))
 
 same-length : tie.Need-same-length
 same-length c = search needs
@@ -33,18 +34,19 @@ same-length c = search needs
 returns : tie.Need-returns
 unfolding panelFields
 returns c =
-    let a =
-    c .before .before .before .before .before .before .before .before .before .before .before .before .before .before .before .before .before
-    .before .args in
+    let at-put-byte2 = c .before .before in
+    let at-put-posts = at-put-byte2 .before .before .before .before in
+    let at-put-byte = at-put-posts .before .before .before .before in
+    let at-track-name = at-put-byte .before in
+    let at-put-number = at-track-name .before .before .before .before in
+    let entry = at-put-number .before .before .before in
+    let a = entry .args in
     let h = number-length (a .index) 32 in
     let k = lamps-length (a .s) (a .track) in
-    rw (← c .before .before .before .before .before .before .before .before .before .before .before .track-name .ensures)
-    (number-then (now (a .buffer)) _ _ (a .at) _ _ (a .index) 32 _ (omega arith) (c .before .before .before .before .before .before .before .before
-    .before .before .before .before .before .before .before .put-number .ensures)
-    (then _ _ _ _ _ _ (c .before .before .before .before .before .before .before .before .before .before .before .track-name .result ∷ []) _ (omega
-    arith) (c .before .before .before .before .before .before .before .before .before .before .put-byte .ensures)
-    (then _ _ _ _ _ _ (lampsOf (a .s) (a .track)) _ (omega arith) (c .before .before .before .before .before .before .put-posts .ensures) (c .before
-    .before .put-byte2 .ensures))))
+    rw (← at-track-name .track-name .ensures)
+    (number-then (now (a .buffer)) _ _ (a .at) _ _ (a .index) 32 _ (omega arith) (at-put-number .put-number .ensures)
+    (then _ _ _ _ _ _ (at-track-name .track-name .result ∷ []) _ (omega arith) (at-put-byte .put-byte .ensures)
+    (then _ _ _ _ _ _ (lampsOf (a .s) (a .track)) _ (omega arith) (at-put-posts .put-posts .ensures) (at-put-byte2 .put-byte2 .ensures))))
 
 pub put-panel-spec : {M : Type 1} → statement M
 put-panel-spec =

@@ -38,9 +38,13 @@ loop-less c = omega arith
 
 loop-again : tie.Need-loop-again Inv-loop μ-loop
 loop-again c =
-    let a = c .before .before .before .before .before .before .before .before .args in
-    let h = c .before .before .before .before .before .before .loop in
-    let put = rw (c .before .before .before .indications .ensures) at (c .before .before .put-lamps .ensures) in (
+    let at-put-lamps = c .before .before in
+    let at-indications = at-put-lamps .before in
+    let at-loop = at-indications .before .before .before in
+    let entry = at-loop .before .before in
+    let a = entry .args in
+    let h = at-loop .loop in
+    let put = rw (at-indications .indications .ensures) at (at-put-lamps .put-lamps .ensures) in (
       omega arith,
       (
         omega arith,

@@ -17,8 +17,8 @@ slice-aggregate-put-text c = search needs
 
 put-text-requires : tie.Need-put-text-requires
 put-text-requires c κs =
-    let a = c .before .before .before .before .before .before .before .before .before .before .before .args in
-    omega (arith, number-length (a .index) 32, verdict-length (a .verdict))
+    let entry = c .before .before .before .before .before .before .before .before .before .before .before in
+    let a = entry .args in omega (arith, number-length (a .index) 32, verdict-length (a .verdict))
 
 same-length : tie.Need-same-length
 same-length c = search needs
@@ -26,11 +26,14 @@ same-length c = search needs
 returns : tie.Need-returns
 unfolding fields
 returns c =
-    let a = c .before .before .before .before .before .before .before .before .before .before .before .before .before .before .args in
-    number-then (now (a .buffer)) _ _ (a .at) _ _ (a .index) 32 _ (omega arith) (c .before .before .before .before .before .before .before .before
-    .before .before .before .put-number .ensures)
+    let at-put-text = c .before .before in
+    let at-put-verdict = at-put-text .before .before .before .before .before in
+    let at-put-number = at-put-verdict .before .before .before .before in
+    let entry = at-put-number .before .before .before in
+    let a = entry .args in
+    number-then (now (a .buffer)) _ _ (a .at) _ _ (a .index) 32 _ (omega arith) (at-put-number .put-number .ensures)
     (then _ _ _ _ _ _ (verdictFields (a .verdict)) _ (omega (arith, number-length (a .index) 32, verdict-length (a .verdict)))
-    (c .before .before .before .before .before .before .before .put-verdict .ensures) (c .before .before .put-text .ensures))
+    (at-put-verdict .put-verdict .ensures) (at-put-text .put-text .ensures))
 
 pub put-fields-spec : {M : Type 1} → statement M
 put-fields-spec =

@@ -17,7 +17,9 @@ slice-aggregate-put-named-2 : tie.Need-slice-aggregate-put-named-2
 slice-aggregate-put-named-2 c = search needs
 
 put-named-requires-2 : tie.Need-put-named-requires-2
-put-named-requires-2 c κs = omega (arith, named-length (ascii "posts ") (c .before .before .before .before .before .before .before .before .args .n) 32)
+put-named-requires-2 c κs =
+    let entry = c .before .before .before .before .before .before .before .before in
+    omega (arith, named-length (ascii "posts ") (entry .args .n) 32)
 
 same-length : tie.Need-same-length
 same-length c = search needs
@@ -25,9 +27,12 @@ same-length c = search needs
 returns : tie.Need-returns
 unfolding header
 returns c =
-    let a = c .before .before .before .before .before .before .before .before .before .before .before .args in
+    let at-put-named2 = c .before .before in
+    let at-put-named = at-put-named2 .before .before .before .before .before in
+    let entry = at-put-named .before .before .before .before in
+    let a = entry .args in
     named-then (now (a .buffer)) _ _ (a .at) _ _ (ascii "posts ") (a .n) 32 _ (omega arith)
-    (c .before .before .before .before .before .before .before .put-named .ensures) (c .before .before .put-named2 .ensures)
+    (at-put-named .put-named .ensures) (at-put-named2 .put-named2 .ensures)
 
 pub put-header-spec : {M : Type 1} → statement M
 put-header-spec =

@@ -16,9 +16,11 @@ same-length c = search needs
 
 returns : tie.Need-returns
 returns c =
-    let a = c .before .before .before .before .before .before .before .before .before .before .args in
-    then (now (a .buffer)) _ _ (a .at) _ _ (now (a .name)) _ (omega arith) (c .before .before .before .before .before .before .put-text .ensures) (c
-    .before .before .put-number .ensures)
+    let at-put-number = c .before .before in
+    let at-put-text = at-put-number .before .before .before .before in
+    let entry = at-put-text .before .before .before .before in
+    let a = entry .args in
+    then (now (a .buffer)) _ _ (a .at) _ _ (now (a .name)) _ (omega arith) (at-put-text .put-text .ensures) (at-put-number .put-number .ensures)
 
 pub put-named-spec : {M : Type 1} → statement M
 put-named-spec = tie.close (tie.spec put-text-requires put-number-requires same-length returns)

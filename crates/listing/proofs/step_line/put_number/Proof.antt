@@ -18,9 +18,12 @@ same-length c = search needs
 
 returns : tie.Need-returns
 returns c =
-    let a = c .before .before .before .before .before .before .before .before .before .args in
-    let d = c .before .before .before .before .before .before .put-decimal in
-    then (now (a .buffer)) _ _ (a .at) _ _ (decimal (a .x)) _ (omega (arith, decimal-length (a .x))) (d .ensures) (c .before .before .put-byte .ensures)
+    let at-put-byte = c .before .before in
+    let at-put-decimal = at-put-byte .before .before .before .before in
+    let entry = at-put-decimal .before .before .before in
+    let a = entry .args in
+    let d = at-put-decimal .put-decimal in
+    then (now (a .buffer)) _ _ (a .at) _ _ (decimal (a .x)) _ (omega (arith, decimal-length (a .x))) (d .ensures) (at-put-byte .put-byte .ensures)
 
 pub put-number-spec : {M : Type 1} → statement M
 put-number-spec = tie.close (tie.spec put-decimal-requires put-byte-requires same-length returns)

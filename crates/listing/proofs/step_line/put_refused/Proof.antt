@@ -22,9 +22,12 @@ same-length c = search needs
 returns : tie.Need-returns
 unfolding refusedLine
 returns c =
-    let a = c .before .before .before .before .before .before .before .before .before .before .args in
+    let at-put-number = c .before .before in
+    let at-put-named = at-put-number .before .before .before .before in
+    let entry = at-put-named .before .before .before .before in
+    let a = entry .args in
     named-then (now (a .buffer)) _ _ (a .at) _ _ (ascii "refused ") (a .number) 32 _ (omega arith)
-    (c .before .before .before .before .before .before .put-named .ensures) (c .before .before .put-number .ensures)
+    (at-put-named .put-named .ensures) (at-put-number .put-number .ensures)
 
 pub put-refused-spec : {M : Type 1} → statement M
 put-refused-spec =

@@ -27,11 +27,15 @@ same-length c = search needs
 returns : tie.Need-returns
 unfolding verdictFields
 returns c =
-    let a = c .before .before .before .before .before .before .before .before .before .before .before .args in
-    rw (← c .before .before .before .before .before .before .before .before .refusal-of .ensures, ← c .before .before .before .said-by .ensures)
-    (number-then (now (a .buffer)) _ _ (a .at) _ _ (c .before .before .before .before .before .before .before .before .refusal-of .result) 32 _ (omega
-    arith) (c .before .before .before .before .before .before .before .put-number .ensures)
-    (c .before .before .put-said .ensures))
+    let at-put-said = c .before .before in
+    let at-said-by = at-put-said .before in
+    let at-put-number = at-said-by .before .before .before .before in
+    let at-refusal-of = at-put-number .before in
+    let entry = at-refusal-of .before .before .before in
+    let a = entry .args in
+    rw (← at-refusal-of .refusal-of .ensures, ← at-said-by .said-by .ensures)
+    (number-then (now (a .buffer)) _ _ (a .at) _ _ (at-refusal-of .refusal-of .result) 32 _ (omega arith) (at-put-number .put-number .ensures)
+    (at-put-said .put-said .ensures))
 
 pub put-verdict-spec : {M : Type 1} → statement M
 put-verdict-spec =
