@@ -175,10 +175,10 @@ pub fn trains_after(c: Settings, m: Movement, e: Site, l: [u16; 15]) -> [u16; 15
             trains
         }
         Movement::Moves(number) => {
-            let before = block_before(c, e);
-            let ahead = block_ahead(c, e);
-            trains[before] = 0;
-            trains[ahead] = number;
+            let from = block_before(c, e);
+            let to = block_ahead(c, e);
+            trains[from] = 0;
+            trains[to] = number;
             trains
         }
         Movement::Leaves => {
@@ -202,8 +202,8 @@ pub fn last_after(c: Settings, m: Movement, e: Site, l: [u16; 15]) -> [u16; 15]
             last
         }
         Movement::Moves(number) => {
-            let ahead = block_ahead(c, e);
-            last[ahead] = number;
+            let to = block_ahead(c, e);
+            last[to] = number;
             last
         }
         Movement::Leaves => last,

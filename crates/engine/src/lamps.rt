@@ -16,6 +16,24 @@ use section::Settings;
 use section::Track;
 use section::Walk;
 
+// CIRCULATION, in the paper's numbers.
+const DARK: u8 = 0;
+
+const VNS: u8 = 1;
+
+const CVT: u8 = 2;
+
+const VNS_FLASHING: u8 = 3;
+
+const CVT_FLASHING: u8 = 4;
+
+// TRONÇON.
+const NONE: u8 = 0;
+
+const WHITE: u8 = 1;
+
+const RED: u8 = 2;
+
 // How many posts, from the sending end on, have set in this reversal.
 fn set_count(n: u8, up: bool, walk: Walk) -> u8
     requires { ⌜ (n ≤ 16) × (walkFits n up walk ≡ true) ⌝ }
@@ -64,24 +82,24 @@ fn circulation(fault3: bool, flashing: bool, cvt: bool) -> u8
     ensures { λ r. ⌜ r ≡ cond fault3 0 (cond flashing (cond cvt 3 4) (cond cvt 2 1)) ⌝ }
 {
     if fault3 {
-        return 0;
+        return DARK;
     }
     if flashing {
-        return if cvt { 3 } else { 4 };
+        return if cvt { VNS_FLASHING } else { CVT_FLASHING };
     }
-    if cvt { 2 } else { 1 }
+    if cvt { CVT } else { VNS }
 }
 
 fn troncon(commands: bool, fault1: bool, occupied: bool) -> u8
     ensures { λ r. ⌜ r ≡ cond commands (cond (fault1 || occupied) 2 1) 0 ⌝ }
 {
     if !commands {
-        return 0;
+        return NONE;
     }
     if fault1 {
-        return 2;
+        return RED;
     }
-    if occupied { 2 } else { 1 }
+    if occupied { RED } else { WHITE }
 }
 
 fn number(x: bool) -> u8

@@ -13,7 +13,7 @@ use section::Verdict;
 use section::Walk;
 
 // Writes a number and the byte that follows it, and returns the next place.
-pub fn put_number(buffer: &mut [u8], at: usize, x: usize, end: u8) -> usize
+pub(crate) fn put_number(buffer: &mut [u8], at: usize, x: usize, end: u8) -> usize
     requires { ⌜ at + 6 ≤ length (now buffer) ⌝ }
     ensures { λ r. ⌜ r ≡ at + length (decimal x ++ (end ∷ [])) ⌝ }
     ensures { λ _. ⌜ now (buffer .exit) ≡ written (now (buffer .entry)) at (decimal x ++ (end ∷ [])) ⌝ }
@@ -33,7 +33,7 @@ fn put_named(buffer: &mut [u8], at: usize, name: &[u8], x: usize, end: u8) -> us
 }
 
 // Writes the line of a refused file, and returns the next place.
-pub fn put_refused(buffer: &mut [u8], at: usize, number: u8, index: usize) -> usize
+pub(crate) fn put_refused(buffer: &mut [u8], at: usize, number: u8, index: usize) -> usize
     requires { ⌜ at + 20 ≤ length (now buffer) ⌝ }
     ensures { λ r. ⌜ r ≡ at + length (refusedLine number index) ⌝ }
     ensures { λ _. ⌜ now (buffer .exit) ≡ written (now (buffer .entry)) at (refusedLine number index) ⌝ }
@@ -43,7 +43,7 @@ pub fn put_refused(buffer: &mut [u8], at: usize, number: u8, index: usize) -> us
 }
 
 // Writes the header of a day, and returns the next place.
-pub fn put_header(buffer: &mut [u8], at: usize, n: u8, count: usize) -> usize
+pub(crate) fn put_header(buffer: &mut [u8], at: usize, n: u8, count: usize) -> usize
     requires { ⌜ at + 24 ≤ length (now buffer) ⌝ }
     ensures { λ r. ⌜ r ≡ at + length (header n count) ⌝ }
     ensures { λ _. ⌜ now (buffer .exit) ≡ written (now (buffer .entry)) at (header n count) ⌝ }
@@ -113,7 +113,7 @@ pub fn track_letter(t: Track) -> u8
 }
 
 // Writes the line of a step, and returns the next place.
-pub fn put_fields(
+pub(crate) fn put_fields(
     buffer: &mut [u8],
     at: usize,
     index: usize,
