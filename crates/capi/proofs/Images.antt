@@ -14,7 +14,7 @@ use Rattle.rules.specs.Judge.{judge}
 use Rattle.text.specs.Text.{written}
 use Rattle.image.specs.Image.{imageOf, imageRight, sectionOf}
 use Rattle.image.proofs.Laws.{right-length, whole-written}
-use Rattle.capi.specs.Engine.{packedVerdict, judgedImage, writtenBack, imageAfter}
+use Rattle.capi.specs.Engine.{packedVerdict, judgeAnswer, writtenBack, judgeImage}
 
 pub said-small : {n : ℕ} (said : Said) → n ≡ saidNumber said → n ≤ 4
 unfolding saidNumber
@@ -29,21 +29,21 @@ said-small Vnsz e = omega arith
 module _ (image step : List ℕ) where
   -- the answer, and the image afterwards
   abbrev Judged : ℕ → List ℕ → Type 0
-  Judged r after = (r ≡ judgedImage image step) × (after ≡ imageAfter image step)
+  Judged r after = (r ≡ judgeAnswer image step) × (after ≡ judgeImage image step)
 
   pub no-image : imageRight image ≡ false → Judged 6 image
-  unfolding judgedImage imageAfter
+  unfolding judgeAnswer judgeImage
   no-image e = (rw e, rw e)
 
   module _ (e : imageRight image ≡ true) {s : Section} {a : Answer} (es : s ≡ sectionOf image) (ea : a ≡ judge s step) where
     pub accepted :
         {said : Said} {n : ℕ} {after : List ℕ} → a .verdict ≡ Accepted said → n ≡ saidNumber said →
         after ≡ written image 0 (imageOf (a .section)) → Judged (n * 256) after
-    unfolding judgedImage imageAfter packedVerdict writtenBack refusalOf saidBy
+    unfolding judgeAnswer judgeImage packedVerdict writtenBack refusalOf saidBy
     accepted v en ew =
         let h : a ≡ judge (sectionOf image) step = rw es at ea in
         (rw (e, ← h, v) (omega (arith, en)), rw (e, ← h, v) (ew ∙ whole-written image (a .section) (right-length image e)))
 
     pub refused : {k : ℕ} → a .verdict ≡ Refused k → Judged k image
-    unfolding judgedImage imageAfter packedVerdict writtenBack refusalOf saidBy saidNumber
+    unfolding judgeAnswer judgeImage packedVerdict writtenBack refusalOf saidBy saidNumber
     refused v = let h : a ≡ judge (sectionOf image) step = rw es at ea in (rw (e, ← h, v) (omega arith), rw (e, ← h, v))

@@ -32,16 +32,16 @@ unfoldable pub packedVerdict : Verdict → ℕ
 packedVerdict v = refusalOf v + saidNumber (saidBy v) * 256
 
 -- bytes that are no section's image give 6
-unfoldable pub judgedImage : List ℕ → List ℕ → ℕ
-judgedImage image step = cond (imageRight image) (packedVerdict (judge (sectionOf image) step .verdict)) 6
+unfoldable pub judgeAnswer : List ℕ → List ℕ → ℕ
+judgeAnswer image step = cond (imageRight image) (packedVerdict (judge (sectionOf image) step .verdict)) 6
 
 -- the old bytes or the new: "written back only when accepted"
 unfoldable pub writtenBack : Verdict → List ℕ → List ℕ → List ℕ
 writtenBack (Accepted said) old new = new
 writtenBack (Refused k) old new = old
 
-unfoldable pub imageAfter : List ℕ → List ℕ → List ℕ
-imageAfter image step =
+unfoldable pub judgeImage : List ℕ → List ℕ → List ℕ
+judgeImage image step =
     cond (imageRight image) (writtenBack (judge (sectionOf image) step .verdict) image (imageOf (judge (sectionOf image) step .section))) image
 
 -- ## What a post shows

@@ -3,7 +3,7 @@ ghost use mathlib.Core.Path.{_≡_};
 ghost use lib.ListN.{length};
 ghost use Rattle.section.specs.Words.{saidNumber};
 ghost use Rattle.engine.specs.AcceptedCount.{acceptedCount};
-ghost use Rattle.capi.specs.Engine.{freshAnswer, freshImage, judgedImage, imageAfter, shownOf};
+ghost use Rattle.capi.specs.Engine.{freshAnswer, freshImage, judgeAnswer, judgeImage, shownOf};
 ghost use Rattle.capi.specs.Files.{settingsGiven};
 use crate::settings_given;
 use image::IMAGE_LENGTH;
@@ -38,8 +38,8 @@ fn said_number(said: Said) -> u16
 // Judges a step. The image is written back only when the step is accepted.
 #[no_mangle]
 pub extern "C" fn bsr_judge(bytes: &mut [u8], step: &[u8]) -> u16
-    ensures { λ r. ⌜ r ≡ judgedImage (now (bytes .entry)) (now (step .entry)) ⌝ }
-    ensures { λ _. ⌜ now (bytes .exit) ≡ imageAfter (now (bytes .entry)) (now (step .entry)) ⌝ }
+    ensures { λ r. ⌜ r ≡ judgeAnswer (now (bytes .entry)) (now (step .entry)) ⌝ }
+    ensures { λ _. ⌜ now (bytes .exit) ≡ judgeImage (now (bytes .entry)) (now (step .entry)) ⌝ }
 {
     if !image::image_right(bytes) {
         return 6;

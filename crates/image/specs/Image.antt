@@ -14,7 +14,7 @@ use Rattle.section.specs.declared.Walk.the-variants.{Settled, Turn}
 use Rattle.section.specs.Bytes.{byte, pair}
 use Rattle.section.specs.Numbers.{mostPosts, mostBlocks}
 use Rattle.section.specs.Post.{blank}
-use Rattle.dayfile.specs.Layout.{settingsLength as settingsBytesLength, pairBytes, settingsBytes, settingsOf}
+use Rattle.dayfile.specs.Layout.{settingsLength, pairBytes, settingsBytes, settingsOf}
 
 -- ## Lengths and places
 
@@ -29,9 +29,6 @@ postsLength = postLength * mostPosts
 
 abbrev pub numbersLength : ℕ
 numbersLength = numberLength * mostBlocks
-
-abbrev pub settingsLength : ℕ
-settingsLength = settingsBytesLength
 
 -- before a track's posts: direction, act, turn's post, zero
 abbrev pub headLength : ℕ
