@@ -2,7 +2,7 @@
 use Prim.Native.Nat.{ℕ, _+_, _*_}
 use mathlib.Core.List.{List}
 use Rattle.section.specs.declared.Answer.{Answer}
-use Rattle.dayfile.specs.Layout.{mostSteps, stepsIn}
+use Rattle.dayfile.specs.Layout.{stepsIn}
 use Rattle.dayfile.specs.Tests.{readOf}
 use Rattle.listing.specs.declared.Sheet.{Sheet}
 use Rattle.listing.specs.declared.Sheet.the-variants.{OfSteps, OfPosts}

@@ -1,3 +1,4 @@
+-- The listing is the sheet of the steps.
 use borrow.Author.Needs.{needs}
 use Rattle.listing.specs.Listing.{listing}
 use Rattle.listing.specs.Sheet.{lineOn, printedOn}

@@ -1,3 +1,4 @@
+-- The panel is the sheet of the posts.
 use borrow.Author.Needs.{needs}
 use Rattle.listing.specs.Panel.{panel}
 use Rattle.listing.specs.Sheet.{lineOn, printedOn}

@@ -1,3 +1,5 @@
+-- Either the sheet is put into the buffer itself, or into room of its own whose front is handed over. The sheet fits that room, since the room
+-- keeps its length.
 use borrow.Author.Needs.{needs}
 use native.Mathlib.Omega.{arith}
 use denote.Ref.{now}

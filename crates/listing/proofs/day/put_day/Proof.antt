@@ -1,3 +1,4 @@
+-- The header, and then the lines.
 use borrow.Author.Needs.{needs}
 use native.Mathlib.Omega.{arith}
 use mathlib.Core.Path.{_∙_}
