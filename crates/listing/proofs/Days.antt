@@ -33,9 +33,9 @@ use Rattle.text.proofs.Laws.{decimal-length}
 use Rattle.listing.specs.declared.Sheet.{Sheet}
 use Rattle.listing.specs.declared.Sheet.the-variants.{OfSteps, OfPosts}
 use Rattle.listing.specs.Text.{inTurn}
-use Rattle.listing.specs.Listing.{refusedLine, header, fields, stepLine, sectionBefore, answerTo, printed}
+use Rattle.listing.specs.Listing.{refusedLine, header, fields, stepLine, sectionBefore, answerTo, printedRead, printed}
 use Rattle.listing.specs.Panel.{panelFields, panelLine}
-use Rattle.listing.specs.Sheet.{lineOn, lineRoom, room, printedOn}
+use Rattle.listing.specs.Sheet.{lineOn, lineRoom, room}
 use Rattle.listing.proofs.Puts.{Putting, verdict-length, in-turn-length}
 use Rattle.listing.proofs.Shown.{lamps-length}
 
@@ -165,14 +165,14 @@ module _ (file : List ℕ) (count : ℕ) (e : readOf file .reading ≡ Day count
 
 pub printed-refused :
     (sheet : Sheet) (file : List ℕ) (number index : ℕ) → readOf file .reading ≡ Refused number index
-    → refusedLine number index ≡ printedOn sheet file
-unfolding printedOn printed
+    → refusedLine number index ≡ printed (lineOn sheet) file
+unfolding printed printedRead
 printed-refused sheet file number index e = rw e
 
 pub printed-day :
     (sheet : Sheet) (file : List ℕ) (count : ℕ) (c : Settings) (steps : List ℕ) → readOf file .reading ≡ Day count
-    → c ≡ readOf file .settings → steps ≡ stepsPart file count → printed (lineOn sheet) (Day count) c steps ≡ printedOn sheet file
-unfolding printedOn
+    → c ≡ readOf file .settings → steps ≡ stepsPart file count → printedRead (lineOn sheet) (Day count) c steps ≡ printed (lineOn sheet) file
+unfolding printed
 printed-day sheet file count c steps e f g = rw (e, f, g, gives-its-steps file count e)
 
 -- the same text, at the front
