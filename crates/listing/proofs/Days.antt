@@ -1,8 +1,8 @@
 -- The lines of a day: how long they are, and what the loop over the steps keeps.
 use Prim.Native.Nat.{ℕ, zero, suc, _+_, _-_, _*_, _<_, _≤_}
-use mathlib.Core.Bool.{Bool, true, false, _&&_}
-use mathlib.Core.Path.{_≡_, refl, sym, _∙_, ap}
-use mathlib.Core.List.{List, [], _∷_, _++_}
+use mathlib.Core.Bool.{true, _&&_}
+use mathlib.Core.Path.{_≡_, _∙_, ap}
+use mathlib.Core.List.{List}
 use native.Mathlib.Omega.{arith}
 use native.Mathlib.Nat.{mul-suc, mul-le-mul-left, add-sub-cancel-left}
 use native.Mathlib.Numerals.{add-one}
@@ -13,7 +13,6 @@ use lib.Seq.{length-take-le}
 use Rattle.section.specs.declared.Answer.{Answer}
 use Rattle.section.specs.declared.Section.{Section}
 use Rattle.section.specs.declared.Settings.{Settings}
-use Rattle.section.specs.declared.Verdict.{Verdict}
 use Rattle.section.specs.Bytes.{byte, within}
 use Rattle.section.specs.Fresh.{freshSection}
 use Rattle.section.specs.Numbers.{leastPosts, mostPosts, stepLength}
@@ -24,20 +23,20 @@ use Rattle.section.proofs.Laws.{fresh-in-range}
 use Rattle.rules.specs.Judge.{judge}
 use Rattle.rules.proofs.RangeLaw.{ranges-kept}
 use Rattle.dayfile.specs.Layout.{mostSteps, settingsOf, settingsIn, stepAt, stepsIn, stepsPart}
-use Rattle.dayfile.specs.Tests.{readOf, readVerdict, refusalNumber, settingsBytesRight}
+use Rattle.dayfile.specs.Tests.{readOf, refusalNumber, settingsBytesRight}
 use Rattle.dayfile.specs.declared.Reading.the-variants.{Day, Refused}
 use Rattle.dayfile.proofs.Laws.{all-whole}
 use Rattle.dayfile.proofs.Reader.{day-read, few-steps}
 use Rattle.dayfile.proofs.RoundTrip.{gives-its-steps}
-use Rattle.text.specs.Text.{decimal, written}
+use Rattle.text.specs.Text.{written}
 use Rattle.text.proofs.Laws.{decimal-length}
 use Rattle.listing.specs.declared.Sheet.{Sheet}
 use Rattle.listing.specs.declared.Sheet.the-variants.{OfSteps, OfPosts}
 use Rattle.listing.specs.Text.{inTurn}
-use Rattle.listing.specs.Listing.{refusedLine, header, verdictFields, fields, stepLine, sectionBefore, answerTo, printed}
-use Rattle.listing.specs.Panel.{trackName, lampsOf, panelFields, panelLine}
-use Rattle.listing.specs.Sheet.{lineOn, lineRoom, room, printedOn}
-use Rattle.listing.proofs.Puts.{Putting, verdict-length, in-turn-length, one-more-put}
+use Rattle.listing.specs.Listing.{refusedLine, header, fields, stepLine, sectionBefore, answerTo, printedRead, printed}
+use Rattle.listing.specs.Panel.{panelFields, panelLine}
+use Rattle.listing.specs.Sheet.{lineOn, lineRoom, room}
+use Rattle.listing.proofs.Puts.{Putting, verdict-length, in-turn-length}
 use Rattle.listing.proofs.Shown.{lamps-length}
 
 -- ## The ranges along a day
@@ -166,14 +165,14 @@ module _ (file : List ℕ) (count : ℕ) (e : readOf file .reading ≡ Day count
 
 pub printed-refused :
     (sheet : Sheet) (file : List ℕ) (number index : ℕ) → readOf file .reading ≡ Refused number index
-    → refusedLine number index ≡ printedOn sheet file
-unfolding printedOn printed
+    → refusedLine number index ≡ printed (lineOn sheet) file
+unfolding printed printedRead
 printed-refused sheet file number index e = rw e
 
 pub printed-day :
     (sheet : Sheet) (file : List ℕ) (count : ℕ) (c : Settings) (steps : List ℕ) → readOf file .reading ≡ Day count
-    → c ≡ readOf file .settings → steps ≡ stepsPart file count → printed (lineOn sheet) (Day count) c steps ≡ printedOn sheet file
-unfolding printedOn
+    → c ≡ readOf file .settings → steps ≡ stepsPart file count → printedRead (lineOn sheet) (Day count) c steps ≡ printed (lineOn sheet) file
+unfolding printed
 printed-day sheet file count c steps e f g = rw (e, f, g, gives-its-steps file count e)
 
 -- the same text, at the front

@@ -1,5 +1,5 @@
 -- Texts put one after another into a buffer.
-use mathlib.Core.Path.{_≡_, refl, sym, _∙_, ap, subst}
+use mathlib.Core.Path.{_≡_, refl, sym, _∙_, ap}
 use mathlib.Core.List.{List, [], _∷_, _++_, append-assoc}
 use Prim.Native.Nat.{ℕ, zero, suc, _+_, _-_, _*_, _≤_}
 use native.Mathlib.Omega.{arith}
@@ -10,7 +10,7 @@ use lib.Seq.{take-at}
 use Rattle.section.specs.declared.Said.{Said}
 use Rattle.section.specs.declared.Said.the-variants.{Nothing, Cvt, Cvtz, Vns, Vnsz}
 use Rattle.text.specs.Text.{decimal, written}
-use Rattle.text.proofs.Laws.{Put, put-then, decimal-length}
+use Rattle.text.proofs.Laws.{put-then, decimal-length}
 use Rattle.section.specs.declared.Verdict.{Verdict}
 use Rattle.section.specs.Words.{refusalOf, saidBy}
 use Rattle.listing.specs.Text.{word, inTurn}

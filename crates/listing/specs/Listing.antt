@@ -51,11 +51,15 @@ answerTo first steps i = judge (sectionBefore first steps i) (stepAt steps i)
 unfoldable pub lines : (ℕ → List ℕ → Answer → List ℕ) → Section → List ℕ → ℕ → List ℕ
 lines line first steps count = inTurn (λ i. line i (stepAt steps i) (answerTo first steps i)) count
 
--- what is printed of a file: "A refused file gives one line. Else a header, then a line per step."
-unfoldable pub printed : (ℕ → List ℕ → Answer → List ℕ) → Reading → Settings → List ℕ → List ℕ
-printed line (Refused number index) c steps = refusedLine number index
-printed line (Day count) c steps = header (c .posts) count ++ lines line (freshSection c) steps count
+-- "A refused file gives one line. Else a header, then a line per step."
+unfoldable pub printedRead : (ℕ → List ℕ → Answer → List ℕ) → Reading → Settings → List ℕ → List ℕ
+printedRead line (Refused number index) c steps = refusedLine number index
+printedRead line (Day count) c steps = header (c .posts) count ++ lines line (freshSection c) steps count
+
+-- what is printed of a file
+unfoldable pub printed : (ℕ → List ℕ → Answer → List ℕ) → List ℕ → List ℕ
+printed line file = printedRead line (readOf file .reading) (readOf file .settings) (stepsIn file)
 
 -- the listing of a file
 unfoldable pub listing : List ℕ → List ℕ
-listing file = printed (λ i bytes answer. stepLine i answer) (readOf file .reading) (readOf file .settings) (stepsIn file)
+listing file = printed (λ i bytes answer. stepLine i answer) file

@@ -9,8 +9,6 @@ use Rattle.section.specs.declared.Indications.{Indications}
 use Rattle.section.specs.declared.Section.{Section}
 use Rattle.section.specs.Bytes.{byte}
 use Rattle.rules.specs.Indications.{indications}
-use Rattle.dayfile.specs.Layout.{stepsIn}
-use Rattle.dayfile.specs.Tests.{readOf}
 use Rattle.text.specs.Text.{ascii, digit, decimal}
 use Rattle.listing.specs.Text.{inTurn}
 use Rattle.listing.specs.Listing.{printed}
@@ -37,4 +35,4 @@ panelLine index bytes answer = panelFields index (byte bytes 1) (answer .section
 
 -- the panel of a file
 unfoldable pub panel : List ℕ → List ℕ
-panel file = printed panelLine (readOf file .reading) (readOf file .settings) (stepsIn file)
+panel file = printed panelLine file

@@ -2,20 +2,15 @@
 use Prim.Native.Nat.{ℕ, _+_, _*_}
 use mathlib.Core.List.{List}
 use Rattle.section.specs.declared.Answer.{Answer}
-use Rattle.dayfile.specs.Layout.{mostSteps, stepsIn}
-use Rattle.dayfile.specs.Tests.{readOf}
 use Rattle.listing.specs.declared.Sheet.{Sheet}
 use Rattle.listing.specs.declared.Sheet.the-variants.{OfSteps, OfPosts}
-use Rattle.listing.specs.Listing.{stepLine, printed}
+use Rattle.listing.specs.Listing.{stepLine}
 use Rattle.listing.specs.Panel.{panelLine}
 
 -- a step's line
 unfoldable pub lineOn : Sheet → ℕ → List ℕ → Answer → List ℕ
 lineOn OfSteps index bytes answer = stepLine index answer
 lineOn OfPosts index bytes answer = panelLine index bytes answer
-
-unfoldable pub printedOn : Sheet → List ℕ → List ℕ
-printedOn sheet file = printed (lineOn sheet) (readOf file .reading) (readOf file .settings) (stepsIn file)
 
 -- room for the longest header, for the longest line of a step, and for a whole day
 abbrev pub headerRoom : ℕ

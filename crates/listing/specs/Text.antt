@@ -1,7 +1,7 @@
 -- The words and letters of the listing (document 01, "The bench listing"), and a text handed over in a lent buffer.
 use Prim.Native.Nat.{ℕ, zero, suc}
 use Prim.Native.Char.{code}
-use mathlib.Core.Bool.{Bool, true, false, cond}
+use mathlib.Core.Bool.{Bool, cond}
 use mathlib.Core.List.{List, [], _++_}
 use lib.Dec.{leb}
 use lib.ListN.{length, drop}

@@ -17,7 +17,7 @@ use Rattle.dayfile.specs.Tests.{firstMalformed, someMalformed, readVerdict, rea
 use Rattle.examples.specs.Days.{on, offeredAs, refusals, fresh}
 use Rattle.text.specs.Text.{ascii, digits, decimal}
 use Rattle.listing.specs.Text.{word, letter, trackLetter, inTurn}
-use Rattle.listing.specs.Listing.{refusedLine, header, verdictFields, fields, stepLine, sectionBefore, answerTo, lines, printed, listing}
+use Rattle.listing.specs.Listing.{refusedLine, header, verdictFields, fields, stepLine, sectionBefore, answerTo, lines, printedRead, printed, listing}
 use Rattle.listing.specs.Panel.{lamps, lampsOf, trackName, panelFields, panelLine, panel}
 
 -- "n = 2, telephone, mask 3, line 1"
@@ -47,7 +47,7 @@ text (line ∷ rest) = ascii line ++ (ascii "\n" ++ text rest)
 
 -- unfolded, these have the listing and the panel compute
 unfoldable pub listingOf : List ℕ → List ℕ
-unfolding refusedLine header verdictFields fields stepLine sectionBefore answerTo lines printed listing inTurn word letter trackLetter digits decimal
+unfolding refusedLine header verdictFields fields stepLine sectionBefore answerTo lines printedRead printed listing inTurn word letter trackLetter digits decimal
     refusals fresh saidBy readOf readVerdict refusalNumber lengthWrong trailerRight markRight settingsBytesRight zerosRight someMalformed
     firstMalformed leading wellAt wellFormed isWell trailerIn settingsIn stepsIn fromEnd settingsOf stepAt fourAt four
 listingOf file = listing file

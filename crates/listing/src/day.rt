@@ -9,8 +9,8 @@ ghost use Rattle.section.specs.Settings.{settingsRight};
 ghost use Rattle.dayfile.specs.Layout.{mostSteps};
 ghost use Rattle.dayfile.specs.declared.Reading.{Reading};
 ghost use Rattle.text.specs.Text.{written};
-ghost use Rattle.listing.specs.Listing.{lines, printed};
-ghost use Rattle.listing.specs.Sheet.{lineOn, lineRoom, room, printedOn};
+ghost use Rattle.listing.specs.Listing.{lines, printedRead, printed};
+ghost use Rattle.listing.specs.Sheet.{lineOn, lineRoom, room};
 use crate::Sheet;
 use crate::panel_line::put_panel;
 use crate::step_line::put_fields;
@@ -83,8 +83,8 @@ fn put_lines(
 fn put_day(sheet: Sheet, buffer: &mut [u8], c: Settings, steps: &[u8], count: usize) -> usize
     requires { ⌜ room sheet count ≤ length (now buffer) ⌝ }
     requires { ⌜ (stepLength * count ≤ length (now steps)) × (settingsRight c ≡ true) ⌝ }
-    ensures { λ r. ⌜ r ≡ length (printed (lineOn sheet) (Reading.Day count) c (now (steps .entry))) ⌝ }
-    ensures { λ _. ⌜ now (buffer .exit) ≡ written (now (buffer .entry)) 0 (printed (lineOn sheet) (Reading.Day count) c (now (steps .entry))) ⌝ }
+    ensures { λ r. ⌜ r ≡ length (printedRead (lineOn sheet) (Reading.Day count) c (now (steps .entry))) ⌝ }
+    ensures { λ _. ⌜ now (buffer .exit) ≡ written (now (buffer .entry)) 0 (printedRead (lineOn sheet) (Reading.Day count) c (now (steps .entry))) ⌝ }
 {
     let next = put_header(buffer, 0, c.posts, count);
     put_lines(sheet, buffer, next, c, steps, count)
@@ -93,8 +93,8 @@ fn put_day(sheet: Sheet, buffer: &mut [u8], c: Settings, steps: &[u8], count: us
 // Writes what is printed of a file, and returns its length.
 pub(crate) fn print(sheet: Sheet, file: &[u8], buffer: &mut [u8]) -> usize
     requires { ⌜ room sheet mostSteps ≤ length (now buffer) ⌝ }
-    ensures { λ r. ⌜ r ≡ length (printedOn sheet (now (file .entry))) ⌝ }
-    ensures { λ _. ⌜ now (buffer .exit) ≡ written (now (buffer .entry)) 0 (printedOn sheet (now (file .entry))) ⌝ }
+    ensures { λ r. ⌜ r ≡ length (printed (lineOn sheet) (now (file .entry))) ⌝ }
+    ensures { λ _. ⌜ now (buffer .exit) ≡ written (now (buffer .entry)) 0 (printed (lineOn sheet) (now (file .entry))) ⌝ }
 {
     let answer = dayfile::read(file);
     let reading = answer.reading;

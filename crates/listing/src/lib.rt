@@ -7,9 +7,9 @@ ghost use mathlib.Core.Path.{_≡_};
 ghost use lib.ListN.{length};
 ghost use Rattle.dayfile.specs.Layout.{mostSteps};
 ghost use Rattle.listing.specs.Text.{listed, handedOver};
-ghost use Rattle.listing.specs.Listing.{listing};
+ghost use Rattle.listing.specs.Listing.{printed, listing};
 ghost use Rattle.listing.specs.Panel.{panel};
-ghost use Rattle.listing.specs.Sheet.{room, printedOn};
+ghost use Rattle.listing.specs.Sheet.{lineOn, room};
 use day::print;
 
 // How many bytes were put at the front of the buffer, or that it is too short for them.
@@ -55,8 +55,8 @@ fn most_room() -> [u8; 426008]
 
 // A sheet of a file, at the front of the buffer, if it is long enough. A buffer that any sheet fits is written to at once.
 fn sheet_into(sheet: Sheet, file: &[u8], buffer: &mut [u8]) -> Listed
-    ensures { λ r. ⌜ r ≡ listed (printedOn sheet (now (file .entry))) (now (buffer .entry)) ⌝ }
-    ensures { λ _. ⌜ now (buffer .exit) ≡ handedOver (printedOn sheet (now (file .entry))) (now (buffer .entry)) ⌝ }
+    ensures { λ r. ⌜ r ≡ listed (printed (lineOn sheet) (now (file .entry))) (now (buffer .entry)) ⌝ }
+    ensures { λ _. ⌜ now (buffer .exit) ≡ handedOver (printed (lineOn sheet) (now (file .entry))) (now (buffer .entry)) ⌝ }
 {
     if room_for(sheet) <= buffer.len() {
         return Listed::Bytes(print(sheet, file, buffer));

@@ -1,12 +1,12 @@
 -- A text written at a place, and another after it.
-use mathlib.Core.Path.{_≡_, refl, sym, _∙_, ap}
+use mathlib.Core.Path.{_≡_, sym, _∙_, ap}
 use mathlib.Core.List.{List, [], _∷_, _++_, append-assoc, append-nil}
-use Prim.Native.Nat.{ℕ, zero, suc, _+_, _-_, _*_, _/_, _%_, _^_, _≤_, _<_}
+use Prim.Native.Nat.{ℕ, zero, suc, _+_, _-_, _/_, _%_, _≤_, _<_}
 use mathlib.Core.Bool.{Bool, true, false, cond}
 use native.Mathlib.Omega.{arith}
 use native.Mathlib.Nat.{add-assoc, add-zero, add-sub-cancel-left, mod-eq-of-lt}
 use lib.ListN.{length, take, drop, set, take-append-drop, length-append, length-drop}
-use lib.Seq.{length-take-le, take-length, drop-length, take-at, drop-at, drop-drop, set-split, take-append-add, drop-append-add, drop-append-le}
+use lib.Seq.{length-take-le, take-length, drop-length, take-at, drop-drop, set-split, drop-append-add}
 use lib.Dec.{ltb}
 use borrow.Author.Tests.{lt-ltb, le-ltb}
 use Rattle.text.specs.Text.{digit, digits, mostDigits, decimal, written}

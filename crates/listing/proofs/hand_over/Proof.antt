@@ -1,3 +1,4 @@
+-- By cases of the test of the lengths.
 use borrow.Author.Needs.{needs}
 use denote.Ref.{now}
 use mathlib.Core.Path.{refl, _∙_}

@@ -1,6 +1,7 @@
+-- The listing is the sheet of the steps.
 use borrow.Author.Needs.{needs}
 use Rattle.listing.specs.Listing.{listing}
-use Rattle.listing.specs.Sheet.{lineOn, printedOn}
+use Rattle.listing.specs.Sheet.{lineOn}
 use Rattle.listing.proofs.listing.Statement.{statement}
 use Rattle.listing.proofs.listing.Tie as tie
 
@@ -11,7 +12,7 @@ same-length : tie.Need-same-length
 same-length c = search needs
 
 returns : tie.Need-returns
-unfolding listing printedOn lineOn
+unfolding listing lineOn
 returns c = c .before .before .sheet-into .ensures
 
 pub listing-spec : {M : Type 1} → statement M

@@ -1,6 +1,7 @@
+-- The panel is the sheet of the posts.
 use borrow.Author.Needs.{needs}
 use Rattle.listing.specs.Panel.{panel}
-use Rattle.listing.specs.Sheet.{lineOn, printedOn}
+use Rattle.listing.specs.Sheet.{lineOn}
 use Rattle.listing.proofs.panel.Statement.{statement}
 use Rattle.listing.proofs.panel.Tie as tie
 
@@ -11,7 +12,7 @@ same-length : tie.Need-same-length
 same-length c = search needs
 
 returns : tie.Need-returns
-unfolding panel printedOn lineOn
+unfolding panel lineOn
 returns c = c .before .before .sheet-into .ensures
 
 pub panel-spec : {M : Type 1} → statement M

@@ -1,7 +1,10 @@
+-- Either the sheet is put into the buffer itself, or into room of its own whose front is handed over. The sheet fits that room, since the room
+-- keeps its length.
 use borrow.Author.Needs.{needs}
 use native.Mathlib.Omega.{arith}
 use denote.Ref.{now}
-use Rattle.listing.specs.Sheet.{printedOn}
+use Rattle.listing.specs.Listing.{printed}
+use Rattle.listing.specs.Sheet.{lineOn}
 use Rattle.listing.proofs.Puts.{front-fits, front-taken}
 use Rattle.listing.proofs.Handed.{put-at-once}
 use Rattle.listing.proofs.Days.{most-room}
@@ -21,7 +24,7 @@ returns : tie.Need-returns
 returns c =
     let a = c .before .before .before .before .before .before .before .before .args in
     let p = c .before .before .print in
-    put-at-once (now (a .buffer)) _ (printedOn (a .sheet) (now (a .file))) (p .result) (p .ensures) (p .kept .1 .1 .0)
+    put-at-once (now (a .buffer)) _ (printed (lineOn (a .sheet)) (now (a .file))) (p .result) (p .ensures) (p .kept .1 .1 .0)
 
 most-room-requires : tie.Need-most-room-requires
 most-room-requires c κs = search needs
@@ -45,7 +48,7 @@ part-hand-over-end c =
     let entry = at-most-room .before .before .before .before .before in
     let a = entry .args in
     let p = at-print2 .print2 in
-    front-fits (at-most-room .most-room .result) _ (printedOn (a .sheet) (now (a .file))) _ (p .ensures) (p .kept .1 .1 .0)
+    front-fits (at-most-room .most-room .result) _ (printed (lineOn (a .sheet)) (now (a .file))) _ (p .ensures) (p .kept .1 .1 .0)
 
 hand-over-requires : tie.Need-hand-over-requires
 hand-over-requires c κs = search needs
@@ -60,7 +63,7 @@ returns-2 c =
     let at-most-room = at-print2 .before .before in
     let entry = at-most-room .before .before .before .before .before in
     let a = entry .args in
-    rw (front-taken (at-most-room .most-room .result) _ (printedOn (a .sheet) (now (a .file))) _ (at-print2 .print2 .ensures))
+    rw (front-taken (at-most-room .most-room .result) _ (printed (lineOn (a .sheet)) (now (a .file))) _ (at-print2 .print2 .ensures))
     at (at-hand-over .hand-over .ensures)
 
 pub sheet-into-spec : {M : Type 1} → statement M

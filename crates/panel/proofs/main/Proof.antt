@@ -1,3 +1,4 @@
+-- So many bytes as were read lie within the buffer.
 use borrow.Author.Needs.{needs}
 use Rattle.input.proofs.Counted.{bytes-read}
 use Rattle.panel.proofs.main.Statement.{statement}

@@ -1,3 +1,4 @@
+-- So many bytes as the text has lie within the buffer.
 use borrow.Author.Needs.{needs}
 use denote.Ref.{now}
 use Rattle.listing.specs.Panel.{panel}

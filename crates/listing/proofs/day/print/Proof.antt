@@ -1,6 +1,7 @@
+-- By cases of what the reader answers. A day that is read has right settings, whole steps and at most 4,096 of them.
 use borrow.Author.Needs.{needs}
 use native.Mathlib.Omega.{arith}
-use mathlib.Core.Path.{_∙_, sym, ap, refl}
+use mathlib.Core.Path.{_∙_, sym, ap}
 use native.Mathlib.Nat.{zero-add}
 use denote.Ref.{now}
 use Rattle.dayfile.specs.declared.ReadAnswer.{ReadAnswer}

@@ -1,10 +1,11 @@
+-- The header, and then the lines.
 use borrow.Author.Needs.{needs}
 use native.Mathlib.Omega.{arith}
 use mathlib.Core.Path.{_∙_}
 use native.Mathlib.Nat.{zero-add}
 use denote.Ref.{now}
 use Rattle.section.specs.Fresh.{freshSection}
-use Rattle.listing.specs.Listing.{header, lines, printed}
+use Rattle.listing.specs.Listing.{header, lines, printedRead}
 use Rattle.listing.specs.Sheet.{lineOn, room}
 use Rattle.listing.proofs.Puts.{then}
 use Rattle.listing.proofs.Days.{header-length}
@@ -25,7 +26,7 @@ same-length : tie.Need-same-length
 same-length c = search needs
 
 returns : tie.Need-returns
-unfolding printed room
+unfolding printedRead room
 returns c =
     let at-put-lines = c .before .before in
     let at-put-header = at-put-lines .before .before .before .before in

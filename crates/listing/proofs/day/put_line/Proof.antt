@@ -1,7 +1,6 @@
+-- By cases of the sheet: the code and the definition put the same fields.
 use borrow.Author.Needs.{needs}
 use native.Mathlib.Omega.{arith}
-use denote.Ref.{now}
-use Rattle.listing.specs.Text.{inTurn}
 use Rattle.listing.specs.Listing.{stepLine}
 use Rattle.listing.specs.Panel.{panelLine}
 use Rattle.listing.specs.Sheet.{lineOn, lineRoom}

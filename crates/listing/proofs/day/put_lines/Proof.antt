@@ -1,3 +1,5 @@
+-- After i turns the state is the section before step i, and the lines of the steps 0 .. i − 1 stand in the buffer. Every section on the way is in
+-- its ranges, so it has at most sixteen posts, and a line has room.
 use Prim.Native.Nat.{_-_, _≤_}
 use mathlib.Core.Path.{_≡_, refl, _∙_, ap}
 use native.Mathlib.Omega.{arith}

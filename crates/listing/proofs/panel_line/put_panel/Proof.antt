@@ -1,9 +1,9 @@
+-- Four texts put one after another are the line. There is room, since a post takes six bytes and there are at most sixteen posts.
 use borrow.Author.Needs.{needs}
 use native.Mathlib.Omega.{arith}
 use denote.Ref.{now}
 use mathlib.Core.List.{[], _∷_}
-use Rattle.listing.specs.Text.{inTurn}
-use Rattle.listing.specs.Panel.{trackName, lampsOf, panelFields}
+use Rattle.listing.specs.Panel.{lampsOf, panelFields}
 use Rattle.listing.proofs.Puts.{number-length, number-then, then}
 use Rattle.listing.proofs.Shown.{lamps-length}
 use Rattle.listing.proofs.panel_line.put_panel.Statement.{statement}

@@ -1,3 +1,4 @@
+-- After p turns the lamps of the posts 0 .. p − 1 stand in the buffer, six bytes each.
 use Prim.Native.Nat.{_-_, _≤_}
 use mathlib.Core.Path.{_≡_, refl}
 use native.Mathlib.Omega.{arith}

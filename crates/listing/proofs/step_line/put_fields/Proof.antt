@@ -1,3 +1,4 @@
+-- Three texts put one after another are the line. Each has room, since a number has at most five digits and a word at most four letters.
 use borrow.Author.Needs.{needs}
 use denote.Ref.{now}
 use native.Mathlib.Omega.{arith}

@@ -1,3 +1,4 @@
+-- Two named numbers put one after the other are the header.
 use borrow.Author.Needs.{needs}
 use denote.Ref.{now}
 use native.Mathlib.Omega.{arith}

@@ -1,7 +1,7 @@
 use borrow.Author.Needs.{needs}
 use denote.Ref.{now}
 use native.Mathlib.Omega.{arith}
-use Rattle.listing.proofs.Puts.{then, number-length}
+use Rattle.listing.proofs.Puts.{then}
 use Rattle.listing.proofs.step_line.put_named.Statement.{statement}
 use Rattle.listing.proofs.step_line.put_named.Tie as tie
 

@@ -1,3 +1,4 @@
+-- A number and a byte are one text: what is put after a text continues it (`then`).
 use borrow.Author.Needs.{needs}
 use Rattle.text.proofs.Laws.{decimal-length}
 use Rattle.listing.proofs.Puts.{then}

@@ -1,3 +1,4 @@
+-- A named number and a number put one after the other are the line.
 use borrow.Author.Needs.{needs}
 use denote.Ref.{now}
 use native.Mathlib.Omega.{arith}
