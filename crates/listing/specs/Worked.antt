@@ -47,7 +47,8 @@ text (line ∷ rest) = ascii line ++ (ascii "\n" ++ text rest)
 
 -- unfolded, these have the listing and the panel compute
 unfoldable pub listingOf : List ℕ → List ℕ
-unfolding refusedLine header verdictFields fields stepLine sectionBefore answerTo lines printedRead printed listing inTurn word letter trackLetter digits decimal
+unfolding refusedLine header verdictFields fields stepLine sectionBefore answerTo lines printedRead printed listing inTurn word letter trackLetter
+    digits decimal
     refusals fresh saidBy readOf readVerdict refusalNumber lengthWrong trailerRight markRight settingsBytesRight zerosRight someMalformed
     firstMalformed leading wellAt wellFormed isWell trailerIn settingsIn stepsIn fromEnd settingsOf stepAt fourAt four
 listingOf file = listing file
