@@ -7,7 +7,7 @@ use native.Mathlib.Omega.{arith}
 use lib.ListN.{length}
 use lib.Dec.{ltb}
 use borrow.Author.Tests.{ltb-true}
-use Rattle.dayfile.specs.Layout.{mostSteps, stepCount, stepsIn, trailerIn, settingsIn, settingsOf}
+use Rattle.layout.specs.Layout.{mostSteps, stepCount, stepsIn, trailerIn, settingsIn, settingsOf}
 use Rattle.dayfile.specs.Tests.{lengthWrong, trailerRight, settingsBytesRight, firstMalformed, someMalformed, readVerdict, readOf}
 use Rattle.dayfile.specs.declared.Reading.{Reading}
 use Rattle.dayfile.specs.declared.Reading.the-variants.{Day, Refused}

@@ -1,7 +1,7 @@
 // Day files.
 ghost use mathlib.Core.Path.{_≡_};
 ghost use lib.ListN.{length};
-ghost use Rattle.dayfile.specs.Layout.{stepsPart};
+ghost use Rattle.layout.specs.Layout.{stepsPart};
 ghost use Rattle.dayfile.specs.Tests.{readOf, writeVerdict, writtenInto};
 ghost use Rattle.capi.specs.Files.{packedReading, packedSettings, packedWritten, settingsGiven};
 use crate::settings_given;

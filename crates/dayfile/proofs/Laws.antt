@@ -10,7 +10,7 @@ use lib.Dec.{leb}
 use borrow.Author.Tests.{ltb-false, leb-true, leb-false, ne-eqb}
 use Rattle.section.specs.Numbers.{stepLength}
 use Rattle.section.specs.Step.{wellFormed, isWell, decoded}
-use Rattle.dayfile.specs.Layout.{stepAt, stepCount}
+use Rattle.layout.specs.Layout.{stepAt, stepCount}
 use Rattle.dayfile.specs.Tests.{leading, wellAt, firstMalformed, someMalformed}
 
 -- ## The first number that fails a test

@@ -1,5 +1,4 @@
 pub mod Laws
-pub mod Numbers
 pub mod Parts
 pub mod Reader
 pub mod Writer

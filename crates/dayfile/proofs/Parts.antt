@@ -14,10 +14,10 @@ use Rattle.section.specs.declared.Settings.{Settings}
 use Rattle.section.specs.Bytes.{byte, pair, within, AllBytes}
 use Rattle.section.specs.Numbers.{leastPosts, mostPosts, largestLine}
 use Rattle.section.specs.Settings.{bit, noneFrom, settingsRight}
-use Rattle.dayfile.specs.Layout.{mostSteps, settingsLength, trailerLength, settingsDistance, stepsDistance, mark, pairBytes, four, fourBytes}
-use Rattle.dayfile.specs.Layout.{fourAt, settingsBytes, trailer, fromEnd, trailerIn, settingsIn, stepsIn, settingsOf}
+use Rattle.layout.specs.Layout.{mostSteps, settingsLength, trailerLength, settingsDistance, stepsDistance, mark, pairBytes, four, fourBytes}
+use Rattle.layout.specs.Layout.{fourAt, settingsBytes, trailer, fromEnd, trailerIn, settingsIn, stepsIn, settingsOf}
 use Rattle.dayfile.specs.Tests.{markRight, trailerRight, zerosRight, settingsBytesRight}
-use Rattle.dayfile.proofs.Numbers.{pair-number, four-number, pair-bytes, four-bytes, listed}
+use Rattle.layout.proofs.Numbers.{pair-number, four-number, pair-bytes, four-bytes, listed}
 
 pub both : (a b : Bool) → a && b ≡ true → (a ≡ true) × (b ≡ true)
 both true b e = (refl, e)

@@ -10,8 +10,8 @@ use lib.Dec.{ltb}
 use borrow.Author.Tests.{ltb-false, eqb-true, not-false, lt-ltb, le-ltb, eq-eqb}
 use Rattle.section.specs.declared.Settings.{Settings}
 use Rattle.section.specs.Numbers.{stepLength}
-use Rattle.dayfile.specs.Layout.{mostSteps, settingsLength, trailerLength, settingsDistance, longestFile, stepCount, fromEnd}
-use Rattle.dayfile.specs.Layout.{trailerIn, settingsIn, stepsIn, settingsOf}
+use Rattle.layout.specs.Layout.{mostSteps, settingsLength, trailerLength, settingsDistance, longestFile, stepCount, fromEnd}
+use Rattle.layout.specs.Layout.{trailerIn, settingsIn, stepsIn, settingsOf}
 use Rattle.dayfile.specs.Tests.{lengthWrong, trailerRight, settingsBytesRight, someMalformed, firstMalformed, refusalNumber}
 use Rattle.dayfile.specs.Tests.{readVerdict, notRead, readOf}
 use Rattle.dayfile.specs.declared.Reading.the-variants.{Day, Refused}

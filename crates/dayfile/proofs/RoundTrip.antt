@@ -13,8 +13,8 @@ use Rattle.section.specs.Bytes.{AllBytes}
 use Rattle.section.specs.Numbers.{stepLength}
 use Rattle.section.specs.Settings.{settingsRight}
 use Rattle.dayfile.specs.Tests.{lengthWrong, trailerRight, settingsBytesRight}
-use Rattle.dayfile.specs.Layout.{mostSteps, settingsDistance, stepsDistance, settingsBytes, trailer, stepCount, fileOf, trailerIn}
-use Rattle.dayfile.specs.Layout.{settingsIn, stepsIn, settingsOf, stepsPart}
+use Rattle.layout.specs.Layout.{mostSteps, settingsDistance, stepsDistance, settingsBytes, trailer, stepCount, fileOf, trailerIn}
+use Rattle.layout.specs.Layout.{settingsIn, stepsIn, settingsOf, stepsPart}
 use Rattle.dayfile.specs.Tests.{refusalIndex, writerRefusalIndex, someMalformed, firstMalformed, refusalNumber, readVerdict, readOf}
 use Rattle.dayfile.specs.Tests.{writeVerdict, writerRefusalNumber, writtenInto}
 use Rattle.dayfile.specs.declared.Reading.the-variants.{Day, Refused}
@@ -25,7 +25,8 @@ use Rattle.dayfile.proofs.Parts.{settings-said, settings-bytes-right, s
 use Rattle.dayfile.proofs.Parts.{steps-of, settings-of, trailer-of, of-its-parts, trailer-all-bytes, settings-all-bytes}
 use Rattle.dayfile.proofs.Reader.{LengthRight, not-wrong, trailer-length, settings-length, steps-length, few-steps, answer-day}
 use Rattle.dayfile.proofs.Reader.{DayRead, day-read}
-use Rattle.dayfile.proofs.Writer.{settings-long, trailer-long, BytesWritten, bytes-written}
+use Rattle.layout.proofs.Parts.{settings-long, trailer-long}
+use Rattle.dayfile.proofs.Writer.{BytesWritten, bytes-written}
 
 -- ## What is written is read back
 

@@ -13,22 +13,13 @@ use Rattle.section.specs.declared.Settings.{Settings}
 use Rattle.section.specs.Settings.{settingsRight}
 use Rattle.section.specs.Bytes.{byte}
 use Rattle.section.specs.Numbers.{stepLength}
-use Rattle.dayfile.specs.Layout.{mostSteps, settingsLength, trailerLength, settingsDistance, stepsDistance, mark, pairBytes}
-use Rattle.dayfile.specs.Layout.{fourBytes, settingsBytes, trailer, stepCount, fileOf}
+use Rattle.layout.specs.Layout.{mostSteps, settingsLength, trailerLength, settingsDistance, stepsDistance, mark, pairBytes}
+use Rattle.layout.specs.Layout.{fourBytes, settingsBytes, trailer, stepCount, fileOf}
 use Rattle.dayfile.specs.Tests.{firstMalformed, someMalformed, writerRefusalNumber, writeVerdict, writtenInto}
+use Rattle.layout.proofs.Parts.{settings-long}
 use Rattle.dayfile.proofs.Reader.{neither, past}
 use Rattle.dayfile.specs.declared.Written.{Written}
 use Rattle.dayfile.specs.declared.Written.the-variants.{Bytes, Refused}
-
--- ## Lengths
-
-pub settings-long : (c : Settings) → length (settingsBytes c) ≡ settingsLength
-unfolding settingsBytes pairBytes
-settings-long c = refl
-
-pub trailer-long : (count : ℕ) → length (trailer count) ≡ trailerLength
-unfolding trailer fourBytes
-trailer-long count = refl
 
 -- ## Parts of a buffer
 
@@ -123,23 +114,6 @@ module _ (c : Settings) (steps buffer : List ℕ) where
             let v : writeVerdict c steps (length buffer) ≡ Bytes (stepsDistance count) =
             rw (e₃, ← ec, ← ef, le-ltb _ _ h₄, le-ltb _ _ h₅, le-ltb _ _ h) in
             (sym v, rw v)
-
--- ## The settings and the trailer
-
-pub settings-are :
-    (c : Settings) (mask line : List ℕ) → mask ≡ pairBytes (c .mask) → line ≡ pairBytes (c .line) →
-    c .posts ∷ c .form ∷ byte mask 0 ∷ byte mask 1 ∷ byte line 0 ∷ byte line 1 ∷ 0 ∷ 0 ∷ [] ≡ settingsBytes c
-unfolding settingsBytes pairBytes
-settings-are c mask line e f = rw (e, f)
-
-pub trailer-is :
-    (count : ℕ) (near far number : List ℕ) → near ≡ fourBytes settingsDistance → far ≡ fourBytes (stepsDistance count) →
-    number ≡ fourBytes count →
-    byte mark 0 ∷ byte mark 1 ∷ byte mark 2 ∷ byte mark 3 ∷ byte near 0 ∷ byte near 1 ∷ byte near 2 ∷ byte near 3
-    ∷ byte far 0 ∷ byte far 1 ∷ byte far 2 ∷ byte far 3 ∷ byte number 0 ∷ byte number 1 ∷ byte number 2 ∷ byte number 3 ∷ []
-    ≡ trailer count
-unfolding trailer fourBytes
-trailer-is count near far number e f g = rw (e, f, g)
 
 pub steps-fit : (steps : List ℕ) → length steps ≤ stepLength * stepCount steps
 unfolding stepCount

@@ -5,7 +5,7 @@ use Prim.Native.Nat.{ℕ, _≤_}
 use lib.ListN.{length, take, drop}
 use Rattle.section.specs.declared.Settings.{Settings}
 use Rattle.section.specs.Bytes.{AllBytes}
-use Rattle.dayfile.specs.Layout.{stepCount, fileOf, stepsIn, stepsPart}
+use Rattle.layout.specs.Layout.{stepCount, fileOf, stepsIn, stepsPart}
 use Rattle.dayfile.specs.Tests.{refusalNumber, refusalIndex, writerRefusalNumber, writerRefusalIndex, readVerdict, readOf}
 use Rattle.dayfile.specs.Tests.{writeVerdict, writtenInto}
 use Rattle.dayfile.specs.declared.Reading.the-variants.{Day}

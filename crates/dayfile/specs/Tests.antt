@@ -9,8 +9,8 @@ use Rattle.section.specs.Bytes.{byte, pair}
 use Rattle.section.specs.Numbers.{stepLength}
 use Rattle.section.specs.Settings.{settingsRight}
 use Rattle.section.specs.Step.{wellFormed}
-use Rattle.dayfile.specs.Layout.{mostSteps, settingsDistance, stepsDistance, longestFile, mark, fourAt, stepCount, fileOf, trailerIn}
-use Rattle.dayfile.specs.Layout.{settingsIn, stepsIn, settingsOf, stepAt}
+use Rattle.layout.specs.Layout.{mostSteps, settingsDistance, stepsDistance, longestFile, mark, fourAt, stepCount, fileOf, trailerIn}
+use Rattle.layout.specs.Layout.{settingsIn, stepsIn, settingsOf, stepAt}
 use Rattle.dayfile.specs.declared.Reading.{Reading}
 use Rattle.dayfile.specs.declared.Reading.the-variants.{Day, Refused}
 use Rattle.dayfile.specs.declared.ReadAnswer.{ReadAnswer}

@@ -1,19 +1,15 @@
 // Day files (document 01, "The day file"): the reader and the writer.
-mod layout;
 mod tests;
 
 ghost use mathlib.Core.Path.{_≡_};
 ghost use Prim.Native.Nat.{_+_, _≤_};
 ghost use mathlib.Core.List.{_++_};
 ghost use lib.ListN.{length, take, drop};
-ghost use Rattle.dayfile.specs.Layout.{mostSteps, stepsDistance, stepCount, fileOf, stepsPart};
+ghost use Rattle.layout.specs.Layout.{mostSteps, stepsDistance, stepCount, fileOf, stepsPart};
 ghost use Rattle.dayfile.specs.Tests.{notRead, readOf, writeVerdict, writtenInto};
 use layout::MOST_STEPS;
 use layout::SETTINGS_DISTANCE;
 use layout::SETTINGS_LENGTH;
-pub use layout::pair_bytes;
-pub use layout::pair_of;
-pub use layout::settings_bytes;
 use section::STEP_LENGTH;
 use section::Settings;
 
@@ -115,7 +111,7 @@ pub fn write(c: Settings, steps: &[u8], buffer: &mut [u8]) -> Written
     ensures { λ r. ⌜ r ≡ writeVerdict c (now (steps .entry)) (length (now (buffer .entry))) ⌝ }
     ensures { λ _. ⌜ now (buffer .exit) ≡ writtenInto c (now (steps .entry)) (now (buffer .entry)) ⌝ }
 {
-    if !section::settings_right(c) {
+    if !ranges::settings_right(c) {
         return Written::Refused(3, 0);
     }
     let count = layout::step_count(steps);

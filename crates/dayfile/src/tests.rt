@@ -2,9 +2,8 @@
 ghost use mathlib.Core.Path.{_≡_};
 ghost use Prim.Native.Nat.{_≤_};
 ghost use lib.ListN.{length};
-ghost use Rattle.dayfile.specs.Layout.{mostSteps, settingsLength, trailerLength};
+ghost use Rattle.layout.specs.Layout.{mostSteps, settingsLength, trailerLength};
 ghost use Rattle.dayfile.specs.Tests.{lengthWrong, markRight, trailerRight, settingsBytesRight, firstMalformed};
-use crate::layout;
 use layout::MARK;
 use layout::MOST_STEPS;
 use layout::SETTINGS_DISTANCE;
@@ -64,10 +63,10 @@ pub(crate) fn settings_bytes_right(s: &[u8]) -> bool
     requires { ⌜ settingsLength ≤ length (now s) ⌝ }
     ensures { λ r. ⌜ r ≡ settingsBytesRight (now (s .entry)) ⌝ }
 {
-    if !section::settings_right(layout::settings_of(s)) {
+    if !ranges::settings_right(layout::settings_of(s)) {
         return false;
     }
-    layout::pair_of(s[6], s[7]) == 0
+    section::pair_of(s[6], s[7]) == 0
 }
 
 // The index of the first malformed step, or the number of steps where none is. An incomplete step follows the whole ones, and is malformed.
@@ -81,7 +80,7 @@ pub fn first_malformed(n: u8, steps: &[u8]) -> usize
             break i;
         }
         let at = i * STEP_LENGTH;
-        if !section::is_well_formed(n, &steps[at..at + STEP_LENGTH]) {
+        if !steps::is_well_formed(n, &steps[at..at + STEP_LENGTH]) {
             break i;
         }
         i += 1;

@@ -159,7 +159,7 @@ fn all_dark() -> Indications
 pub fn indications(s: Section, track: u8, post: u8) -> Indications
     ensures { λ r. ⌜ r ≡ indications s track post ⌝ }
 {
-    if !section::in_range(s) {
+    if !ranges::in_range(s) {
         return all_dark();
     }
     if track >= 2 {

@@ -14,7 +14,7 @@ pub use whole_day::accepted_count;
 pub fn judge(s: Section, bytes: &[u8]) -> Answer
     ensures { λ r. ⌜ r ≡ judge s (now (bytes .entry)) ⌝ }
 {
-    if !section::in_range(s) {
+    if !ranges::in_range(s) {
         return Answer {
             verdict: Verdict::Refused(6),
             section: s,

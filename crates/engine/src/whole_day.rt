@@ -19,7 +19,7 @@ fn counts_as(verdict: Verdict) -> usize
 pub fn accepted_count(c: Settings, steps: &[u8]) -> usize
     ensures { λ r. ⌜ r ≡ acceptedCount c (now (steps .entry)) ⌝ }
 {
-    if !section::settings_right(c) {
+    if !ranges::settings_right(c) {
         return 0;
     }
     let count = steps.len() / STEP_LENGTH;

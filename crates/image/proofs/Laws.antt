@@ -19,7 +19,7 @@ use Rattle.section.specs.Bytes.{byte}
 use Rattle.section.specs.Numbers.{mostPosts, mostBlocks}
 use Rattle.section.specs.Post.{blank}
 use Rattle.section.proofs.Laws.{and-left}
-use Rattle.dayfile.specs.Layout.{settingsLength, pairBytes, settingsBytes}
+use Rattle.layout.specs.Layout.{settingsLength, pairBytes, settingsBytes}
 use Rattle.text.specs.Text.{digits, written}
 use Rattle.text.proofs.Laws.{Put, put-nothing, put-then, written-length}
 use Rattle.image.specs.Image.{trackA, trackB, numberLength, postLength, postsLength}

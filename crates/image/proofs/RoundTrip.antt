@@ -17,7 +17,7 @@ use Rattle.section.specs.declared.Walk.the-variants.{Settled, Turn}
 use Rattle.section.specs.Bytes.{byte, pair}
 use Rattle.section.specs.Numbers.{mostPosts, mostBlocks}
 use Rattle.section.specs.Post.{blank}
-use Rattle.dayfile.specs.Layout.{pairBytes, settingsBytes, settingsOf}
+use Rattle.layout.specs.Layout.{pairBytes, settingsBytes, settingsOf}
 use Rattle.image.specs.Image.{numberLength, postLength, postsLength, numbersLength, headLength, imageLength, trackA, trackB}
 use Rattle.image.specs.Image.{flag, faultsByte, postImage, postsImage, numbersImage, actNumber, walkImage, trackHead, trackImage, imageOf}
 use Rattle.image.specs.Image.{numberAt, postAt, postsFrom, numbersFrom, walkOf, trackAt, sectionOf, postRight, postsRight, trackRight, imageRight}

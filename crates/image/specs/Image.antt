@@ -14,7 +14,7 @@ use Rattle.section.specs.declared.Walk.the-variants.{Settled, Turn}
 use Rattle.section.specs.Bytes.{byte, pair}
 use Rattle.section.specs.Numbers.{mostPosts, mostBlocks}
 use Rattle.section.specs.Post.{blank}
-use Rattle.dayfile.specs.Layout.{settingsLength, pairBytes, settingsBytes, settingsOf}
+use Rattle.layout.specs.Layout.{settingsLength, pairBytes, settingsBytes, settingsOf}
 
 -- ## Lengths and places
 

@@ -2,7 +2,7 @@
 ghost use mathlib.Core.Path.{_≡_};
 ghost use Prim.Native.Nat.{_+_, _≤_};
 ghost use lib.ListN.{length};
-ghost use Rattle.dayfile.specs.Layout.{settingsLength, settingsOf};
+ghost use Rattle.layout.specs.Layout.{settingsLength, settingsOf};
 ghost use Rattle.image.specs.Image.{imageLength, trackLength, postLength, postsLength, numberLength, numbersLength};
 ghost use Rattle.image.specs.Image.{numberAt, postAt, postsFrom, numbersFrom, walkOf, trackAt, sectionOf};
 use crate::LAST_TRAINS;
@@ -23,7 +23,7 @@ pub fn number_at(bytes: &[u8], at: usize) -> u16
     requires { ⌜ at + numberLength ≤ length (now bytes) ⌝ }
     ensures { λ r. ⌜ r ≡ numberAt (now (bytes .entry)) at ⌝ }
 {
-    dayfile::pair_of(bytes[at], bytes[at + 1])
+    section::pair_of(bytes[at], bytes[at + 1])
 }
 
 pub fn post_at(bytes: &[u8], at: usize) -> Post

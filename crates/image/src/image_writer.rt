@@ -31,7 +31,7 @@ pub fn faults_byte(o: Post) -> u8
 pub fn post_bytes(o: Post) -> [u8; 8]
     ensures { λ r. ⌜ r ≡ postImage o ⌝ }
 {
-    let seals = dayfile::pair_bytes(o.seals);
+    let seals = layout::pair_bytes(o.seals);
     [
         flag(o.cvt),
         flag(o.permission),
@@ -96,7 +96,7 @@ pub fn put_numbers(buffer: &mut [u8], at: usize, numbers: [u16; 15]) -> usize
     let mut next = at;
     let mut i = 0;
     while i < 15 {
-        let bytes = dayfile::pair_bytes(numbers[i]);
+        let bytes = layout::pair_bytes(numbers[i]);
         next = text::put_text(buffer, next, &bytes);
         i += 1;
     }
@@ -123,7 +123,7 @@ pub fn put_image(buffer: &mut [u8], s: Section)
     requires { ⌜ imageLength ≤ length (now buffer) ⌝ }
     ensures { λ _. ⌜ now (buffer .exit) ≡ written (now (buffer .entry)) 0 (imageOf s) ⌝ }
 {
-    let settings = dayfile::settings_bytes(s.settings);
+    let settings = layout::settings_bytes(s.settings);
     let a = text::put_text(buffer, 0, &settings);
     let b = put_track(buffer, a, s.a);
     put_track(buffer, b, s.b);

@@ -50,7 +50,7 @@ pub fn judge_in_range(mut s: Section, bytes: &[u8]) -> Answer
     ensures { λ r. ⌜ r ≡ judgeInRange s (now (bytes .entry)) ⌝ }
 {
     let c = s.settings;
-    let d = section::decode(c.posts, bytes);
+    let d = steps::decode(c.posts, bytes);
     let Decoded::Well(x) = d else {
         return Answer {
             verdict: Verdict::Refused(4),

@@ -22,7 +22,7 @@ use Rattle.section.specs.StepLaws.{and-left, and-right}
 use Rattle.section.proofs.Laws.{fresh-in-range}
 use Rattle.rules.specs.Judge.{judge}
 use Rattle.rules.proofs.RangeLaw.{ranges-kept}
-use Rattle.dayfile.specs.Layout.{mostSteps, settingsOf, settingsIn, stepAt, stepsIn, stepsPart}
+use Rattle.layout.specs.Layout.{mostSteps, settingsOf, settingsIn, stepAt, stepsIn, stepsPart}
 use Rattle.dayfile.specs.Tests.{readOf, refusalNumber, settingsBytesRight}
 use Rattle.dayfile.specs.declared.Reading.the-variants.{Day, Refused}
 use Rattle.dayfile.proofs.Laws.{all-whole}

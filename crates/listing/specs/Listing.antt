@@ -8,7 +8,7 @@ use Rattle.section.specs.declared.Verdict.{Verdict}
 use Rattle.section.specs.Fresh.{freshSection}
 use Rattle.section.specs.Words.{refusalOf, saidBy}
 use Rattle.rules.specs.Judge.{judge}
-use Rattle.dayfile.specs.Layout.{stepAt, stepsIn}
+use Rattle.layout.specs.Layout.{stepAt, stepsIn}
 use Rattle.dayfile.specs.Tests.{readOf}
 use Rattle.dayfile.specs.declared.Reading.{Reading}
 use Rattle.dayfile.specs.declared.Reading.the-variants.{Day, Refused}

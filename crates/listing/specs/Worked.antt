@@ -10,8 +10,8 @@ use Rattle.section.specs.declared.Step.the-variants.{Order, Set, Announce, Ackn
 use Rattle.section.specs.Words.{saidBy}
 use Rattle.section.specs.Step.{isWell, wellFormed}
 use Rattle.rules.specs.Indications.{setCount, isNextToSet, circulation, troncon, shown, lampsAt, dark, indicationsOn, indications}
-use Rattle.dayfile.specs.Layout.{pairBytes, four, fourBytes, fourAt, settingsBytes, trailer, stepCount, fileOf, fromEnd, trailerIn, settingsIn, stepsIn}
-use Rattle.dayfile.specs.Layout.{settingsOf, stepAt}
+use Rattle.layout.specs.Layout.{pairBytes, four, fourBytes, fourAt, settingsBytes, trailer, stepCount, fileOf, fromEnd, trailerIn, settingsIn, stepsIn}
+use Rattle.layout.specs.Layout.{settingsOf, stepAt}
 use Rattle.dayfile.specs.Tests.{refusalNumber, lengthWrong, markRight, trailerRight, zerosRight, settingsBytesRight, wellAt, leading}
 use Rattle.dayfile.specs.Tests.{firstMalformed, someMalformed, readVerdict, readOf}
 use Rattle.examples.specs.Days.{on, offeredAs, refusals, fresh}

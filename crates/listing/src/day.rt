@@ -6,7 +6,7 @@ ghost use lib.ListN.{length};
 ghost use Rattle.section.specs.Fresh.{freshSection};
 ghost use Rattle.section.specs.Numbers.{mostPosts, stepLength};
 ghost use Rattle.section.specs.Settings.{settingsRight};
-ghost use Rattle.dayfile.specs.Layout.{mostSteps};
+ghost use Rattle.layout.specs.Layout.{mostSteps};
 ghost use Rattle.dayfile.specs.declared.Reading.{Reading};
 ghost use Rattle.text.specs.Text.{written};
 ghost use Rattle.listing.specs.Listing.{lines, printedRead, printed};

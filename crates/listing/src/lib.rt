@@ -5,7 +5,7 @@ mod step_line;
 
 ghost use mathlib.Core.Path.{_≡_};
 ghost use lib.ListN.{length};
-ghost use Rattle.dayfile.specs.Layout.{mostSteps};
+ghost use Rattle.layout.specs.Layout.{mostSteps};
 ghost use Rattle.listing.specs.Text.{listed, handedOver};
 ghost use Rattle.listing.specs.Listing.{printed, listing};
 ghost use Rattle.listing.specs.Panel.{panel};

@@ -13,7 +13,7 @@ use Rattle.section.specs.declared.Step.the-variants.{Order, Set, Start, Pass, M
 use Rattle.section.specs.Post.{sealed}
 use Rattle.section.specs.Step.{isWell, wellFormed}
 use Rattle.section.specs.Store.{postOn, withPost, withTrack}
-use Rattle.dayfile.specs.Layout.{four, fourAt, stepCount, fromEnd, trailerIn, settingsIn, stepsIn, settingsOf, stepAt}
+use Rattle.layout.specs.Layout.{four, fourAt, stepCount, fromEnd, trailerIn, settingsIn, stepsIn, settingsOf, stepAt}
 use Rattle.dayfile.specs.Tests.{refusalNumber, lengthWrong, markRight, trailerRight, zerosRight, settingsBytesRight}
 use Rattle.dayfile.specs.Tests.{wellAt, leading, firstMalformed, someMalformed, readVerdict, readOf}
 use Rattle.examples.specs.Days.{on, offeredAs, refusals, fresh}

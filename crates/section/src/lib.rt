@@ -1,23 +1,18 @@
 // The vocabulary of direction blocking (document 01): settings, steps, the state of a section, answers.
 mod fresh_section;
+mod little_endian;
+mod positions;
 mod post_record;
-mod settings_range;
-mod state_range;
-mod step_bytes;
 
 pub use fresh_section::fresh;
+pub use little_endian::pair_of;
+pub use positions::block;
+pub use positions::is_first;
+pub use positions::is_last;
+pub use positions::is_signalled;
+pub use positions::is_upward;
+pub use positions::rank;
 pub use post_record::blank;
-pub use settings_range::is_signalled;
-pub use settings_range::settings_right;
-pub use state_range::block;
-pub use state_range::in_range;
-pub use state_range::is_first;
-pub use state_range::is_last;
-pub use state_range::is_upward;
-pub use state_range::rank;
-pub use step_bytes::decode;
-pub use step_bytes::encode;
-pub use step_bytes::is_well_formed;
 
 pub const LEAST_POSTS: u8 = 2;
 

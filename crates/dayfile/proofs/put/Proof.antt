@@ -1,5 +1,6 @@
 -- The three parts stand one after the other, so they are the file; a buffer keeps its length over each of them.
-use Rattle.dayfile.proofs.Writer.{file-put, settings-long, trailer-long, steps-fit}
+use Rattle.layout.proofs.Parts.{settings-long, trailer-long}
+use Rattle.dayfile.proofs.Writer.{file-put, steps-fit}
 use native.Mathlib.Omega.{arith}
 use denote.Ref.{now}
 use mathlib.Core.Path.{_∙_, ap}

@@ -2,7 +2,7 @@
 use native.Mathlib.Nat.{sub-zero, mul-comm}
 use lib.ListN.{length}
 use Prim.Native.Nat.{_*_}
-use Rattle.dayfile.specs.Layout.{stepsPart}
+use Rattle.layout.specs.Layout.{stepsPart}
 use borrow.Author.Tests.{lt-ltb, le-ltb}
 use native.Mathlib.Omega.{arith}
 use borrow.Author.Needs.{needs}

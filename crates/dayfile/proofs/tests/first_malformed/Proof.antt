@@ -7,7 +7,7 @@ use native.Mathlib.Omega.{arith}
 use lib.ListN.{length}
 use borrow.Author.Count.{below-more}
 use borrow.Author.Needs.{needs}
-use Rattle.dayfile.specs.Layout.{stepCount}
+use Rattle.layout.specs.Layout.{stepCount}
 use Rattle.dayfile.specs.Tests.{wellAt, firstMalformed}
 use Rattle.section.proofs.Told.{told-true, told-false}
 use Rattle.dayfile.proofs.Laws.{leading-is, well-here, incomplete}

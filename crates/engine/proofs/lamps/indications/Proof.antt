@@ -12,7 +12,7 @@ use Rattle.engine.proofs.lamps.indications.Reads as reads
 use Rattle.engine.proofs.lamps.indications.Lts as lts
 use Rattle.engine.proofs.lamps.all_dark.Reads as all-dark-reads
 use Rattle.engine.proofs.lamps.shown_on.Reads as shown-on-reads
-use Rattle.section.proofs.in_range.Reads as in-range-reads
+use Rattle.ranges.proofs.in_range.Reads as in-range-reads
 
 in-range-requires : tie.Need-in-range-requires
 in-range-requires c κs = search needs

@@ -1,5 +1,5 @@
 use Rattle.image.specs.Image.{numberAt}
-use Rattle.dayfile.specs.Layout.{settingsOf}
+use Rattle.layout.specs.Layout.{settingsOf}
 use borrow.Author.Needs.{needs}
 use Rattle.image.proofs.image_reader.settings_of.Statement.{statement}
 use Rattle.image.proofs.image_reader.settings_of.Tie as tie

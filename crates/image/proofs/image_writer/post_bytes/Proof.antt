@@ -1,4 +1,4 @@
-use Rattle.dayfile.specs.Layout.{pairBytes}
+use Rattle.layout.specs.Layout.{pairBytes}
 use Rattle.image.specs.Image.{postImage}
 use borrow.Author.Needs.{needs}
 use Rattle.image.proofs.image_writer.post_bytes.Statement.{statement}
