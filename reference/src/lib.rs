@@ -6,6 +6,7 @@ pub mod engine;
 pub mod generate;
 pub mod indications;
 pub mod listing;
+pub mod program;
 pub mod section;
 pub mod settings;
 pub mod step;
