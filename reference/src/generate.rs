@@ -62,7 +62,7 @@ impl Rng {
         1 + self.below(3) as u8
     }
 
-    /// From `least` to `most`.
+    /// From `least` to `most`, both included.
     pub fn between(&mut self, least: usize, most: usize) -> usize {
         least + self.below((most - least + 1) as u64) as usize
     }

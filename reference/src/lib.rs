@@ -1,5 +1,5 @@
-//! Direction blocking between two end stations: a second implementation,
-//! written from document 01 alone.
+//! Direction blocking between two end stations: a second implementation, written from
+//! document 01 and the readings that AMBIGUITIES.md names as given beforehand.
 
 pub mod dayfile;
 pub mod engine;

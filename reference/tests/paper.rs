@@ -269,30 +269,30 @@ fn flashing_where_the_post_before_has_set() {
 
 #[test]
 fn reader_refusals_in_order() {
-    let number = |file: &[u8]| {
+    let read = |file: &[u8]| {
         dayfile::read(file)
             .map(|_| ())
             .map_err(|r| (r.number, r.index))
     };
     let worked = worked_day();
-    assert!(number(&worked).is_ok());
+    assert!(read(&worked).is_ok());
     for length in [0, 8, 16, 23, 25, 31, worked.len() - 1] {
-        assert_eq!(number(&worked[..length]), Err((1, 0)));
+        assert_eq!(read(&worked[..length]), Err((1, 0)));
     }
     for place in worked.len() - 16..worked.len() {
         let mut file = worked.clone();
         file[place] ^= 1;
         file[worked.len() - 24] = 1;
-        assert_eq!(number(&file), Err((2, 0)));
+        assert_eq!(read(&file), Err((2, 0)));
     }
     let mut file = worked.clone();
     file[16] = 0;
     file[8] = 99;
-    assert_eq!(number(&file), Err((4, 1)));
+    assert_eq!(read(&file), Err((4, 1)));
     file[worked.len() - 17] = 1;
-    assert_eq!(number(&file), Err((3, 0)));
-    assert_eq!(number(&vec![0; GREATEST_LENGTH]), Err((2, 0)));
-    assert_eq!(number(&vec![0; GREATEST_LENGTH + 8]), Err((1, 0)));
+    assert_eq!(read(&file), Err((3, 0)));
+    assert_eq!(read(&vec![0; GREATEST_LENGTH]), Err((2, 0)));
+    assert_eq!(read(&vec![0; GREATEST_LENGTH + 8]), Err((1, 0)));
 }
 
 #[test]
