@@ -1,4 +1,4 @@
-//! Parts b and c: the engine, on sections of any kind and along days.
+//! The engine, on sections of any kind and along days.
 
 pub mod days;
 pub mod judging;

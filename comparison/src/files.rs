@@ -1,10 +1,10 @@
-//! Part a: reader and writer of day files.
+//! Reader and writer of day files.
 
 pub mod bounds;
 pub mod reader;
 pub mod writer;
 
-use crate::report::{none, Outcome};
+use crate::report::{fail_if_any, Outcome};
 use reference::generate::{random_settings, Rng};
 use reference::settings::Settings;
 use reference::step::STEP_LENGTH;
@@ -35,13 +35,15 @@ impl Refusals {
         println!();
     }
 
-    pub fn all_seen(&self, of: &str, expected: &[usize]) -> Outcome {
-        let missing: Vec<String> = expected
-            .iter()
-            .filter(|&&refusal| self.seen[refusal] == 0)
-            .map(|refusal| format!("{of}, {refusal}"))
-            .collect();
-        none("NEVER SEEN", &missing)
+    /// Every expected answer was given, and no other.
+    pub fn are_just(&self, expected: &[usize], of: &str) -> Outcome {
+        let (seen, unseen): (Vec<usize>, Vec<usize>) =
+            (0..self.seen.len()).partition(|&refusal| self.seen[refusal] > 0);
+        let missing = unseen.iter().filter(|refusal| expected.contains(refusal));
+        let strange = seen.iter().filter(|refusal| !expected.contains(refusal));
+        let named = |refusal: &usize| format!("{of}, {refusal}");
+        fail_if_any("NEVER SEEN", &missing.map(named).collect::<Vec<_>>())?;
+        fail_if_any("NOT EXPECTED", &strange.map(named).collect::<Vec<_>>())
     }
 }
 
@@ -67,32 +69,29 @@ fn trailer(mark: [u8; 4], numbers: [u32; 3]) -> [u8; 16] {
 
 /// From `least` to `most` well-formed steps.
 fn sound_steps(rng: &mut Rng, n: u8, least: usize, most: usize) -> Vec<u8> {
-    let count = least + rng.below((most - least + 1) as u64) as usize;
+    let count = rng.between(least, most);
     (0..count).flat_map(|_| sound_step(rng, n)).collect()
 }
 
-/// The step with up to two sound ones before it and one behind.
-fn among_sound_steps(rng: &mut Rng, n: u8, step: [u8; STEP_LENGTH]) -> Vec<u8> {
-    let mut steps = sound_steps(rng, n, 0, 2);
-    steps.extend(step);
-    steps.extend(sound_steps(rng, n, 0, 1));
-    steps
-}
-
-/// Well-formed settings for n posts.
-fn settings_for(rng: &mut Rng, n: u8) -> Settings {
-    Settings {
+/// Well-formed settings for n posts, and the step with up to two sound ones before it and one
+/// behind.
+fn day_around(rng: &mut Rng, n: u8, step: [u8; STEP_LENGTH]) -> (Settings, Vec<u8>) {
+    let settings = Settings {
         n,
         mask: 1 | 1 << (n - 1),
         ..random_settings(rng)
-    }
+    };
+    let mut steps = sound_steps(rng, n, 0, 2);
+    steps.extend(step);
+    steps.extend(sound_steps(rng, n, 0, 1));
+    (settings, steps)
 }
 
 /// A well-formed step of any kind.
 pub fn sound_step(rng: &mut Rng, n: u8) -> [u8; STEP_LENGTH] {
     let kind = 1 + rng.below(13) as u8;
     let fault = match kind {
-        10 | 11 => 1 + rng.below(3) as u8,
+        10 | 11 => rng.fault(),
         _ => 0,
     };
     let number = match kind {
@@ -101,7 +100,7 @@ pub fn sound_step(rng: &mut Rng, n: u8) -> [u8; STEP_LENGTH] {
         _ => 0,
     };
     let [low, high] = number.to_le_bytes();
-    let post = rng.below(u64::from(n)) as u8;
+    let post = rng.post(n);
     [kind, rng.flag(), post, fault, low, high, 0, 0]
 }
 

@@ -13,8 +13,8 @@ const LAST: usize = 162;
 const POST_LENGTH: usize = 8;
 /// The start permission of post 0 on track B.
 pub const PERMISSION_B_0: usize = TRACKS[1] + POSTS + 1;
-const MOST_FAULTS: u8 = 7;
-const MOST_ACTS: u8 = 3;
+const ALL_FAULTS: u8 = 7;
+const GREATEST_ACT: u8 = 3;
 
 pub fn image_of(section: &Section) -> [u8; IMAGE_LENGTH] {
     let mut image = [0; IMAGE_LENGTH];
@@ -123,11 +123,11 @@ fn word(bytes: &[u8]) -> u16 {
 
 /// Looks at all sixteen posts.
 fn has_values(track: &Track) -> bool {
-    track.direction <= 1 && track.act <= MOST_ACTS && track.posts.iter().all(post_has_values)
+    track.direction <= 1 && track.act <= GREATEST_ACT && track.posts.iter().all(post_has_values)
 }
 
 fn post_has_values(post: &Post) -> bool {
-    (post.device | post.permission | post.measures | post.mark) <= 1 && post.faults <= MOST_FAULTS
+    (post.device | post.permission | post.measures | post.mark) <= 1 && post.faults <= ALL_FAULTS
 }
 
 /// Gives the posts past the last one values that an image can hold.
@@ -142,7 +142,7 @@ pub fn make_representable(section: &mut Section) {
         post.permission &= 1;
         post.measures &= 1;
         post.mark &= 1;
-        post.faults &= MOST_FAULTS;
+        post.faults &= ALL_FAULTS;
     }
 }
 

@@ -1,9 +1,11 @@
 //! Buffers lent to a call.
 
+use crate::report::{same_bytes, Outcome};
+
 const GUARD: usize = 16;
 
 /// A buffer between guards that no call may touch.
-#[derive(Clone)]
+#[derive(Clone, PartialEq)]
 pub struct Lent {
     bytes: Vec<u8>,
 }
@@ -32,9 +34,18 @@ impl Lent {
     pub fn content(&self) -> &[u8] {
         &self.bytes[GUARD..self.bytes.len() - GUARD]
     }
+}
 
-    /// With the guards, whose first stands at bytes 0 to 15.
-    pub fn with_guards(&self) -> &[u8] {
-        &self.bytes
+/// A failure unless both implementations left the same buffer, guards included.
+pub fn same_buffers(
+    what: &str,
+    proved: &Lent,
+    second: &Lent,
+    input: &dyn Fn() -> String,
+) -> Outcome {
+    if proved == second {
+        return Ok(());
     }
+    let what = format!("{what} ({GUARD} bytes of guard first)");
+    same_bytes(&what, &proved.bytes, &second.bytes, input)
 }

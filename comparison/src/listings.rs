@@ -1,9 +1,9 @@
-//! Part d: the bench listing and the panel listing of day files.
+//! The bench listing and the panel listing of day files.
 
 use crate::files::Refusals;
-use crate::lent::Lent;
+use crate::lent::{same_buffers, Lent};
 use crate::proved;
-use crate::report::{hex, same, same_bytes, Outcome};
+use crate::report::{hex, same, Comparison, Outcome};
 use reference::dayfile::{self, MOST_STEPS};
 use reference::generate::{damage, random_day, Rng};
 use reference::listing;
@@ -33,15 +33,15 @@ const KINDS: [Kind; 2] = [
     },
 ];
 
-impl ListingComparison {
-    pub fn new(rng: Rng) -> ListingComparison {
+impl Comparison for ListingComparison {
+    fn new(rng: Rng) -> ListingComparison {
         ListingComparison {
             rng,
             seen: Refusals::default(),
         }
     }
 
-    pub fn all(&mut self) -> Outcome {
+    fn all(&mut self) -> Outcome {
         for (times, least, most) in [
             (50, 0, 0),
             (1_500, 1, 40),
@@ -50,13 +50,15 @@ impl ListingComparison {
             (4, MOST_STEPS, MOST_STEPS),
         ] {
             for _ in 0..times {
-                let count = least + self.rng.below((most - least + 1) as u64) as usize;
+                let count = self.rng.between(least, most);
                 self.day_and_damaged_day(count)?;
             }
         }
         Ok(())
     }
+}
 
+impl ListingComparison {
     fn day_and_damaged_day(&mut self, count: usize) -> Outcome {
         let mut file = random_day(&mut self.rng, count);
         self.compare(&file)?;
@@ -99,10 +101,10 @@ impl Kind {
             answer,
             &input,
         )?;
-        same_bytes(
-            &format!("the buffer of {} (16 bytes of guard first)", self.name),
-            buffer.with_guards(),
-            expected.with_guards(),
+        same_buffers(
+            &format!("the buffer of {}", self.name),
+            &buffer,
+            &expected,
             &input,
         )
     }

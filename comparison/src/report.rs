@@ -18,10 +18,27 @@ pub struct Run {
 }
 
 impl Run {
-    /// Its own generator for each part.
-    pub fn rng(&self, part: u64) -> Rng {
-        Rng::new(self.seed.wrapping_add(part))
+    /// A generator of its own for each number.
+    pub fn rng(&self, number: u64) -> Rng {
+        Rng::new(self.seed.wrapping_add(number))
     }
+
+    /// The comparison, made as often as the arguments say.
+    pub fn compare<C: Comparison>(&self, number: u64) -> Result<C, Failure> {
+        let mut comparison = C::new(self.rng(number));
+        for _ in 0..self.times {
+            comparison.all()?;
+        }
+        Ok(comparison)
+    }
+}
+
+/// Inputs drawn with a generator and given to both implementations.
+pub trait Comparison {
+    fn new(rng: Rng) -> Self;
+
+    /// Once through every group of inputs.
+    fn all(&mut self) -> Outcome;
 }
 
 /// Runs a program's work and turns its outcome into the exit status.
@@ -84,11 +101,11 @@ fn first_difference(proved: &[u8], second: &[u8]) -> usize {
         .unwrap_or(shared)
 }
 
-/// A failure that names what there is of a kind of which there should be nothing.
-pub fn none(kind: &str, found: &[String]) -> Outcome {
+/// A failure that names all that was found, unless nothing was.
+pub fn fail_if_any(what: &str, found: &[String]) -> Outcome {
     match found.is_empty() {
         true => Ok(()),
-        false => Err(Failure(format!("{kind}: {}", found.join("; ")))),
+        false => Err(Failure(format!("{what}: {}", found.join("; ")))),
     }
 }
 

@@ -71,6 +71,14 @@ pub fn write(settings: &Settings, steps: &[u8], buffer: &mut [u8]) -> Result<usi
     Ok(length)
 }
 
+/// The file in a buffer of just its length.
+pub fn file_of(settings: &Settings, steps: &[u8]) -> Result<Vec<u8>, Refusal> {
+    let mut file = vec![0; steps.len() + TAIL_LENGTH];
+    let length = write(settings, steps, &mut file)?;
+    assert_eq!(length, file.len());
+    Ok(file)
+}
+
 fn length_fits(length: usize) -> bool {
     (TAIL_LENGTH..=GREATEST_LENGTH).contains(&length) && length.is_multiple_of(STEP_LENGTH)
 }

@@ -1,6 +1,6 @@
 //! Seeded random settings, sections, steps and days, for tests and comparisons.
 
-use crate::dayfile::{self, GREATEST_LENGTH, MOST_STEPS, TAIL_LENGTH};
+use crate::dayfile::{self, GREATEST_LENGTH, MOST_STEPS, TAIL_LENGTH, TRAILER_LENGTH};
 use crate::engine;
 use crate::section::{
     Post, Section, Track, ACKNOWLEDGE, ANNOUNCE, FAULT_1, FAULT_2, FAULT_3, MOST_SEALS,
@@ -50,6 +50,21 @@ impl Rng {
     /// One or zero.
     pub fn flag(&mut self) -> u8 {
         self.below(2) as u8
+    }
+
+    /// A post of a section of n posts.
+    pub fn post(&mut self, n: u8) -> u8 {
+        self.below(u64::from(n)) as u8
+    }
+
+    /// The number of a fault, 1 to 3.
+    pub fn fault(&mut self) -> u8 {
+        1 + self.below(3) as u8
+    }
+
+    /// From `least` to `most`, both included.
+    pub fn between(&mut self, least: usize, most: usize) -> usize {
+        least + self.below((most - least + 1) as u64) as usize
     }
 
     pub fn pick<T: Copy>(&mut self, from: &[T]) -> T {
@@ -177,21 +192,16 @@ fn set_step(rng: &mut Rng, section: &Section, track: usize, post: u8) -> Step {
 /// A pass or leave of a train that is there, if there is one.
 fn movement(rng: &mut Rng, section: &Section, track: usize) -> Step {
     let way = section.way(track);
-    let sections = usize::from(section.settings.n) - 1;
-    let trains = &section.tracks[track].trains[..sections];
-    let held: Vec<usize> = (0..sections).filter(|&i| trains[i] != 0).collect();
-    if held.is_empty() {
-        let post = rng.below(u64::from(section.settings.n)) as u8;
-        let train = likely_number(rng, section, track);
-        return if post == way.receiving_end() {
-            Step::Leave { post, train }
-        } else {
-            Step::Pass { post, train }
-        };
-    }
-    let block_section = rng.pick(&held);
-    let train = trains[block_section];
-    let post = block_section as u8 + u8::from(way.upward);
+    let trains = section.trains(track);
+    let held: Vec<usize> = (0..trains.len()).filter(|&i| trains[i] != 0).collect();
+    let (post, train) = if held.is_empty() {
+        let post = rng.post(section.settings.n);
+        (post, likely_number(rng, section, track))
+    } else {
+        let block_section = rng.pick(&held);
+        let post = block_section as u8 + u8::from(way.upward);
+        (post, trains[block_section])
+    };
     if post == way.receiving_end() {
         Step::Leave { post, train }
     } else {
@@ -202,7 +212,7 @@ fn movement(rng: &mut Rng, section: &Section, track: usize) -> Step {
 fn local_step(rng: &mut Rng, section: &Section, track: usize) -> Step {
     let post = turn_or_any(rng, section, track);
     let record = section.tracks[track].posts[usize::from(post)];
-    let fault = 1 + rng.below(3) as u8;
+    let fault = rng.fault();
     match rng.below(20) {
         0..=8 => Step::MeasuresOn { post },
         9..=11 => Step::MeasuresOff { post },
@@ -243,14 +253,13 @@ fn turn_or_any(rng: &mut Rng, section: &Section, track: usize) -> u8 {
     match rng.below(4) {
         0 if kept.reversal_under_way() => kept.turn,
         1 => section.way(track).sending_end(),
-        _ => rng.below(u64::from(section.settings.n)) as u8,
+        _ => rng.post(section.settings.n),
     }
 }
 
 /// From a small stock, so that numbers come again; at times one that is on the track.
 fn likely_number(rng: &mut Rng, section: &Section, track: usize) -> u16 {
-    let sections = usize::from(section.settings.n) - 1;
-    let on_track = rng.pick(&section.tracks[track].trains[..sections]);
+    let on_track = rng.pick(section.trains(track));
     match rng.below(20) {
         0..=2 if on_track != 0 => on_track,
         0..=12 => 1 + rng.below(20) as u16,
@@ -260,9 +269,9 @@ fn likely_number(rng: &mut Rng, section: &Section, track: usize) -> u16 {
 }
 
 fn random_step(rng: &mut Rng, n: u8) -> Step {
-    let post = rng.below(u64::from(n)) as u8;
+    let post = rng.post(n);
     let train = 1 + rng.below(30) as u16;
-    let fault = 1 + rng.below(3) as u8;
+    let fault = rng.fault();
     match rng.below(13) {
         0 => Step::Order { post },
         1 => Step::Set { post },
@@ -291,7 +300,7 @@ fn nudged(rng: &mut Rng, bytes: [u8; STEP_LENGTH], n: u8) -> [u8; STEP_LENGTH] {
         0 => changed[1] ^= 1,
         1 => changed[2] = bytes[2].wrapping_add(1),
         2 => changed[2] = bytes[2].wrapping_sub(1),
-        3 => changed[3] = 1 + rng.below(3) as u8,
+        3 => changed[3] = rng.fault(),
         4 => changed[4..6].copy_from_slice(&train.wrapping_add(1).to_le_bytes()),
         _ => changed[4..6].copy_from_slice(&train.wrapping_sub(1).to_le_bytes()),
     }
@@ -329,16 +338,12 @@ fn random_track(rng: &mut Rng, settings: &Settings, track: usize) -> Track {
         };
     }
     for i in 0..kept.trains.len() {
-        kept.trains[i] = if i < n - 1 {
-            random_train(rng, density)
-        } else {
-            rng.word()
+        let mut number = |density| match i < n - 1 {
+            true => random_train(rng, density),
+            false => rng.word(),
         };
-        kept.last[i] = if i < n - 1 {
-            random_train(rng, 7)
-        } else {
-            rng.word()
-        };
+        kept.trains[i] = number(density);
+        kept.last[i] = number(7);
     }
     choose_turn(rng, &mut kept, settings.n, track);
     kept
@@ -396,7 +401,7 @@ fn random_train(rng: &mut Rng, density: u64) -> u16 {
 fn choose_turn(rng: &mut Rng, track: &mut Track, n: u8, number: usize) {
     let way = Way::of(number, track.direction, n);
     track.act = rng.pick(&[NO_REVERSAL, NO_REVERSAL, SET, SET, ANNOUNCE, ACKNOWLEDGE]);
-    let post = rng.below(u64::from(n)) as u8;
+    let post = rng.post(n);
     track.turn = match track.act {
         NO_REVERSAL => 0,
         ANNOUNCE if post == way.receiving_end() => way.sending_end(),
@@ -409,7 +414,7 @@ fn choose_turn(rng: &mut Rng, track: &mut Track, n: u8, number: usize) {
 pub fn put_out_of_range(rng: &mut Rng, section: &mut Section) {
     let n = section.settings.n;
     let number = usize::from(rng.flag());
-    let post = rng.below(u64::from(n)) as usize;
+    let post = usize::from(rng.post(n));
     let block_section = rng.below(u64::from(n) - 1) as usize;
     let way = section.way(number);
     let track = &mut section.tracks[number];
@@ -446,20 +451,18 @@ pub fn random_day(rng: &mut Rng, count: usize) -> Vec<u8> {
         engine::judge_in_place(&mut section, &step);
         steps.extend_from_slice(&step);
     }
-    let mut file = vec![0; steps.len() + TAIL_LENGTH];
-    dayfile::write(&settings, &steps, &mut file).expect("the steps are well-formed");
-    file
+    dayfile::file_of(&settings, &steps).expect("the steps are well-formed")
 }
 
 /// Spoils a file; now and then it stays readable.
 pub fn damage(rng: &mut Rng, file: &mut Vec<u8>) {
     match rng.below(10) {
         0 => file.truncate(rng.below(file.len() as u64 + 1) as usize),
-        1 => file.truncate(file.len().saturating_sub(8)),
+        1 => file.truncate(file.len().saturating_sub(STEP_LENGTH)),
         2 => file.extend((0..rng.below(20)).map(|i| i as u8)),
         3 => file.splice(0..0, [0; STEP_LENGTH]).for_each(drop),
         4 => file.resize(GREATEST_LENGTH + rng.pick(&[0, 1, 8]), 0),
-        5 => replace_byte(rng, file, 16),
+        5 => replace_byte(rng, file, TRAILER_LENGTH),
         6 => replace_byte(rng, file, TAIL_LENGTH),
         7 => flip_bit(rng, file, TAIL_LENGTH),
         _ => replace_byte(rng, file, usize::MAX),

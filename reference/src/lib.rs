@@ -1,11 +1,12 @@
-//! Direction blocking between two end stations: a second implementation,
-//! written from document 01 alone.
+//! Direction blocking between two end stations: a second implementation, written from
+//! document 01 and the readings that AMBIGUITIES.md names as given beforehand.
 
 pub mod dayfile;
 pub mod engine;
 pub mod generate;
 pub mod indications;
 pub mod listing;
+pub mod program;
 pub mod section;
 pub mod settings;
 pub mod step;

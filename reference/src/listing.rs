@@ -7,10 +7,27 @@ use crate::section::{Section, Track};
 use crate::step::STEP_LENGTH;
 use crate::way::VNS;
 
-/// Room for the longest usual line: `4095 21 CVTz c V`.
+/// Room for the longest usual line of a listing: `4095 21 CVTz c V`.
 const LINE_LENGTH: usize = 18;
 
+/// A step of the day, its answer, and the section after it.
+struct Judged<'a> {
+    step: &'a [u8],
+    refusal: u8,
+    said: u8,
+    section: &'a Section,
+}
+
 pub fn listing(file: &[u8]) -> Vec<u8> {
+    lines(file, push_answer)
+}
+
+pub fn panel(file: &[u8]) -> Vec<u8> {
+    lines(file, push_panel_of_track)
+}
+
+/// The header and a line a step, each with the step's index in front.
+fn lines(file: &[u8], push_rest: impl Fn(&mut Vec<u8>, &Judged)) -> Vec<u8> {
     let day = match dayfile::read(file) {
         Ok(day) => day,
         Err(refusal) => return refused(refusal),
@@ -21,41 +38,35 @@ pub fn listing(file: &[u8]) -> Vec<u8> {
     for (index, step) in day.steps.chunks_exact(STEP_LENGTH).enumerate() {
         let (refusal, said) = engine::judge_in_place(&mut section, step);
         push_number(&mut out, index);
-        out.push(b' ');
-        push_number(&mut out, usize::from(refusal));
-        out.push(b' ');
-        out.extend_from_slice(said_text(said));
-        out.push(b' ');
-        out.push(direction_letter(&section.tracks[0]));
-        out.push(b' ');
-        out.push(direction_letter(&section.tracks[1]));
+        let judged = Judged {
+            step,
+            refusal,
+            said,
+            section: &section,
+        };
+        push_rest(&mut out, &judged);
         out.push(b'\n');
     }
     out
 }
 
-pub fn panel(file: &[u8]) -> Vec<u8> {
-    let day = match dayfile::read(file) {
-        Ok(day) => day,
-        Err(refusal) => return refused(refusal),
-    };
-    let mut out = Vec::new();
-    push_header(&mut out, &day);
-    let mut section = Section::fresh(day.settings);
-    for (index, step) in day.steps.chunks_exact(STEP_LENGTH).enumerate() {
-        engine::judge_in_place(&mut section, step);
-        push_number(&mut out, index);
-        push_panel_of_track(&mut out, &section, step[1]);
-        out.push(b'\n');
+fn push_answer(out: &mut Vec<u8>, judged: &Judged) {
+    out.push(b' ');
+    push_number(out, usize::from(judged.refusal));
+    out.push(b' ');
+    out.extend_from_slice(said_text(judged.said));
+    for track in &judged.section.tracks {
+        out.push(b' ');
+        out.push(direction_letter(track));
     }
-    out
 }
 
-fn push_panel_of_track(out: &mut Vec<u8>, section: &Section, track: u8) {
+fn push_panel_of_track(out: &mut Vec<u8>, judged: &Judged) {
+    let track = judged.step[1];
     out.push(b' ');
     out.push(b'A' + track);
-    for post in 0..section.settings.n {
-        let (circulation, troncon, permission) = indications(section, track, post);
+    for post in 0..judged.section.settings.n {
+        let (circulation, troncon, permission) = indications(judged.section, track, post);
         out.extend_from_slice(&[
             b' ',
             b'0' + circulation,

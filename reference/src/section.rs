@@ -72,6 +72,11 @@ impl Section {
     pub fn way(&self, track: usize) -> Way {
         Way::of(track, self.tracks[track].direction, self.settings.n)
     }
+
+    /// The train in each block section of the track, 0 for none; n from 2 to 16.
+    pub fn trains(&self, track: usize) -> &[u16] {
+        &self.tracks[track].trains[..usize::from(self.settings.n) - 1]
+    }
 }
 
 impl Track {

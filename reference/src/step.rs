@@ -20,6 +20,22 @@ pub enum Step {
     Key { post: u8 },
 }
 
+pub fn start(post: u8, train: u16) -> Step {
+    Step::Start { post, train }
+}
+
+pub fn pass(post: u8, train: u16) -> Step {
+    Step::Pass { post, train }
+}
+
+pub fn leave(post: u8, train: u16) -> Step {
+    Step::Leave { post, train }
+}
+
+pub fn release(post: u8, train: u16) -> Step {
+    Step::Release { post, train }
+}
+
 /// The track and the step, or `None` for a malformed step of a section of n posts.
 pub fn decode(bytes: &[u8], n: u8) -> Option<(u8, Step)> {
     let &[kind, track, post, fault, train_low, train_high, zero_6, zero_7] =
@@ -102,9 +118,10 @@ mod tests {
                     let expected = (1..=13).contains(&kind)
                         && fault_fits(kind, fault)
                         && train_fits(kind, train);
-                    match decode(&bytes, 5) {
-                        Some((track, step)) => assert_eq!(encode(track, &step), bytes),
-                        None => assert!(!expected, "{bytes:?}"),
+                    let decoded = decode(&bytes, 5);
+                    assert_eq!(decoded.is_some(), expected, "{bytes:?}");
+                    if let Some((track, step)) = decoded {
+                        assert_eq!(encode(track, &step), bytes);
                     }
                 }
             }

@@ -7,6 +7,7 @@ mod every_refusal;
 mod lengths;
 mod refused;
 mod stretches;
+pub mod table;
 mod written;
 
 use crate::dayfile::MOST_STEPS;

@@ -57,7 +57,14 @@ fn demand_3() {
         tally.days_at_rest,
         tally.reordered
     );
+    assert!(tally.ended_runs > 0, "no run ended");
+    assert!(tally.runs > tally.ended_runs, "every run ended");
+    assert!(tally.reversals > 0, "no reversal ended");
     assert!(tally.reordered > 0, "no day needed a reordering");
+    assert!(
+        tally.days_at_rest > tally.reordered,
+        "every day needed a reordering"
+    );
 }
 
 fn check_day(rng: &mut Rng, tally: &mut Tally) {
@@ -68,10 +75,15 @@ fn check_day(rng: &mut Rng, tally: &mut Tally) {
     tally.accepted += accepted.len();
     check_runs(&accepted, &end, tally);
     check_starters(&end);
-    if end.tracks.iter().all(|track| !track.reversal_under_way()) {
+    if at_rest(&end) {
         tally.days_at_rest += 1;
         check_order_without_trains_in_reversals(&accepted, &end, tally);
     }
+}
+
+fn at_rest(section: &Section) -> bool {
+    let mut tracks = section.tracks.iter();
+    tracks.all(|track| !track.reversal_under_way())
 }
 
 // The lists.
@@ -90,11 +102,7 @@ fn random_list(rng: &mut Rng, settings: Settings) -> Vec<Vec<u8>> {
     };
     let keen = rng.chance(1, 2);
     for place in 0..length + closing {
-        let at_rest = section
-            .tracks
-            .iter()
-            .all(|track| !track.reversal_under_way());
-        if place >= length && at_rest {
+        if place >= length && at_rest(&section) {
             break;
         }
         let furthering = place >= length || keen && rng.chance(1, 2);
@@ -288,9 +296,9 @@ fn meets_train_in_reversal(accepted: &[Accepted], settings: Settings) -> bool {
 }
 
 fn train_in_reversal(section: &Section) -> bool {
-    let sections = usize::from(section.settings.n) - 1;
-    section.tracks.iter().any(|track| {
-        track.reversal_under_way() && track.trains[..sections].iter().any(|&train| train != 0)
+    (0..2).any(|track| {
+        let reversing = section.tracks[track].reversal_under_way();
+        reversing && section.trains(track).iter().any(|&train| train != 0)
     })
 }
 

@@ -88,8 +88,13 @@ fn far_cells_are_not_looked_at() {
         let (mut with, without) = (judge(&section, &step), judge(&clean, &step));
         clear_far_cells(&mut with.section);
         assert_eq!(with, without);
-        for post in 0..17 {
-            assert_eq!(indications(&section, 1, post), indications(&clean, 1, post));
+        for track in [0, 1] {
+            for post in 0..17 {
+                assert_eq!(
+                    indications(&section, track, post),
+                    indications(&clean, track, post)
+                );
+            }
         }
     }
 }
@@ -128,17 +133,15 @@ fn fresh_never_panics() {
     }
 }
 
-fn far_cells(section: &Section) -> Vec<(Vec<Post>, Vec<u16>, Vec<u16>)> {
+fn far_cells(section: &Section) -> [(Vec<Post>, Vec<u16>, Vec<u16>); 2] {
     let n = usize::from(section.settings.n);
-    let far = |t: usize| {
-        let track = &section.tracks[t];
+    section.tracks.map(|track| {
         (
             track.posts[n..].to_vec(),
             track.trains[n - 1..].to_vec(),
             track.last[n - 1..].to_vec(),
         )
-    };
-    vec![far(0), far(1)]
+    })
 }
 
 fn clear_far_cells(section: &mut Section) {

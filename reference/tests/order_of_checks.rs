@@ -41,7 +41,7 @@ fn no_reversal(section: &mut Section) {
     section.tracks[0].turn = 0;
 }
 
-/// Post 0 runs counter: the receiving end instead of the sending end.
+/// Post 0 of track A is the sending end for VNS and the receiving end for CVT.
 fn running_vns(section: &mut Section) {
     section.tracks[0].direction = 0;
 }
@@ -49,6 +49,14 @@ fn running_vns(section: &mut Section) {
 fn turn_at_post_0(section: &mut Section) {
     section.tracks[0].act = SET;
     section.tracks[0].turn = 0;
+}
+
+fn release_mark(section: &mut Section) {
+    section.tracks[0].posts[0].mark = 1;
+}
+
+fn measures_taken(section: &mut Section) {
+    section.tracks[0].posts[0].measures = 1;
 }
 
 /// Every hindrance of set and key to CVT at post 0.
@@ -92,8 +100,8 @@ fn set() {
     let row: [(u8, Freeing); 5] = [
         (15, turn_at_post_0),
         (13, no_train),
-        (18, |section| section.tracks[0].posts[0].mark = 1),
-        (16, |section| section.tracks[0].posts[0].measures = 1),
+        (18, release_mark),
+        (16, measures_taken),
         (19, |section| section.tracks[0].posts[0].faults = 1),
     ];
     check_row(hindered_set(3), Step::Set { post: 0 }, &row);
@@ -105,8 +113,8 @@ fn key() {
         (15, turn_at_post_0),
         (21, |section| section.tracks[0].posts[0].faults = 3),
         (13, no_train),
-        (18, |section| section.tracks[0].posts[0].mark = 1),
-        (16, |section| section.tracks[0].posts[0].measures = 1),
+        (18, release_mark),
+        (16, measures_taken),
         (20, |section| section.tracks[0].posts[0].seals = 998),
     ];
     check_row(hindered_set(1), Step::Key { post: 0 }, &row);
@@ -124,7 +132,7 @@ fn start() {
         (12, running_vns),
         (17, |section| section.tracks[0].trains[..2].fill(9)),
         (13, no_train),
-        (18, |section| section.tracks[0].posts[0].mark = 1),
+        (18, release_mark),
     ];
     check_row(section, Step::Start { post: 0, train: 8 }, &row);
 }

@@ -1,13 +1,13 @@
 //! The worked listing, the ten marked instances and other sentences of document 01.
 
-use reference::dayfile::{self, Refusal, GREATEST_LENGTH, TAIL_LENGTH};
+use reference::dayfile::{self, Refusal, GREATEST_LENGTH};
 use reference::engine::{judge, Answer};
 use reference::generate::{self, Rng};
 use reference::indications::indications;
 use reference::listing::{listing, panel};
 use reference::section::Section;
 use reference::settings::Settings;
-use reference::step::{decode, encode, Step};
+use reference::step::{decode, encode, leave, pass, release, start, Step};
 
 const A: u8 = 0;
 const B: u8 = 1;
@@ -23,13 +23,6 @@ fn settings(n: u8, form: u8, mask: u16) -> Settings {
 
 fn two_posts() -> Settings {
     settings(2, 0, 3)
-}
-
-fn file(settings: &Settings, steps: &[[u8; 8]]) -> Vec<u8> {
-    let mut buffer = vec![0; steps.len() * 8 + TAIL_LENGTH];
-    let length = dayfile::write(settings, &steps.concat(), &mut buffer).unwrap();
-    assert_eq!(length, buffer.len());
-    buffer
 }
 
 fn offer(section: &Section, track: u8, step: Step) -> Answer {
@@ -59,22 +52,10 @@ fn worked_day() -> Vec<u8> {
         encode(A, &Step::Acknowledge { post: 1 }),
         encode(A, &Step::Set { post: 1 }),
         encode(B, &Step::Order { post: 1 }),
-        encode(
-            A,
-            &Step::Start {
-                post: 1,
-                train: 2417,
-            },
-        ),
-        encode(
-            A,
-            &Step::Leave {
-                post: 0,
-                train: 2417,
-            },
-        ),
+        encode(A, &start(1, 2417)),
+        encode(A, &leave(0, 2417)),
     ];
-    file(&two_posts(), &steps)
+    dayfile::file_of(&two_posts(), &steps.concat()).unwrap()
 }
 
 #[test]
@@ -137,37 +118,16 @@ fn instance_3_seventeen_posts() {
 #[test]
 fn instance_4_train_numbers() {
     let fresh = Section::fresh(two_posts());
-    assert_eq!(
-        offer(
-            &fresh,
-            A,
-            Step::Start {
-                post: 0,
-                train: 9_999
-            }
-        )
-        .refusal,
-        0
-    );
-    assert_eq!(
-        refusal(
-            &fresh,
-            A,
-            Step::Start {
-                post: 0,
-                train: 10_000
-            }
-        ),
-        4
-    );
+    assert_eq!(offer(&fresh, A, start(0, 9_999)).refusal, 0);
+    assert_eq!(refusal(&fresh, A, start(0, 10_000)), 4);
 }
 
 #[test]
 fn instances_5_and_6_second_start() {
     let mut section = Section::fresh(settings(3, 0, 7));
-    accept(&mut section, A, Step::Start { post: 0, train: 5 });
-    assert_eq!(refusal(&section, A, Step::Start { post: 0, train: 6 }), 13);
-    assert_eq!(refusal(&section, A, Step::Start { post: 0, train: 5 }), 17);
+    accept(&mut section, A, start(0, 5));
+    assert_eq!(refusal(&section, A, start(0, 6)), 13);
+    assert_eq!(refusal(&section, A, start(0, 5)), 17);
 }
 
 #[test]
@@ -188,8 +148,8 @@ fn instance_8_set_without_measures() {
 fn instance_9_train_in_block_section_1() {
     for (form, expected) in [(0, 13), (1, 0)] {
         let mut section = Section::fresh(settings(3, form, 7));
-        accept(&mut section, A, Step::Start { post: 0, train: 5 });
-        accept(&mut section, A, Step::Pass { post: 1, train: 5 });
+        accept(&mut section, A, start(0, 5));
+        accept(&mut section, A, pass(1, 5));
         assert_eq!(section.tracks[0].trains[..2], [0, 5]);
         assert_eq!(
             offer(&section, A, Step::Order { post: 0 }).refusal,
@@ -243,42 +203,27 @@ fn permission_comes_with_the_last_set() {
 fn fault_1_needs_release() {
     let mut section = Section::fresh(two_posts());
     accept(&mut section, A, Step::FaultOn { post: 0, fault: 1 });
-    assert_eq!(refusal(&section, A, Step::Start { post: 0, train: 7 }), 18);
-    assert_eq!(
-        refusal(&section, A, Step::Release { post: 0, train: 1 }),
-        17
-    );
-    assert_eq!(
-        refusal(&section, A, Step::Release { post: 1, train: 0 }),
-        15
-    );
-    accept(&mut section, A, Step::Release { post: 0, train: 0 });
-    accept(&mut section, A, Step::Release { post: 0, train: 0 });
-    accept(&mut section, A, Step::Start { post: 0, train: 7 });
-    assert_eq!(
-        refusal(&section, A, Step::Release { post: 0, train: 7 }),
-        13
-    );
-    accept(&mut section, A, Step::Leave { post: 1, train: 7 });
+    assert_eq!(refusal(&section, A, start(0, 7)), 18);
+    assert_eq!(refusal(&section, A, release(0, 1)), 17);
+    assert_eq!(refusal(&section, A, release(1, 0)), 15);
+    accept(&mut section, A, release(0, 0));
+    accept(&mut section, A, release(0, 0));
+    accept(&mut section, A, start(0, 7));
+    assert_eq!(refusal(&section, A, release(0, 7)), 13);
+    accept(&mut section, A, leave(1, 7));
     accept(&mut section, A, Step::MeasuresOn { post: 0 });
     accept(&mut section, A, Step::FaultOn { post: 0, fault: 2 });
     accept(&mut section, A, Step::Order { post: 0 });
     assert_eq!(refusal(&section, A, Step::Key { post: 0 }), 18);
     assert_eq!(refusal(&section, A, Step::Set { post: 0 }), 18);
-    accept(&mut section, A, Step::Release { post: 0, train: 7 });
+    accept(&mut section, A, release(0, 7));
     accept(&mut section, A, Step::Key { post: 0 });
     assert_eq!(section.tracks[0].posts[0].mark, 0);
     accept(&mut section, A, Step::Announce { post: 0 });
     accept(&mut section, A, Step::FaultOn { post: 1, fault: 1 });
-    assert_eq!(
-        refusal(&section, A, Step::Release { post: 1, train: 0 }),
-        15
-    );
+    assert_eq!(refusal(&section, A, release(1, 0)), 15);
     accept(&mut section, A, Step::Acknowledge { post: 1 });
-    assert_eq!(
-        refusal(&section, A, Step::Release { post: 1, train: 0 }),
-        12
-    );
+    assert_eq!(refusal(&section, A, release(1, 0)), 12);
     accept(&mut section, A, Step::MeasuresOn { post: 1 });
     accept(&mut section, A, Step::Set { post: 1 });
 }
@@ -287,14 +232,14 @@ fn fault_1_needs_release() {
 fn counter_direction_stretch() {
     let mut section = Section::fresh(settings(4, 0, 0b1001));
     section.tracks[0].direction = 1;
-    accept(&mut section, A, Step::Start { post: 3, train: 1 });
-    accept(&mut section, A, Step::Pass { post: 2, train: 1 });
-    assert_eq!(refusal(&section, A, Step::Start { post: 3, train: 2 }), 13);
-    accept(&mut section, A, Step::Pass { post: 1, train: 1 });
-    assert_eq!(refusal(&section, A, Step::Start { post: 3, train: 2 }), 13);
-    assert_eq!(refusal(&section, A, Step::Pass { post: 0, train: 1 }), 12);
-    accept(&mut section, A, Step::Leave { post: 0, train: 1 });
-    accept(&mut section, A, Step::Start { post: 3, train: 2 });
+    accept(&mut section, A, start(3, 1));
+    accept(&mut section, A, pass(2, 1));
+    assert_eq!(refusal(&section, A, start(3, 2)), 13);
+    accept(&mut section, A, pass(1, 1));
+    assert_eq!(refusal(&section, A, start(3, 2)), 13);
+    assert_eq!(refusal(&section, A, pass(0, 1)), 12);
+    accept(&mut section, A, leave(0, 1));
+    accept(&mut section, A, start(3, 2));
 }
 
 #[test]
@@ -324,30 +269,30 @@ fn flashing_where_the_post_before_has_set() {
 
 #[test]
 fn reader_refusals_in_order() {
-    let number = |file: &[u8]| {
+    let read = |file: &[u8]| {
         dayfile::read(file)
             .map(|_| ())
             .map_err(|r| (r.number, r.index))
     };
     let worked = worked_day();
-    assert!(number(&worked).is_ok());
+    assert!(read(&worked).is_ok());
     for length in [0, 8, 16, 23, 25, 31, worked.len() - 1] {
-        assert_eq!(number(&worked[..length]), Err((1, 0)));
+        assert_eq!(read(&worked[..length]), Err((1, 0)));
     }
     for place in worked.len() - 16..worked.len() {
         let mut file = worked.clone();
         file[place] ^= 1;
         file[worked.len() - 24] = 1;
-        assert_eq!(number(&file), Err((2, 0)));
+        assert_eq!(read(&file), Err((2, 0)));
     }
     let mut file = worked.clone();
     file[16] = 0;
     file[8] = 99;
-    assert_eq!(number(&file), Err((4, 1)));
+    assert_eq!(read(&file), Err((4, 1)));
     file[worked.len() - 17] = 1;
-    assert_eq!(number(&file), Err((3, 0)));
-    assert_eq!(number(&vec![0; GREATEST_LENGTH]), Err((2, 0)));
-    assert_eq!(number(&vec![0; GREATEST_LENGTH + 8]), Err((1, 0)));
+    assert_eq!(read(&file), Err((3, 0)));
+    assert_eq!(read(&vec![0; GREATEST_LENGTH]), Err((2, 0)));
+    assert_eq!(read(&vec![0; GREATEST_LENGTH + 8]), Err((1, 0)));
 }
 
 #[test]
@@ -396,6 +341,7 @@ fn round_trips_both_ways() {
         }
     }
     println!("damaged files still read: {still_read} of 2000");
+    assert!(still_read > 0, "every damaged file was refused");
 }
 
 /// File to day to file, and settings and steps to file and back.

@@ -24,8 +24,7 @@ fn main() -> ExitCode {
 
 fn benchmark_files(run: &Run) -> Outcome {
     let steps = longest_steps(&mut run.rng(5));
-    let mut file = vec![0; GREATEST_LENGTH];
-    dayfile::write(&SETTINGS, &steps, &mut file).ok();
+    let file = dayfile::file_of(&SETTINGS, &steps).expect("the steps are well-formed");
     same_file(&steps, &file)?;
     println!("the longest file, {MOST_STEPS} steps, medians:");
     time_reading(run, &file).print("read", 1, "file");

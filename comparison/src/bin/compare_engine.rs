@@ -10,12 +10,8 @@ fn main() -> ExitCode {
 }
 
 fn compare_engine(run: &Run) -> Outcome {
-    let mut sections = SectionComparison::new(run.rng(2));
-    let mut days = DayComparison::new(run.rng(3));
-    for _ in 0..run.times {
-        sections.all()?;
-        days.all()?;
-    }
+    let sections: SectionComparison = run.compare(2)?;
+    let days: DayComparison = run.compare(3)?;
     sections.tally.print("sections");
     days.tally.print("days");
     sections.tally.fits_table("sections")?;

@@ -10,16 +10,12 @@ fn main() -> ExitCode {
 }
 
 fn compare_files(run: &Run) -> Outcome {
-    let mut reader = ReaderComparison::new(run.rng(0));
-    let mut writer = WriterComparison::new(run.rng(1));
-    for _ in 0..run.times {
-        reader.all()?;
-        writer.all()?;
-    }
+    let reader: ReaderComparison = run.compare(0)?;
+    let writer: WriterComparison = run.compare(1)?;
     reader.seen.print("reader, answers by refusal");
     writer.seen.print("writer, answers by refusal");
-    reader.seen.all_seen("reader", &[0, 1, 2, 3, 4])?;
-    writer.seen.all_seen("writer", &[0, 3, 4, 5])?;
+    reader.seen.are_just(&[0, 1, 2, 3, 4], "reader")?;
+    writer.seen.are_just(&[0, 3, 4, 5], "writer")?;
     println!("reader: {} files compared", reader.seen.total());
     println!("writer: {} calls compared", writer.seen.total());
     Ok(())

@@ -9,12 +9,9 @@ fn main() -> ExitCode {
 }
 
 fn compare_listing(run: &Run) -> Outcome {
-    let mut listings = ListingComparison::new(run.rng(4));
-    for _ in 0..run.times {
-        listings.all()?;
-    }
+    let listings: ListingComparison = run.compare(4)?;
     listings.seen.print("listings, files by refusal");
-    listings.seen.all_seen("listings", &[0, 1, 2, 3, 4])?;
+    listings.seen.are_just(&[0, 1, 2, 3, 4], "listings")?;
     println!(
         "listings: {} files compared, as listing and as panel",
         listings.seen.total()

@@ -1,13 +1,13 @@
-//! Part c: days from fresh.
+//! Days from the fresh section on.
 
 use super::judging::Both;
 use super::offers::offer;
 use super::tally::Tally;
 use crate::files::bounds::settings_at_bounds;
 use crate::image::{image_of, IMAGE_LENGTH, PERMISSION_B_0};
-use crate::lent::Lent;
+use crate::lent::{same_buffers, Lent};
 use crate::proved;
-use crate::report::{hex, same, same_bytes, Failure, Outcome};
+use crate::report::{hex, same, Comparison, Failure, Outcome};
 use reference::generate::{random_settings, Rng};
 use reference::section::{Section, MOST_SEALS};
 use reference::settings::Settings;
@@ -31,8 +31,8 @@ struct Day {
     accepted: u64,
 }
 
-impl DayComparison {
-    pub fn new(rng: Rng) -> DayComparison {
+impl Comparison for DayComparison {
+    fn new(rng: Rng) -> DayComparison {
         DayComparison {
             rng,
             tally: Tally::default(),
@@ -40,14 +40,16 @@ impl DayComparison {
         }
     }
 
-    pub fn all(&mut self) -> Outcome {
+    fn all(&mut self) -> Outcome {
         self.fresh_at_bounds()?;
         for _ in 0..DAYS {
             self.random_day()?;
         }
         self.day_of_keys()
     }
+}
 
+impl DayComparison {
     /// Settings in and out of range, and a step on each, which is refused 6 for the latter.
     fn fresh_at_bounds(&mut self) -> Outcome {
         for settings in settings_at_bounds() {
@@ -106,12 +108,7 @@ impl DayComparison {
         if settings.n == 0 && second == 0 {
             leave_open_without_posts(&mut image, &mut expected);
         }
-        same_bytes(
-            "the fresh section's image (16 bytes of guard first)",
-            image.with_guards(),
-            expected.with_guards(),
-            &input,
-        )?;
+        same_buffers("the fresh section's image", &image, &expected, &input)?;
         self.fresh_sections += 1;
         Ok(image)
     }

@@ -2,9 +2,9 @@
 
 use crate::engine::tally::Tally;
 use crate::image::{cell_name, image_of};
-use crate::lent::Lent;
+use crate::lent::{same_buffers, Lent};
 use crate::proved;
-use crate::report::{hex, same, same_bytes, Failure, Outcome};
+use crate::report::{hex, same, Failure, Outcome};
 use reference::engine::judge_in_place;
 use reference::generate::Rng;
 use reference::indications::indications;
@@ -51,20 +51,13 @@ impl Both {
     }
 
     fn same_image(&self, expected: &Lent, input: &dyn Fn() -> String) -> Outcome {
-        if self.image.with_guards() == expected.with_guards() {
+        if self.image == *expected {
             return Ok(());
         }
         let differs = |place: &usize| self.image.content()[*place] != expected.content()[*place];
         let cell = (0..expected.content().len()).find(differs).map(cell_name);
-        same_bytes(
-            &format!(
-                "the image after (16 bytes of guard first), {}",
-                cell.as_deref().unwrap_or("guard")
-            ),
-            self.image.with_guards(),
-            expected.with_guards(),
-            input,
-        )
+        let what = format!("the image after, {}", cell.as_deref().unwrap_or("guard"));
+        same_buffers(&what, &self.image, expected, input)
     }
 
     /// Every post and one past, on each track and one past, and any other pair.

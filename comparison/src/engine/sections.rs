@@ -1,11 +1,11 @@
-//! Part b: single steps on sections in range, reachable or not, and out of range.
+//! Single steps on sections in range, reachable or not, and out of range.
 
 use super::judging::Both;
 use super::offers::offer;
 use super::tally::Tally;
 use crate::image::{fill_unread_bytes, image_of, make_representable, section_of, IMAGE_LENGTH};
 use crate::lent::Lent;
-use crate::report::Outcome;
+use crate::report::{Comparison, Outcome};
 use reference::generate::{put_out_of_range, random_in_range_section, Rng};
 use reference::section::Section;
 
@@ -19,15 +19,15 @@ pub struct SectionComparison {
     pub tally: Tally,
 }
 
-impl SectionComparison {
-    pub fn new(rng: Rng) -> SectionComparison {
+impl Comparison for SectionComparison {
+    fn new(rng: Rng) -> SectionComparison {
         SectionComparison {
             rng,
             tally: Tally::default(),
         }
     }
 
-    pub fn all(&mut self) -> Outcome {
+    fn all(&mut self) -> Outcome {
         for _ in 0..IN_RANGE {
             let section = self.section_in_range();
             self.compare_section(&section)?;
@@ -45,7 +45,9 @@ impl SectionComparison {
         }
         Ok(())
     }
+}
 
+impl SectionComparison {
     fn section_in_range(&mut self) -> Section {
         let mut section = random_in_range_section(&mut self.rng);
         make_representable(&mut section);

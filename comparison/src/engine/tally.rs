@@ -1,7 +1,8 @@
 //! How often each kind of step was answered how.
 
-use crate::report::{none, Outcome};
+use crate::report::{fail_if_any, Outcome};
 use reference::step::STEP_LENGTH;
+use reference::stored::table::ANSWERS_BY_KIND;
 
 const KINDS: [&str; 14] = [
     "other bytes",
@@ -18,24 +19,6 @@ const KINDS: [&str; 14] = [
     "fault off",
     "release",
     "key",
-];
-
-/// The refusals from the state in the row of each kind, in document 01's order.
-const ROWS: [&[u8]; 14] = [
-    &[],
-    &[11, 12, 14, 13],
-    &[15, 13, 18, 16, 19],
-    &[15],
-    &[15],
-    &[11, 12, 17, 13, 18],
-    &[12, 17, 13],
-    &[12, 17],
-    &[21],
-    &[21, 16],
-    &[21],
-    &[21],
-    &[15, 12, 21, 13, 17],
-    &[15, 21, 13, 18, 16, 20],
 ];
 
 const SAID: [&str; 5] = ["nothing", "CVT", "CVTz", "VNS", "VNSz"];
@@ -88,33 +71,34 @@ impl Tally {
         println!();
     }
 
-    /// Every answer of the table came up, and for each kind no refusal that isn't in its row.
+    /// Every answer of the table came up, and for each kind none that isn't in its row.
     pub fn fits_table(&self, part: &str) -> Outcome {
         let missing = [
             self.all_kinds(Tally::missing_answers),
             self.missing_refusals(),
             self.missing_words(),
         ];
-        none(&format!("NEVER SEEN, {part}"), &missing.concat())?;
+        fail_if_any(&format!("NEVER SEEN, {part}"), &missing.concat())?;
         let strange = self.all_kinds(Tally::strange_answers);
-        none(&format!("NOT IN THE TABLE, {part}"), &strange)
+        fail_if_any(&format!("NOT IN THE TABLE, {part}"), &strange)
     }
 
     fn all_kinds(&self, look: impl Fn(&Tally, usize) -> Vec<String>) -> Vec<String> {
-        (1..KINDS.len()).flat_map(|kind| look(self, kind)).collect()
+        (0..KINDS.len()).flat_map(|kind| look(self, kind)).collect()
     }
 
     fn missing_answers(&self, kind: usize) -> Vec<String> {
-        [0].iter()
-            .chain(ROWS[kind])
+        ANSWERS_BY_KIND[kind]
+            .iter()
             .filter(|&&answer| self.answers[kind][usize::from(answer)] == 0)
             .map(|answer| format!("{} answered {answer}", KINDS[kind]))
             .collect()
     }
 
     fn strange_answers(&self, kind: usize) -> Vec<String> {
-        (1..=21)
-            .filter(|answer| !ROWS[kind].contains(answer) && !FROM_INPUT.contains(answer))
+        (0..=21)
+            .filter(|answer| !ANSWERS_BY_KIND[kind].contains(answer))
+            .filter(|answer| !FROM_INPUT.contains(answer))
             .filter(|&answer| self.answers[kind][usize::from(answer)] > 0)
             .map(|answer| format!("{} answered {answer}", KINDS[kind]))
             .collect()

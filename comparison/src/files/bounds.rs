@@ -48,8 +48,15 @@ fn masks_for(n: u8) -> Vec<u16> {
     masks
 }
 
-/// All combinations, for a section of n posts.
-pub fn steps_at_bounds(n: u8) -> Vec<[u8; 8]> {
+/// All combinations, for sections of the least and the most posts and one between, with the
+/// number of posts.
+pub fn steps_at_bounds() -> impl Iterator<Item = (u8, [u8; 8])> {
+    [2, 3, 16]
+        .into_iter()
+        .flat_map(|n| steps_for(n).into_iter().map(move |step| (n, step)))
+}
+
+fn steps_for(n: u8) -> Vec<[u8; 8]> {
     let mut all = Vec::new();
     for kind in KINDS {
         for track in TRACKS {

@@ -2,15 +2,17 @@
 
 use super::bounds::{settings_bytes_at_bounds, steps_at_bounds};
 use super::{
-    among_sound_steps, any_steps, day_file, random_bytes, right_numbers, settings_for, sound_steps,
-    trailer, Refusals,
+    any_steps, day_around, day_file, random_bytes, right_numbers, sound_steps, trailer, Refusals,
 };
 use crate::proved;
-use crate::report::{hex, same, Outcome};
+use crate::report::{hex, same, Comparison, Outcome};
 use reference::dayfile::{self, MOST_STEPS, TAIL_LENGTH, TRAILER_LENGTH};
 use reference::generate::{damage, random_day, random_settings, Rng};
 use reference::settings::Settings;
 use reference::step::STEP_LENGTH;
+
+/// Counts of steps whose part of the file is asked for, whatever the file holds.
+const COUNTS_ASKED: [u64; 12] = [0, 1, 2, 3, 4, 5, 6, 4_096, 4_099, 4_100, 1 << 61, u64::MAX];
 
 /// What a reader answers and hands back.
 #[derive(Debug, PartialEq)]
@@ -26,15 +28,15 @@ pub struct ReaderComparison {
     pub seen: Refusals,
 }
 
-impl ReaderComparison {
-    pub fn new(rng: Rng) -> ReaderComparison {
+impl Comparison for ReaderComparison {
+    fn new(rng: Rng) -> ReaderComparison {
         ReaderComparison {
             rng,
             seen: Refusals::default(),
         }
     }
 
-    pub fn all(&mut self) -> Outcome {
+    fn all(&mut self) -> Outcome {
         self.sound_files()?;
         self.settings_at_bounds()?;
         self.steps_at_bounds()?;
@@ -45,7 +47,9 @@ impl ReaderComparison {
         self.damaged_days()?;
         self.long_files()
     }
+}
 
+impl ReaderComparison {
     fn compare(&mut self, file: &[u8]) -> Outcome {
         let proved = proved_reading(file);
         let second = second_reading(file);
@@ -62,12 +66,8 @@ impl ReaderComparison {
         )
     }
 
-    fn sound_settings(&mut self) -> Settings {
-        random_settings(&mut self.rng)
-    }
-
     fn sound_file(&mut self, least: usize, most: usize) -> Vec<u8> {
-        let settings = self.sound_settings();
+        let settings = random_settings(&mut self.rng);
         let steps = sound_steps(&mut self.rng, settings.n, least, most);
         day_file(&steps, settings.encode())
     }
@@ -104,12 +104,9 @@ impl ReaderComparison {
 
     /// With sound steps before and behind.
     fn steps_at_bounds(&mut self) -> Outcome {
-        for n in [2, 3, 16] {
-            for step in steps_at_bounds(n) {
-                let settings = settings_for(&mut self.rng, n);
-                let steps = among_sound_steps(&mut self.rng, n, step);
-                self.compare(&day_file(&steps, settings.encode()))?;
-            }
+        for (n, step) in steps_at_bounds() {
+            let (settings, steps) = day_around(&mut self.rng, n, step);
+            self.compare(&day_file(&steps, settings.encode()))?;
         }
         Ok(())
     }
@@ -185,7 +182,7 @@ impl ReaderComparison {
             let steps = random_whole_steps(&mut self.rng);
             let settings = self.rng.next_u64().to_le_bytes();
             self.compare(&day_file(&steps, settings))?;
-            let settings = self.sound_settings();
+            let settings = random_settings(&mut self.rng);
             self.compare(&day_file(&steps, settings.encode()))?;
             let steps = any_whole_steps(&mut self.rng, settings.n);
             self.compare(&day_file(&steps, settings.encode()))?;
@@ -237,8 +234,6 @@ impl ReaderComparison {
         Ok(())
     }
 }
-
-const COUNTS_ASKED: [u64; 12] = [0, 1, 2, 3, 4, 5, 6, 4_096, 4_099, 4_100, 1 << 61, u64::MAX];
 
 fn proved_reading(file: &[u8]) -> Reading {
     let (refusal, count_or_index) = proved::files::read(file);

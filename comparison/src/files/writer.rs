@@ -1,12 +1,10 @@
 //! Settings, steps and buffers offered to both writers.
 
 use super::bounds::{settings_at_bounds, steps_at_bounds};
-use super::{
-    among_sound_steps, any_steps, random_bytes, settings_for, sound_step, sound_steps, Refusals,
-};
-use crate::lent::Lent;
+use super::{any_steps, day_around, random_bytes, sound_step, sound_steps, Refusals};
+use crate::lent::{same_buffers, Lent};
 use crate::proved;
-use crate::report::{hex, same, same_bytes, Outcome};
+use crate::report::{hex, same, Comparison, Outcome};
 use reference::dayfile::{self, MOST_STEPS, TAIL_LENGTH};
 use reference::generate::{random_settings, Rng};
 use reference::settings::Settings;
@@ -17,15 +15,15 @@ pub struct WriterComparison {
     pub seen: Refusals,
 }
 
-impl WriterComparison {
-    pub fn new(rng: Rng) -> WriterComparison {
+impl Comparison for WriterComparison {
+    fn new(rng: Rng) -> WriterComparison {
         WriterComparison {
             rng,
             seen: Refusals::default(),
         }
     }
 
-    pub fn all(&mut self) -> Outcome {
+    fn all(&mut self) -> Outcome {
         self.settings_at_bounds()?;
         self.steps_at_bounds()?;
         self.buffers_of_every_length()?;
@@ -33,7 +31,9 @@ impl WriterComparison {
         self.random_calls()?;
         self.long_files()
     }
+}
 
+impl WriterComparison {
     /// With the answer, the whole buffer is compared, refused calls included.
     fn compare(&mut self, settings: &Settings, steps: &[u8], room: usize) -> Outcome {
         let mut proved_buffer = Lent::patterned(room);
@@ -42,26 +42,27 @@ impl WriterComparison {
         let second = second_writing(settings, steps, second_buffer.part());
         let input = || format!("{settings:?}\nsteps: {}\nbuffer: {room} bytes", hex(steps));
         same("the writer's answer", proved, second, &input)?;
-        same_bytes(
-            "the writer's buffer (16 bytes of guard first)",
-            proved_buffer.with_guards(),
-            second_buffer.with_guards(),
+        same_buffers(
+            "the writer's buffer",
+            &proved_buffer,
+            &second_buffer,
             &input,
         )?;
         self.seen.count(second.0 as usize);
         Ok(())
     }
 
-    /// Room for the file, more or less.
-    fn some_room(&mut self, steps: &[u8]) -> usize {
+    /// With room for the file, more or less.
+    fn compare_in_some_room(&mut self, settings: &Settings, steps: &[u8]) -> Outcome {
         let length = steps.len() + TAIL_LENGTH;
-        match self.rng.below(8) {
+        let room = match self.rng.below(8) {
             0 => length - 1,
             1 => self.rng.below(length as u64) as usize,
             2 => length + 1,
             3 => length + self.rng.below(40) as usize,
             _ => length,
-        }
+        };
+        self.compare(settings, steps, room)
     }
 
     /// With steps that may be malformed and buffers that may be short, so that 3 comes before 4 and 5.
@@ -69,8 +70,7 @@ impl WriterComparison {
         for settings in settings_at_bounds() {
             for _ in 0..4 {
                 let steps = any_steps(&mut self.rng, settings.n.max(1));
-                let room = self.some_room(&steps);
-                self.compare(&settings, &steps, room)?;
+                self.compare_in_some_room(&settings, &steps)?;
             }
         }
         Ok(())
@@ -78,13 +78,9 @@ impl WriterComparison {
 
     /// With sound steps before and behind, and buffers that may be short, so that 4 comes before 5.
     fn steps_at_bounds(&mut self) -> Outcome {
-        for n in [2, 3, 16] {
-            for step in steps_at_bounds(n) {
-                let settings = settings_for(&mut self.rng, n);
-                let steps = among_sound_steps(&mut self.rng, n, step);
-                let room = self.some_room(&steps);
-                self.compare(&settings, &steps, room)?;
-            }
+        for (n, step) in steps_at_bounds() {
+            let (settings, steps) = day_around(&mut self.rng, n, step);
+            self.compare_in_some_room(&settings, &steps)?;
         }
         Ok(())
     }
@@ -128,11 +124,9 @@ impl WriterComparison {
         for _ in 0..20_000 {
             let settings = random_settings(&mut self.rng);
             let steps = any_steps(&mut self.rng, settings.n);
-            let room = self.some_room(&steps);
-            self.compare(&settings, &steps, room)?;
+            self.compare_in_some_room(&settings, &steps)?;
             let steps = random_bytes(&mut self.rng, 40);
-            let room = self.some_room(&steps);
-            self.compare(&settings, &steps, room)?;
+            self.compare_in_some_room(&settings, &steps)?;
         }
         Ok(())
     }

@@ -1,5 +1,6 @@
 //! The engine, over images of sections.
 
+use super::arguments;
 use reference::settings::Settings;
 
 extern "C" {
@@ -18,16 +19,8 @@ extern "C" {
 
 /// 0, or 5 for a buffer too short.
 pub fn fresh(settings: &Settings, image: &mut [u8]) -> u8 {
-    unsafe {
-        bsr_fresh(
-            settings.n,
-            settings.form,
-            settings.mask,
-            settings.line,
-            image.as_mut_ptr(),
-            image.len(),
-        )
-    }
+    let (n, form, mask, line) = arguments(settings);
+    unsafe { bsr_fresh(n, form, mask, line, image.as_mut_ptr(), image.len()) }
 }
 
 /// The refusal (0 for none) and what is said.
@@ -44,14 +37,6 @@ pub fn indications(image: &[u8], track: u8, post: u8) -> (u16, u16, u16) {
 
 /// How many of the whole steps are accepted from fresh.
 pub fn accepted(settings: &Settings, steps: &[u8]) -> u64 {
-    unsafe {
-        bsr_accepted(
-            settings.n,
-            settings.form,
-            settings.mask,
-            settings.line,
-            steps.as_ptr(),
-            steps.len(),
-        )
-    }
+    let (n, form, mask, line) = arguments(settings);
+    unsafe { bsr_accepted(n, form, mask, line, steps.as_ptr(), steps.len()) }
 }

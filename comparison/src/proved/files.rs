@@ -1,5 +1,6 @@
 //! Reader and writer of day files.
 
+use super::arguments;
 use reference::settings::Settings;
 
 extern "C" {
@@ -36,12 +37,13 @@ pub fn steps_length(file: &[u8], count: u64) -> u64 {
 
 /// The refusal, and the length written (refusal 0) or the index.
 pub fn write(settings: &Settings, steps: &[u8], buffer: &mut [u8]) -> (u64, u64) {
+    let (n, form, mask, line) = arguments(settings);
     let answer = unsafe {
         bsr_write(
-            settings.n,
-            settings.form,
-            settings.mask,
-            settings.line,
+            n,
+            form,
+            mask,
+            line,
             steps.as_ptr(),
             steps.len(),
             buffer.as_mut_ptr(),

@@ -1,13 +1,9 @@
-use reference::dayfile::GREATEST_LENGTH;
+//! Prints the panel of the day file on standard input.
+
 use reference::listing::panel;
-use std::io::{self, Read, Write};
+use reference::program;
+use std::io;
 
 fn main() -> io::Result<()> {
-    // One byte past the greatest length is enough to know that a file is too long.
-    let mut file = Vec::with_capacity(GREATEST_LENGTH + 1);
-    io::stdin()
-        .lock()
-        .take(GREATEST_LENGTH as u64 + 1)
-        .read_to_end(&mut file)?;
-    io::stdout().lock().write_all(&panel(&file))
+    program::run(panel)
 }

@@ -1,6 +1,6 @@
 //! A section on the bench: steps are offered to it, kept, and must be answered as demanded.
 
-use crate::dayfile::{self, TAIL_LENGTH};
+use crate::dayfile;
 use crate::engine;
 use crate::indications::indications;
 use crate::section::{Section, Track};
@@ -13,22 +13,6 @@ pub const B: u8 = 1;
 
 /// CIRCULATION, TRONÇON and the start permission of a post.
 pub type Lamps = (u8, u8, u8);
-
-pub fn start(post: u8, train: u16) -> Step {
-    Step::Start { post, train }
-}
-
-pub fn pass(post: u8, train: u16) -> Step {
-    Step::Pass { post, train }
-}
-
-pub fn leave(post: u8, train: u16) -> Step {
-    Step::Leave { post, train }
-}
-
-pub fn release(post: u8, train: u16) -> Step {
-    Step::Release { post, train }
-}
 
 pub struct Bench {
     pub section: Section,
@@ -113,17 +97,26 @@ impl Bench {
 
     /// The other direction, by plain steps; measures stand already, or lie at VNS.
     pub fn reverse(&mut self) {
+        self.reverse_by(|post| Step::Set { post });
+    }
+
+    /// The same by key; fault 2 stands at every post.
+    pub fn reverse_by_key(&mut self) {
+        self.reverse_by(|post| Step::Key { post });
+    }
+
+    fn reverse_by(&mut self, turn: fn(u8) -> Step) {
         let way = self.way();
         let last = way.receiving_end();
         let mut post = way.sending_end();
         self.accept(Step::Order { post });
         while post != last {
-            self.accept(Step::Set { post });
+            self.accept(turn(post));
             self.accept(Step::Announce { post });
             post = way.next_post(post);
             self.accept(Step::Acknowledge { post });
         }
-        self.accept(Step::Set { post });
+        self.accept(turn(post));
     }
 
     pub fn measures_on_everywhere(&mut self) {
@@ -144,9 +137,6 @@ impl Bench {
 
     /// The file of the steps offered so far.
     pub fn day(&self) -> Vec<u8> {
-        let mut file = vec![0; self.steps.len() + TAIL_LENGTH];
-        let length = dayfile::write(&self.section.settings, &self.steps, &mut file);
-        assert_eq!(length, Ok(file.len()), "the day can be written");
-        file
+        dayfile::file_of(&self.section.settings, &self.steps).expect("the day can be written")
     }
 }

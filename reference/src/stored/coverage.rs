@@ -1,5 +1,6 @@
 //! What the stored days must show together.
 
+use super::table::ANSWERS_BY_KIND;
 use super::StoredDay;
 use crate::dayfile::{self, Day, MOST_STEPS};
 use crate::engine;
@@ -8,23 +9,6 @@ use crate::settings::{MATERIALISED, TELEPHONE};
 use crate::step::STEP_LENGTH;
 use crate::way::{CVT, VNS};
 use std::collections::BTreeSet;
-
-/// Document 01's table: each kind with its checks; 0 stands for an accepted step.
-const TABLE: [(u8, &[u8]); 13] = [
-    (1, &[0, 11, 12, 14, 13]),
-    (2, &[0, 15, 13, 18, 16, 19]),
-    (3, &[0, 15]),
-    (4, &[0, 15]),
-    (5, &[0, 11, 12, 17, 13, 18]),
-    (6, &[0, 12, 17, 13]),
-    (7, &[0, 12, 17]),
-    (8, &[0, 21]),
-    (9, &[0, 21, 16]),
-    (10, &[0, 21]),
-    (11, &[0, 21]),
-    (12, &[0, 15, 12, 21, 13, 17]),
-    (13, &[0, 15, 21, 13, 18, 16, 20]),
-];
 
 /// The posts, form, track and running direction under which a kind got an answer.
 #[derive(Clone, Copy, Debug, PartialEq, Eq, PartialOrd, Ord)]
@@ -78,9 +62,9 @@ fn collect(day: &Day, seen: &mut BTreeSet<Case>) {
 }
 
 fn demanded() -> impl Iterator<Item = Case> {
-    let answers: Vec<(u8, u8)> = TABLE
-        .iter()
-        .flat_map(|&(kind, answers)| answers.iter().map(move |&refusal| (kind, refusal)))
+    let answers: Vec<(u8, u8)> = (0..)
+        .zip(ANSWERS_BY_KIND)
+        .flat_map(|(kind, answers)| answers.iter().map(move |&refusal| (kind, refusal)))
         .collect();
     grounds()
         .into_iter()

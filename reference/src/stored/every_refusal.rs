@@ -1,8 +1,8 @@
 //! Days in which every kind is refused for every reason that it can have, in both directions.
 
-use super::bench::{leave, pass, release, start, Bench, A, B};
+use super::bench::{Bench, A, B};
 use crate::settings::{Settings, MATERIALISED};
-use crate::step::Step;
+use crate::step::{leave, pass, release, start, Step};
 
 /// Every post is signalled.
 pub fn day(n: u8, form: u8, track: u8) -> Vec<u8> {

@@ -1,6 +1,7 @@
 //! Days of no steps and of the most that a file holds, and the days drawn at random.
 
 use super::bench::{Bench, A};
+use super::settings;
 use crate::dayfile::MOST_STEPS;
 use crate::generate::{sensible_step, Rng};
 use crate::settings::{Settings, TELEPHONE};
@@ -24,34 +25,18 @@ pub fn drawn(settings: Settings, count: usize, seed: u64) -> Vec<u8> {
 /// Reversals by key alone. A reversal takes at least five steps and breaks at most one seal
 /// of a post, so a file of 4,096 steps never comes to 999 seals: no day shows refusal 20.
 pub fn seals_819() -> Vec<u8> {
-    let settings = Settings {
-        n: 2,
-        form: TELEPHONE,
-        mask: 3,
-        line: 1,
-    };
-    let mut bench = Bench::new(settings, A);
+    let mut bench = Bench::new(settings(2, TELEPHONE, 3), A);
     bench.measures_on_everywhere();
     for post in 0..2 {
         bench.accept(Step::FaultOn { post, fault: 2 });
     }
     let reversals = (MOST_STEPS - 4) / 5;
     for _ in 0..reversals {
-        reversal_by_key(&mut bench);
+        bench.reverse_by_key();
     }
     let post = bench.way().sending_end();
     bench.accept(Step::Order { post });
     bench.accept(Step::Key { post });
     assert_eq!(bench.kept().posts[usize::from(post)].seals, 819);
     bench.day()
-}
-
-fn reversal_by_key(bench: &mut Bench) {
-    let first = bench.way().sending_end();
-    let last = bench.way().receiving_end();
-    bench.accept(Step::Order { post: first });
-    bench.accept(Step::Key { post: first });
-    bench.accept(Step::Announce { post: first });
-    bench.accept(Step::Acknowledge { post: last });
-    bench.accept(Step::Key { post: last });
 }

@@ -1,9 +1,9 @@
 //! Files that the reader refuses, each for one reason, and some with a later reason beside it.
 
-use super::bench::{start, Bench, A};
+use super::bench::{Bench, A};
 use crate::dayfile::{self, Refusal, MOST_STEPS, SETTINGS_LENGTH, TAIL_LENGTH};
 use crate::settings::{Settings, MATERIALISED};
-use crate::step::{Step, STEP_LENGTH};
+use crate::step::{start, Step, STEP_LENGTH};
 
 const SETTINGS_FROM_END: usize = TAIL_LENGTH;
 const TRAILER_FROM_END: usize = TAIL_LENGTH - SETTINGS_LENGTH;

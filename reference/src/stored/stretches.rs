@@ -1,22 +1,16 @@
 //! Days with trains one behind another in the counter direction: 13 as long as the train in
 //! front is in the stretch to be entered.
 
-use super::bench::{leave, pass, start, Bench};
-use crate::settings::Settings;
-use crate::step::Step;
+use super::bench::Bench;
+use super::settings;
+use crate::step::{leave, pass, start, Step};
 
 const IN_FRONT: u16 = 2417;
 const BEHIND: u16 = 2433;
 
 /// To CVT, two trains as near to each other as the signalled posts allow, and back.
 pub fn day(form: u8, mask: u16, track: u8) -> Vec<u8> {
-    let settings = Settings {
-        n: 16,
-        form,
-        mask,
-        line: 1,
-    };
-    let mut bench = Bench::new(settings, track);
+    let mut bench = Bench::new(settings(16, form, mask), track);
     bench.measures_on_everywhere();
     bench.reverse();
     two_trains(&mut bench);
