@@ -6,14 +6,10 @@ use rules::Site;
 use section::Settings;
 use section::Step;
 
-mod conditions;
 mod emergency_steps;
 mod post_steps;
 mod reversal_steps;
 mod train_steps;
-
-pub use conditions::is_settled;
-pub use conditions::is_turn;
 
 // The verdict of the table on a step at a site.
 pub fn verdict(

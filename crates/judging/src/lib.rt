@@ -79,7 +79,7 @@ pub fn judge_in_range(mut s: Section, bytes: &[u8]) -> Answer
     let verdict = checks::verdict(c, step, e, &trains, &last);
     match verdict {
         Verdict::Accepted(_) => {
-            let after = effects::track_after(c, step, e, t);
+            let after = movements::track_after(c, step, e, t);
             if track {
                 s.b = after;
             } else {
