@@ -23,11 +23,11 @@ use Rattle.rules.specs.Site.{siteOn, otherSettledOnVns}
 use Rattle.rules.specs.Table.{trackAfter}
 use Rattle.rules.specs.Judge.{answerOf, siteOf, verdictOn, sectionAfter, judgeStep, judgeDecoded, judgeInRange}
 use Rattle.occupancy.specs.Placed.{Placed}
-use Rattle.checks.specs.VerdictAt.{verdictAt}
+use Rattle.conditions.specs.VerdictAt.{verdictAt}
 use Rattle.movements.specs.Blocks.{Fitting}
 use Rattle.movements.proofs.Accepted.{fitting}
-use Rattle.occupancy.specs.Fit.{Fit}
-use Rattle.occupancy.proofs.Sites.{fit-on}
+use Rattle.sites.specs.Fit.{Fit}
+use Rattle.sites.proofs.Laws.{fit-on}
 
 -- the site that the code puts together
 pub site-is :

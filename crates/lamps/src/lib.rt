@@ -6,7 +6,7 @@ ghost use Rattle.section.specs.Range.{walkFits, trackFits};
 ghost use Rattle.section.specs.Settings.{isMaterialised, settingsRight};
 ghost use Rattle.rules.specs.Site.{siteOn, upAt, rankAt};
 ghost use Rattle.rules.specs.Indications.{setCount, isNextToSet, circulation, troncon, dark, indications};
-ghost use Rattle.occupancy.specs.Fit.{Fit};
+ghost use Rattle.sites.specs.Fit.{Fit};
 ghost use Rattle.lamps.specs.LampsAt.{shownAt};
 use rules::Site;
 use section::Act;
@@ -130,19 +130,8 @@ fn shown_on(c: Settings, track: bool, post: u8, t: Track) -> Indications
     requires { ⌜ (settingsRight c ≡ true) × (trackFits (c .posts) track t ≡ true) × (post < c .posts) ⌝ }
     ensures { λ r. ⌜ r ≡ shownAt c (siteOn true track post t) (t .trains) ⌝ }
 {
-    let at = post as usize;
-    let own = t.posts[at];
-    let walk = t.walk;
     let trains = t.trains;
-    let e = Site {
-        track: track,
-        post: post,
-        cvt: t.cvt,
-        walk: walk,
-        vns: true,
-        own: own,
-    };
-    shown_at(c, e, &trains)
+    shown_at(c, sites::site_on(true, track, post, t), &trains)
 }
 
 fn all_dark() -> Indications

@@ -24,6 +24,7 @@ use Rattle.rules.specs.Site.{isTurn, upAt, Occupancy}
 use Rattle.rules.specs.Table.{Check, _else_, checks, effect}
 use Rattle.rules.specs.Judge.{verdictOf}
 use Rattle.occupancy.specs.Placed.{Placed}
+use Rattle.occupancy.proofs.Laws.{or-false}
 use Rattle.effects.specs.Part.{HasNext}
 use Rattle.movements.specs.Blocks.{HasBlocks, Fitting}
 
@@ -34,10 +35,6 @@ passed :
 unfolding verdictOf
 passed true k ks said w h = (refl, h)
 passed false k ks said w h = let z : _≡_ {A = ℕ} 0 1 = cc in absurd (omega arith)
-
-or-false : (a b : Bool) → (a || b) ≡ false → (a ≡ false) × (b ≡ false)
-or-false true b h = let z : _≡_ {A = ℕ} 0 1 = cc in absurd (omega arith)
-or-false false b h = (refl, h)
 
 -- ## Ranks
 

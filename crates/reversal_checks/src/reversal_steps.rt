@@ -4,7 +4,7 @@ ghost use mathlib.Core.Path.{_≡_};
 ghost use Rattle.section.specs.declared.Settings.{Settings};
 ghost use Rattle.section.specs.declared.Step.the-variants.{Order, Set, Announce, Acknowledge};
 ghost use Rattle.occupancy.specs.Placed.{Placed};
-ghost use Rattle.checks.specs.VerdictAt.{verdictAt};
+ghost use Rattle.conditions.specs.VerdictAt.{verdictAt};
 use conditions::confirmed;
 use conditions::is_settled;
 use conditions::is_turn;

@@ -3,7 +3,7 @@ ghost use mathlib.Core.List.{[]};
 ghost use mathlib.Core.Path.{_≡_};
 ghost use Rattle.section.specs.declared.Step.the-variants.{Release, Key};
 ghost use Rattle.occupancy.specs.Placed.{Placed};
-ghost use Rattle.checks.specs.VerdictAt.{verdictAt};
+ghost use Rattle.conditions.specs.VerdictAt.{verdictAt};
 use conditions::confirmed;
 use conditions::is_turn;
 use conditions::release_in_turn;

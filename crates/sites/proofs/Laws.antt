@@ -8,7 +8,7 @@ use Rattle.section.specs.Range.{trackFits}
 use Rattle.section.specs.Settings.{settingsRight}
 use Rattle.section.proofs.Laws.{posts-right, track-right}
 use Rattle.rules.specs.Site.{siteOn}
-use Rattle.occupancy.specs.Fit.{Fit}
+use Rattle.sites.specs.Fit.{Fit}
 
 pub fit-on :
     (c : Settings) (vns track : Bool) (t : Track) (p : ℕ) → settingsRight c ≡ true → trackFits (c .posts) track t ≡ true → p < c .posts

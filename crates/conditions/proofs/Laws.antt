@@ -1,21 +1,13 @@
 -- The row of checks as the code walks it: `Past ks ls` says that the checks of ks before its rest ls all hold.
-use Prim.Native.Nat.{ℕ, suc}
-use mathlib.Core.Bool.{Bool, true, false, _||_, false≢true}
+use Prim.Native.Nat.{ℕ}
+use mathlib.Core.Bool.{Bool, true, false}
 use mathlib.Core.List.{List, [], _∷_}
 use mathlib.Core.Path.{_≡_, refl, sym, _∙_}
-use native.Mathlib.Omega.{arith}
 use lib.ListN.{drop}
-use borrow.Author.Tests.{eqb-true, ne-eqb}
-use Rattle.section.specs.declared.Settings.{Settings}
 use Rattle.section.specs.declared.Said.{Said}
-use Rattle.section.specs.declared.Verdict.{Verdict}
 use Rattle.section.specs.declared.Verdict.the-variants.{Accepted, Refused}
-use Rattle.section.specs.Geometry.{isFirst, isLast}
-use Rattle.rules.specs.declared.Site.{Site}
-use Rattle.rules.specs.Site.{rankAt, atSendingEnd, atReceivingEnd}
 use Rattle.rules.specs.Table.{Check, _else_}
 use Rattle.rules.specs.Judge.{verdictOf}
-use Rattle.occupancy.specs.Placed.{Placed}
 
 pub data Past : List Check → List Check → Type 0 where
   none : {ks : List Check} → Past ks ks
@@ -37,14 +29,3 @@ refused w p e = sym (same w p ∙ rw e)
 -- the first m checks hold
 abbrev pub Through : ℕ → List Check → Type 0
 Through m ks = Past ks (drop m ks)
-
--- ## Ends
-
--- a line has two posts at least, so its ends are two
-pub receiving-not-sending : {c : Settings} {e : Site} → Placed c e → atReceivingEnd c e ≡ true → atSendingEnd c e ≡ false
-unfolding isFirst isLast
-receiving-not-sending {c} {e} h k = ne-eqb (rankAt c e) 0 (λ q. omega (arith, eqb-true (suc (rankAt c e)) (c .posts) k, h .least))
-
-pub or-false : (a b : Bool) → (a || b) ≡ false → (a ≡ false) × (b ≡ false)
-or-false true b e = absurd (false≢true (sym e))
-or-false false b e = (refl, e)

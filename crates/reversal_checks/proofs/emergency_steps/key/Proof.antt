@@ -8,10 +8,10 @@ use Rattle.section.specs.declared.Step.the-variants.{Key}
 use Rattle.section.proofs.Told.{told, told-false, told-true}
 use Rattle.rules.specs.Site.{occupancyAt}
 use Rattle.rules.specs.Table.{checks, effect}
-use Rattle.checks.specs.VerdictAt.{rowAt}
-use Rattle.checks.proofs.Laws.{Through, none, then, accepted, refused}
-use Rattle.checks.proofs.emergency_steps.key.Statement.{statement}
-use Rattle.checks.proofs.emergency_steps.key.Tie as tie
+use Rattle.conditions.specs.VerdictAt.{rowAt}
+use Rattle.conditions.proofs.Laws.{Through, none, then, accepted, refused}
+use Rattle.reversal_checks.proofs.emergency_steps.key.Statement.{statement}
+use Rattle.reversal_checks.proofs.emergency_steps.key.Tie as tie
 
 -- the first m checks hold
 abbrev Passed : ℕ → tie.Start → Type 0

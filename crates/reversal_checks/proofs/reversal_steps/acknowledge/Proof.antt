@@ -1,9 +1,9 @@
 -- Each return is past the checks that held and stops at the one that failed.
 use Rattle.section.proofs.Told.{told-false, told-true}
 use Rattle.rules.specs.Table.{checks, effect}
-use Rattle.checks.proofs.Laws.{none, then, accepted, refused}
-use Rattle.checks.proofs.reversal_steps.announce.Statement.{statement}
-use Rattle.checks.proofs.reversal_steps.announce.Tie as tie
+use Rattle.conditions.proofs.Laws.{none, then, accepted, refused}
+use Rattle.reversal_checks.proofs.reversal_steps.acknowledge.Statement.{statement}
+use Rattle.reversal_checks.proofs.reversal_steps.acknowledge.Tie as tie
 
 is-turn-requires : tie.Need-is-turn-requires
 is-turn-requires c κs = tt
@@ -20,8 +20,8 @@ returns-3 : tie.Need-returns-3
 unfolding checks effect
 returns-3 c = λ s. rw (c .if2 .left) (accepted _ (then none (told-true (c .before .before .is-turn .ensures) (c .before .if1 .left))))
 
-pub announce-spec : {M : Type 1} → statement M
-announce-spec =
+pub acknowledge-spec : {M : Type 1} → statement M
+acknowledge-spec =
     tie.close
     (tie.spec
     is-turn-requires
