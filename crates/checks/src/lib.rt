@@ -1,19 +1,13 @@
 // The code that decides a step: for each kind the checks of the table, in its order.
 ghost use mathlib.Core.Path.{_≡_};
 ghost use Rattle.occupancy.specs.Placed.{Placed};
-ghost use Rattle.checks.specs.VerdictAt.{verdictAt};
+ghost use Rattle.conditions.specs.VerdictAt.{verdictAt};
 use rules::Site;
 use section::Settings;
 use section::Step;
 
-mod conditions;
-mod emergency_steps;
 mod post_steps;
-mod reversal_steps;
 mod train_steps;
-
-pub use conditions::is_settled;
-pub use conditions::is_turn;
 
 // The verdict of the table on a step at a site.
 pub fn verdict(
@@ -27,10 +21,10 @@ pub fn verdict(
     ensures { λ r. ⌜ r ≡ verdictAt c x e (now (trains .entry)) (now (last .entry)) ⌝ }
 {
     match x {
-        Step::Order { post: _ } => reversal_steps::order(c, e, trains),
-        Step::Set { post: _ } => reversal_steps::set(c, e, trains),
-        Step::Announce { post: _ } => reversal_steps::announce(e),
-        Step::Acknowledge { post: _ } => reversal_steps::acknowledge(e),
+        Step::Order { post: _ } => reversal_checks::order(c, e, trains),
+        Step::Set { post: _ } => reversal_checks::set(c, e, trains),
+        Step::Announce { post: _ } => reversal_checks::announce(e),
+        Step::Acknowledge { post: _ } => reversal_checks::acknowledge(e),
         Step::Start { post: _, number } => train_steps::start(c, e, number, trains),
         Step::Pass { post: _, number } => train_steps::pass(c, e, number, trains),
         Step::Leave { post: _, number } => train_steps::leave(c, e, number, trains),
@@ -38,7 +32,7 @@ pub fn verdict(
         Step::MeasuresOff { post: _ } => post_steps::measures_off(e),
         Step::FaultOn { post: _, fault } => post_steps::fault_on(e, fault),
         Step::FaultOff { post: _, fault } => post_steps::fault_off(e, fault),
-        Step::Release { post: _, number } => emergency_steps::release(c, e, number, trains, last),
-        Step::Key { post: _ } => emergency_steps::key(c, e, trains),
+        Step::Release { post: _, number } => reversal_checks::release(c, e, number, trains, last),
+        Step::Key { post: _ } => reversal_checks::key(c, e, trains),
     }
 }

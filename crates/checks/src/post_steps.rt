@@ -3,7 +3,7 @@ ghost use mathlib.Core.List.{[]};
 ghost use mathlib.Core.Path.{_≡_};
 ghost use Rattle.section.specs.declared.Settings.{Settings};
 ghost use Rattle.section.specs.declared.Step.the-variants.{MeasuresOn, MeasuresOff, FaultOn, FaultOff};
-ghost use Rattle.checks.specs.VerdictAt.{verdictAt};
+ghost use Rattle.conditions.specs.VerdictAt.{verdictAt};
 use rules::Site;
 use section::Fault;
 use section::Said;

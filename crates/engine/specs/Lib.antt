@@ -1,2 +1,1 @@
-pub mod LampsAt
 pub mod AcceptedCount

@@ -1,5 +1,4 @@
 // The engine: a step offered to a section is judged, and a post's indications are shown.
-mod lamps;
 mod whole_day;
 
 ghost use mathlib.Core.Path.{_≡_};

@@ -1,34 +1,33 @@
 -- What judging comes to, from what its code has looked at: the range of the section, the bytes, the step's own track and its site.
 use Prim.Native.Nat.{ℕ, _<_}
-use mathlib.Core.Bool.{Bool, true, false, cond, not, _&&_}
+use mathlib.Core.Bool.{Bool, true}
 use mathlib.Core.List.{List}
-use mathlib.Core.Path.{_≡_, refl, sym, _∙_, ap, subst}
+use mathlib.Core.Path.{_≡_, sym, _∙_, ap, subst}
 use native.Mathlib.Omega.{arith}
 use Rattle.section.specs.declared.Track.{Track}
 use Rattle.section.specs.declared.Section.{Section}
 use Rattle.section.specs.declared.Said.{Said}
 use Rattle.section.specs.declared.Verdict.{Verdict}
 use Rattle.section.specs.declared.Verdict.the-variants.{Accepted, Refused}
-use Rattle.section.specs.declared.Answer.{Answer}
 use Rattle.section.specs.declared.TrackStep.{TrackStep}
 use Rattle.section.specs.declared.Decoded.{Decoded}
 use Rattle.section.specs.declared.Decoded.the-variants.{Well, Malformed}
 use Rattle.section.specs.Codec.{decoded-post-below}
 use Rattle.section.specs.Numbers.{mostPosts}
 use Rattle.section.specs.Range.{inRange}
-use Rattle.section.specs.Step.{decoded, postOf, numberOf}
+use Rattle.section.specs.Step.{decoded, postOf}
 use Rattle.section.specs.Store.{trackOf, withTrack}
 use Rattle.section.proofs.Laws.{posts-right, settings-in-range, track-in-range}
 use Rattle.rules.specs.declared.Site.{Site}
-use Rattle.rules.specs.Site.{siteOn, otherSettledOnVns, occupancyAt}
+use Rattle.rules.specs.Site.{siteOn, otherSettledOnVns}
 use Rattle.rules.specs.Table.{trackAfter}
 use Rattle.rules.specs.Judge.{answerOf, siteOf, verdictOn, sectionAfter, judgeStep, judgeDecoded, judgeInRange}
 use Rattle.occupancy.specs.Placed.{Placed}
-use Rattle.checks.specs.VerdictAt.{verdictAt}
-use Rattle.effects.specs.Part.{Fitting}
-use Rattle.effects.proofs.Accepted.{fitting}
-use Rattle.judging.specs.Fit.{Fit}
-use Rattle.judging.proofs.Sites.{fit-on}
+use Rattle.conditions.specs.VerdictAt.{verdictAt}
+use Rattle.movements.specs.Blocks.{Fitting}
+use Rattle.movements.proofs.Accepted.{fitting}
+use Rattle.sites.specs.Fit.{Fit}
+use Rattle.sites.proofs.Laws.{fit-on}
 
 -- the site that the code puts together
 pub site-is :

@@ -1,6 +1,6 @@
 -- Where a post has a block section before it and ahead of it; the searches of the block sections, one step at a time.
 use Prim.Native.Nat.{ℕ, zero, suc, _+_, _-_, _≤_, _<_}
-use mathlib.Core.Bool.{Bool, true, false, not, _&&_, _||_}
+use mathlib.Core.Bool.{Bool, true, false, not, _&&_, _||_, false≢true}
 use mathlib.Core.List.{List}
 use mathlib.Core.Path.{_≡_, refl, sym, _∙_}
 use native.Mathlib.Nat.{not-suc-le-zero}
@@ -8,7 +8,7 @@ use native.Mathlib.Numerals.{add-one, sub-one}
 use native.Mathlib.Omega.{arith}
 use lib.ListN.{getD}
 use lib.Dec.{eqb}
-use borrow.Author.Tests.{eqb-false, eq-eqb, ne-eqb}
+use borrow.Author.Tests.{eqb-true, eqb-false, eq-eqb, ne-eqb}
 use Rattle.section.specs.declared.Settings.{Settings}
 use Rattle.section.specs.Geometry.{rank, block, isFirst, isLast}
 use Rattle.section.proofs.Laws.{rank-lt, block-lt}
@@ -36,6 +36,15 @@ module _ {c : Settings} {e : Site} (h : Placed c e) where
   pub block-before : atSendingEnd c e ≡ false → 0 < rankAt c e
   unfolding isFirst
   block-before k = omega (arith, eqb-false (rankAt c e) 0 k)
+
+  -- a line has two posts at least, so its ends are two
+  pub receiving-not-sending : atReceivingEnd c e ≡ true → atSendingEnd c e ≡ false
+  unfolding isFirst isLast
+  receiving-not-sending k = ne-eqb (rankAt c e) 0 (λ q. omega (arith, eqb-true (suc (rankAt c e)) (c .posts) k, h .least))
+
+pub or-false : (a b : Bool) → (a || b) ≡ false → (a ≡ false) × (b ≡ false)
+or-false true b e = absurd (false≢true (sym e))
+or-false false b e = (refl, e)
 
 -- ## A search of the first m block sections, from the last to the first
 

@@ -1,7 +1,7 @@
 -- Each return is past the checks that held and stops at the one that failed.
 use Rattle.section.proofs.Told.{told-false, told-true}
 use Rattle.rules.specs.Table.{checks, effect}
-use Rattle.checks.proofs.Laws.{none, then, accepted, refused}
+use Rattle.conditions.proofs.Laws.{none, then, accepted, refused}
 use Rattle.checks.proofs.post_steps.fault_off.Statement.{statement}
 use Rattle.checks.proofs.post_steps.fault_off.Tie as tie
 

@@ -7,8 +7,8 @@ use borrow.Author.Tests.{not-true, not-false}
 use Rattle.section.specs.declared.Settings.{Settings}
 use Rattle.section.specs.declared.Step.the-variants.{MeasuresOff}
 use Rattle.rules.specs.Table.{checks, effect}
-use Rattle.checks.specs.VerdictAt.{rowAt}
-use Rattle.checks.proofs.Laws.{Through, none, then, accepted, refused}
+use Rattle.conditions.specs.VerdictAt.{rowAt}
+use Rattle.conditions.proofs.Laws.{Through, none, then, accepted, refused}
 use Rattle.checks.proofs.post_steps.measures_off.Statement.{statement}
 use Rattle.checks.proofs.post_steps.measures_off.Tie as tie
 

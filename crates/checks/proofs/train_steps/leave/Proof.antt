@@ -7,8 +7,9 @@ use Rattle.section.specs.declared.Step.the-variants.{Leave}
 use Rattle.section.proofs.Told.{told-false, told-true}
 use Rattle.rules.specs.Site.{occupancyAt}
 use Rattle.rules.specs.Table.{checks, effect}
-use Rattle.checks.specs.VerdictAt.{rowAt}
-use Rattle.checks.proofs.Laws.{Through, none, then, accepted, refused, receiving-not-sending}
+use Rattle.conditions.specs.VerdictAt.{rowAt}
+use Rattle.conditions.proofs.Laws.{Through, none, then, accepted, refused}
+use Rattle.occupancy.proofs.Laws.{receiving-not-sending}
 use Rattle.checks.proofs.train_steps.leave.Statement.{statement}
 use Rattle.checks.proofs.train_steps.leave.Tie as tie
 

@@ -8,8 +8,9 @@ use Rattle.section.specs.declared.Step.the-variants.{Pass}
 use Rattle.section.proofs.Told.{told}
 use Rattle.rules.specs.Site.{occupancyAt}
 use Rattle.rules.specs.Table.{checks, effect}
-use Rattle.checks.specs.VerdictAt.{rowAt}
-use Rattle.checks.proofs.Laws.{Through, none, then, accepted, refused, or-false}
+use Rattle.conditions.specs.VerdictAt.{rowAt}
+use Rattle.conditions.proofs.Laws.{Through, none, then, accepted, refused}
+use Rattle.occupancy.proofs.Laws.{or-false}
 use Rattle.checks.proofs.train_steps.pass.Statement.{statement}
 use Rattle.checks.proofs.train_steps.pass.Tie as tie
 

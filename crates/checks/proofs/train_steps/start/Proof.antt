@@ -9,8 +9,8 @@ use Rattle.section.specs.Step.{numberOf}
 use Rattle.section.proofs.Told.{told, told-false, told-true}
 use Rattle.rules.specs.Site.{occupancyAt}
 use Rattle.rules.specs.Table.{checks, effect}
-use Rattle.checks.specs.VerdictAt.{rowAt}
-use Rattle.checks.proofs.Laws.{Through, none, then, accepted, refused}
+use Rattle.conditions.specs.VerdictAt.{rowAt}
+use Rattle.conditions.proofs.Laws.{Through, none, then, accepted, refused}
 use Rattle.checks.proofs.train_steps.start.Statement.{statement}
 use Rattle.checks.proofs.train_steps.start.Tie as tie
 

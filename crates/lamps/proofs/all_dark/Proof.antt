@@ -1,0 +1,13 @@
+use mathlib.Core.Path.{refl}
+use Rattle.rules.specs.Indications.{dark}
+use Rattle.lamps.proofs.all_dark.Statement.{statement}
+use Rattle.lamps.proofs.all_dark.Tie as tie
+use Rattle.lamps.proofs.all_dark.Reads as reads
+use Rattle.lamps.proofs.all_dark.Lts as lts
+
+returns : tie.Need-returns
+unfolding dark
+returns c = refl
+
+pub all-dark-spec : {M : Type 1} → statement M
+all-dark-spec = tie.close (tie.spec returns)

@@ -1,0 +1,78 @@
+use mathlib.Core.Path.{subst}
+use Rattle.rules.specs.Table.{lastAfter}
+use Rattle.movements.specs.Blocks.{HasBlocks}
+use borrow.Author.Needs.{needs}
+use Rattle.movements.proofs.last_after.Statement.{statement}
+use Rattle.movements.proofs.last_after.Tie as tie
+use Rattle.movements.proofs.last_after.Reads as reads
+use Rattle.movements.proofs.last_after.Lts as lts
+use Rattle.movements.proofs.block_ahead.Reads as block-ahead-reads
+
+enum-told : tie.Need-enum-told
+enum-told c = search needs
+
+enum-known-m : tie.Need-enum-known-m
+enum-known-m c = search needs
+
+block-ahead-requires : tie.Need-block-ahead-requires
+unfolding HasBlocks
+block-ahead-requires c κs = let b = c .before .before .before in (b .pre .0, subst (HasBlocks (b .args .c) (b .args .e)) (c .before .m .given .1) (b .pre .1))
+
+mul-last : tie.Need-mul-last
+mul-last c = search needs
+
+array-write-last : tie.Need-array-write-last
+array-write-last c = search needs
+
+enum-known-m-2 : tie.Need-enum-known-m-2
+enum-known-m-2 c = search needs
+
+block-ahead-requires-2 : tie.Need-block-ahead-requires-2
+unfolding HasBlocks
+block-ahead-requires-2 c κs =
+    let b = c .before .before .before in
+    (b .pre .0, subst (HasBlocks (b .args .c) (b .args .e)) (c .before .m2 .given .1) (b .pre .1) .1)
+
+mul-last-2 : tie.Need-mul-last-2
+mul-last-2 c = search needs
+
+array-write-last-2 : tie.Need-array-write-last-2
+array-write-last-2 c = search needs
+
+enum-told-2 : tie.Need-enum-told-2
+enum-told-2 c = search needs
+
+returns : tie.Need-returns
+unfolding lastAfter
+returns c = rw (c .enum-told .given .1)
+
+returns-2 : tie.Need-returns-2
+unfolding lastAfter
+returns-2 c = rw (c .block-ahead .ensures .0, c .before .before .m .given .1)
+
+returns-3 : tie.Need-returns-3
+unfolding lastAfter
+returns-3 c = rw (c .block-ahead2 .ensures .0, c .before .before .m2 .given .1)
+
+returns-4 : tie.Need-returns-4
+unfolding lastAfter
+returns-4 c = rw (c .enum-told2 .given .1)
+
+pub last-after-spec : {M : Type 1} → statement M
+last-after-spec =
+    tie.close
+    (tie.spec
+    enum-told
+    enum-known-m
+    block-ahead-requires
+    mul-last
+    array-write-last
+    enum-known-m-2
+    block-ahead-requires-2
+    mul-last-2
+    array-write-last-2
+    enum-told-2
+    returns
+    returns-2
+    returns-3
+    returns-4)

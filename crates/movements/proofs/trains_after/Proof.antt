@@ -1,0 +1,107 @@
+use mathlib.Core.Path.{subst}
+use Rattle.rules.specs.Table.{trainsAfter}
+use Rattle.movements.specs.Blocks.{HasBlocks}
+use borrow.Author.Needs.{needs}
+use Rattle.movements.proofs.trains_after.Statement.{statement}
+use Rattle.movements.proofs.trains_after.Tie as tie
+use Rattle.movements.proofs.trains_after.Reads as reads
+use Rattle.movements.proofs.trains_after.Lts as lts
+use Rattle.movements.proofs.block_ahead.Reads as block-ahead-reads
+use Rattle.movements.proofs.block_before.Reads as block-before-reads
+
+enum-told : tie.Need-enum-told
+enum-told c = search needs
+
+enum-known-m : tie.Need-enum-known-m
+enum-known-m c = search needs
+
+block-ahead-requires : tie.Need-block-ahead-requires
+unfolding HasBlocks
+block-ahead-requires c κs = let b = c .before .before .before in (b .pre .0, subst (HasBlocks (b .args .c) (b .args .e)) (c .before .m .given .1) (b .pre .1))
+
+mul-trains : tie.Need-mul-trains
+mul-trains c = search needs
+
+array-write-trains : tie.Need-array-write-trains
+array-write-trains c = search needs
+
+enum-known-m-2 : tie.Need-enum-known-m-2
+enum-known-m-2 c = search needs
+
+block-before-requires : tie.Need-block-before-requires
+unfolding HasBlocks
+block-before-requires c κs =
+    let b = c .before .before .before in
+    (b .pre .0, subst (HasBlocks (b .args .c) (b .args .e)) (c .before .m2 .given .1) (b .pre .1) .0)
+
+block-ahead-requires-2 : tie.Need-block-ahead-requires-2
+unfolding HasBlocks
+block-ahead-requires-2 c κs =
+    let b = c .before .before .before .before in
+    (b .pre .0, subst (HasBlocks (b .args .c) (b .args .e)) (c .before .before .m2 .given .1) (b .pre .1) .1)
+
+mul-trains-2 : tie.Need-mul-trains-2
+mul-trains-2 c = search needs
+
+array-write-trains-2 : tie.Need-array-write-trains-2
+array-write-trains-2 c = search needs
+
+mul-trains-3 : tie.Need-mul-trains-3
+mul-trains-3 c = search needs
+
+array-write-trains-3 : tie.Need-array-write-trains-3
+array-write-trains-3 c = search needs
+
+enum-told-2 : tie.Need-enum-told-2
+enum-told-2 c = search needs
+
+block-before-requires-2 : tie.Need-block-before-requires-2
+unfolding HasBlocks
+block-before-requires-2 c κs = let b = c .before .before in (b .pre .0, subst (HasBlocks (b .args .c) (b .args .e)) (c .enum-told2 .given .1) (b .pre .1))
+
+mul-trains-4 : tie.Need-mul-trains-4
+mul-trains-4 c = search needs
+
+array-write-trains-4 : tie.Need-array-write-trains-4
+array-write-trains-4 c = search needs
+
+returns : tie.Need-returns
+unfolding trainsAfter
+returns c = rw (c .enum-told .given .1)
+
+returns-2 : tie.Need-returns-2
+unfolding trainsAfter
+returns-2 c = rw (c .block-ahead .ensures .0, c .before .before .m .given .1)
+
+returns-3 : tie.Need-returns-3
+unfolding trainsAfter
+returns-3 c = rw (c .block-ahead2 .ensures .0, c .before .block-before .ensures .0, c .before .before .before .m2 .given .1)
+
+returns-4 : tie.Need-returns-4
+unfolding trainsAfter
+returns-4 c = rw (c .block-before2 .ensures .0, c .before .enum-told2 .given .1)
+
+pub trains-after-spec : {M : Type 1} → statement M
+trains-after-spec =
+    tie.close
+    (tie.spec
+    enum-told
+    enum-known-m
+    block-ahead-requires
+    mul-trains
+    array-write-trains
+    enum-known-m-2
+    block-before-requires
+    block-ahead-requires-2
+    mul-trains-2
+    array-write-trains-2
+    mul-trains-3
+    array-write-trains-3
+    enum-told-2
+    block-before-requires-2
+    mul-trains-4
+    array-write-trains-4
+    returns
+    returns-2
+    returns-3
+    returns-4)
