@@ -1,7 +1,7 @@
 use Rattle.section.specs.Words.{saidNumber}
 use borrow.Author.Needs.{needs}
-use Rattle.capi.proofs.engine_calls.said_number.Statement.{statement}
-use Rattle.capi.proofs.engine_calls.said_number.Tie as tie
+use Rattle.packed.proofs.said_number.Statement.{statement}
+use Rattle.packed.proofs.said_number.Tie as tie
 
 enum-told : tie.Need-enum-told
 enum-told c = search needs

@@ -1,8 +1,8 @@
 use native.Mathlib.Omega.{arith}
-use Rattle.capi.specs.Listings.{packedListed}
+use Rattle.packed.specs.Packed.{packedListed}
 use borrow.Author.Needs.{needs}
-use Rattle.capi.proofs.listing_calls.packed.Statement.{statement}
-use Rattle.capi.proofs.listing_calls.packed.Tie as tie
+use Rattle.packed.proofs.packed_listed.Statement.{statement}
+use Rattle.packed.proofs.packed_listed.Tie as tie
 
 enum-known-done : tie.Need-enum-known-done
 enum-known-done c = search needs
@@ -22,5 +22,5 @@ returns-2 : tie.Need-returns-2
 unfolding packedListed
 returns-2 c = simp (c .enum-told .given .1)
 
-pub packed-spec : {M : Type 1} → statement M
-packed-spec = tie.close (tie.spec enum-known-done add-result enum-told returns returns-2)
+pub packed-listed-spec : {M : Type 1} → statement M
+packed-listed-spec = tie.close (tie.spec enum-known-done add-result enum-told returns returns-2)

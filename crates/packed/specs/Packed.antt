@@ -1,14 +1,13 @@
--- What the calls on day files return, packed into one number.
+-- What the C interface returns, packed into one number.
 use Prim.Native.Nat.{ℕ, _+_, _*_, _%_, _^_}
+use Rattle.section.specs.declared.Indications.{Indications}
 use Rattle.section.specs.declared.Settings.{Settings}
 use Rattle.dayfile.specs.declared.Reading.{Reading}
 use Rattle.dayfile.specs.declared.Reading.the-variants.{Day, Refused}
 use Rattle.dayfile.specs.declared.Written.{Written}
 use Rattle.dayfile.specs.declared.Written.the-variants.{Bytes, Refused as NotWritten}
-
--- the settings that a call hands in, field by field
-abbrev pub settingsGiven : ℕ → ℕ → ℕ → ℕ → Settings
-settingsGiven n form mask line = record { posts = n; form = form; mask = mask; line = line }
+use Rattle.listing.specs.declared.Listed.{Listed}
+use Rattle.listing.specs.declared.Listed.the-variants.{Bytes as Put, TooShort}
 
 -- the refusal × 65,536, and the count of steps or the refusal's index
 unfoldable pub packedReading : Reading → ℕ
@@ -23,3 +22,12 @@ packedSettings c = c .posts + c .form * 2 ^ 8 + c .mask * 2 ^ 16 + c .line * 2 ^
 unfoldable pub packedWritten : Written → ℕ
 packedWritten (Bytes length) = length % 2 ^ 32 * 256
 packedWritten (NotWritten number index) = number + index % 2 ^ 32 * 256
+
+-- CIRCULATION, 8 × TRONÇON and 64 × the permission
+unfoldable pub packedIndications : Indications → ℕ
+packedIndications i = i .circulation + i .troncon * 8 + i .permission * 64
+
+-- the length and 1, or 0 for a buffer too short
+unfoldable pub packedListed : Listed → ℕ
+packedListed (Put length) = length + 1
+packedListed TooShort = 0
