@@ -19,7 +19,7 @@ pub extern "C" fn bsr_fresh(n: u8, form: u8, mask: u16, line: u16, buffer: &mut 
     if buffer.len() < IMAGE_LENGTH {
         return 5;
     }
-    image::put_image(buffer, section::fresh(settings_given(n, form, mask, line)));
+    image_writer::put_image(buffer, section::fresh(settings_given(n, form, mask, line)));
     0
 }
 
@@ -32,12 +32,12 @@ pub extern "C" fn bsr_judge(bytes: &mut [u8], step: &[u8]) -> u16
     if !image::image_right(bytes) {
         return 6;
     }
-    let answer = engine::judge(image::section_of(bytes), step);
+    let answer = engine::judge(image_reader::section_of(bytes), step);
     let verdict = answer.verdict;
     match verdict {
         Verdict::Accepted(said) => {
             let after = answer.section;
-            image::put_image(bytes, after);
+            image_writer::put_image(bytes, after);
             said_number(said) * 256
         }
         Verdict::Refused(number) => number as u16,
@@ -52,7 +52,7 @@ pub extern "C" fn bsr_indications(bytes: &[u8], track: u8, post: u8) -> u16
     if !image::image_right(bytes) {
         return 0;
     }
-    packed_indications(engine::indications(image::section_of(bytes), track, post))
+    packed_indications(engine::indications(image_reader::section_of(bytes), track, post))
 }
 
 // How many of the whole steps are accepted when they are offered one after another from fresh.
