@@ -32,7 +32,7 @@ use Rattle.text.specs.Text.{written}
 use Rattle.lines.specs.Text.{inTurn}
 use Rattle.lines.specs.Lines.{refusedLine}
 use Rattle.lines.proofs.Puts.{Putting, step-line-length, in-turn-length}
-use Rattle.lamps.proofs.Shown.{panel-line-length}
+use Rattle.panel_lines.proofs.Shown.{panel-line-length}
 use Rattle.sheets.specs.declared.Sheet.{Sheet}
 use Rattle.sheets.specs.declared.Sheet.the-variants.{OfSteps, OfPosts}
 use Rattle.sheets.specs.Printed.{sectionBefore, answerTo, printedRead, printed}

@@ -5,7 +5,7 @@ use Rattle.section.specs.declared.Answer.{Answer}
 use Rattle.sheets.specs.declared.Sheet.{Sheet}
 use Rattle.sheets.specs.declared.Sheet.the-variants.{OfSteps, OfPosts}
 use Rattle.lines.specs.Lines.{stepLine}
-use Rattle.lamps.specs.Lamps.{panelLine}
+use Rattle.panel_lines.specs.Lamps.{panelLine}
 
 -- a step's line
 unfoldable pub lineOn : Sheet → ℕ → List ℕ → Answer → List ℕ

@@ -12,7 +12,7 @@ ghost use Rattle.text.specs.Text.{written};
 ghost use Rattle.sheets.specs.Printed.{lines, printedRead, printed};
 ghost use Rattle.sheets.specs.Sheet.{lineOn, lineRoom, room};
 use dayfile::Reading;
-use lamps::put_panel;
+use panel_lines::put_panel;
 use lines::put_fields;
 use lines::put_header;
 use lines::put_refused;

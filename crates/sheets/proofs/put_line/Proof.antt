@@ -2,7 +2,7 @@
 use borrow.Author.Needs.{needs}
 use native.Mathlib.Omega.{arith}
 use Rattle.lines.specs.Lines.{stepLine}
-use Rattle.lamps.specs.Lamps.{panelLine}
+use Rattle.panel_lines.specs.Lamps.{panelLine}
 use Rattle.sheets.specs.Sheet.{lineOn, lineRoom}
 use Rattle.sheets.proofs.put_line.Statement.{statement}
 use Rattle.sheets.proofs.put_line.Tie as tie

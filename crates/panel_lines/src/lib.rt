@@ -4,7 +4,7 @@ ghost use Prim.Native.Nat.{_+_, _*_, _≤_, _<_};
 ghost use lib.ListN.{length};
 ghost use Rattle.section.specs.Numbers.{mostPosts};
 ghost use Rattle.text.specs.Text.{written};
-ghost use Rattle.lamps.specs.Lamps.{trackName, lamps, lampsOf, panelFields};
+ghost use Rattle.panel_lines.specs.Lamps.{trackName, lamps, lampsOf, panelFields};
 use section::Indications;
 use section::Section;
 

@@ -17,7 +17,7 @@ use Rattle.rules.specs.Indications.{Lamps, lampsAt, circulation, troncon, shown
 use Rattle.text.proofs.Laws.{decimal-length}
 use Rattle.lines.specs.Text.{inTurn}
 use Rattle.lines.proofs.Puts.{in-turn-length}
-use Rattle.lamps.specs.Lamps.{lamps, lampsOf, panelFields, panelLine}
+use Rattle.panel_lines.specs.Lamps.{lamps, lampsOf, panelFields, panelLine}
 
 abbrev pub OneDigit : Indications → Type 0
 OneDigit l = (l .circulation < 10) × ((l .troncon < 10) × (l .permission < 10))

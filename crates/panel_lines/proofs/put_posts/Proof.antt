@@ -6,11 +6,11 @@ use borrow.Author.Needs.{needs}
 use denote.Ref.{now}
 use lib.ListN.{length}
 use Rattle.lines.specs.Text.{inTurn}
-use Rattle.lamps.specs.Lamps.{lampsOf}
+use Rattle.panel_lines.specs.Lamps.{lampsOf}
 use Rattle.lines.proofs.Puts.{Putting, none-put, one-more-put}
-use Rattle.lamps.proofs.Shown.{one-digit, lampsAtPost, six-each}
-use Rattle.lamps.proofs.put_posts.Statement.{statement}
-use Rattle.lamps.proofs.put_posts.Tie as tie
+use Rattle.panel_lines.proofs.Shown.{one-digit, lampsAtPost, six-each}
+use Rattle.panel_lines.proofs.put_posts.Statement.{statement}
+use Rattle.panel_lines.proofs.put_posts.Tie as tie
 
 abbrev Inv-loop : tie.InvT-loop
 Inv-loop buffer₀ at s track n next₀ p₀ buffer next p =

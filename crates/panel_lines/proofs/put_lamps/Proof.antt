@@ -1,7 +1,7 @@
 use borrow.Author.Needs.{needs}
-use Rattle.lamps.specs.Lamps.{lamps}
-use Rattle.lamps.proofs.put_lamps.Statement.{statement}
-use Rattle.lamps.proofs.put_lamps.Tie as tie
+use Rattle.panel_lines.specs.Lamps.{lamps}
+use Rattle.panel_lines.proofs.put_lamps.Statement.{statement}
+use Rattle.panel_lines.proofs.put_lamps.Tie as tie
 
 add-t7 : tie.Need-add-t7
 add-t7 c = search needs

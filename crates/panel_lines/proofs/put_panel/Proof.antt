@@ -3,11 +3,11 @@ use borrow.Author.Needs.{needs}
 use native.Mathlib.Omega.{arith}
 use denote.Ref.{now}
 use mathlib.Core.List.{[], _∷_}
-use Rattle.lamps.specs.Lamps.{lampsOf, panelFields}
+use Rattle.panel_lines.specs.Lamps.{lampsOf, panelFields}
 use Rattle.lines.proofs.Puts.{number-length, number-then, then}
-use Rattle.lamps.proofs.Shown.{lamps-length}
-use Rattle.lamps.proofs.put_panel.Statement.{statement}
-use Rattle.lamps.proofs.put_panel.Tie as tie
+use Rattle.panel_lines.proofs.Shown.{lamps-length}
+use Rattle.panel_lines.proofs.put_panel.Statement.{statement}
+use Rattle.panel_lines.proofs.put_panel.Tie as tie
 
 put-number-requires : tie.Need-put-number-requires
 put-number-requires c κs = search needs
