@@ -1,5 +1,5 @@
--- A reading's count or index is at most that of the longest day, so it packs into 32 bits.
-use Prim.Native.Nat.{ℕ, _≤_}
+-- A reading packs into 32 bits, since its count or index is at most that of the longest day.
+use Prim.Native.Nat.{ℕ, _<_, _^_}
 use mathlib.Core.Path.{_≡_, refl}
 use mathlib.Core.Bool.{Bool, true, false, not, cond}
 use mathlib.Core.List.{List}
@@ -7,20 +7,15 @@ use native.Mathlib.Omega.{arith}
 use lib.ListN.{length}
 use lib.Dec.{ltb}
 use borrow.Author.Tests.{ltb-true}
-use Rattle.layout.specs.Layout.{mostSteps, stepCount, stepsIn, trailerIn, settingsIn, settingsOf}
+use Rattle.layout.specs.Layout.{stepCount, stepsIn, trailerIn, settingsIn, settingsOf}
 use Rattle.dayfile.specs.Tests.{lengthWrong, trailerRight, settingsBytesRight, firstMalformed, someMalformed, readVerdict, readOf}
-use Rattle.dayfile.specs.declared.Reading.{Reading}
 use Rattle.dayfile.specs.declared.Reading.the-variants.{Day, Refused}
 use Rattle.dayfile.proofs.Reader.{length-right, few-steps}
+use Rattle.packed.specs.Packed.{packedReading}
 
--- the count or the index
-abbrev pub countOrIndex : Reading → ℕ
-countOrIndex (Day count) = count
-countOrIndex (Refused number index) = index
-
-pub reading-small : (file : List ℕ) → countOrIndex (readOf file .reading) ≤ mostSteps
-unfolding readOf readVerdict someMalformed
-reading-small file =
+pub reading-fits : (file : List ℕ) → packedReading (readOf file .reading) < 2 ^ 32
+unfolding packedReading readOf readVerdict someMalformed
+reading-fits file =
     go (lengthWrong (length file)) refl (not (trailerRight count (trailerIn file))) (not (settingsBytesRight (settingsIn file))) (ltb first count) refl
   where
     count : ℕ
@@ -30,10 +25,10 @@ reading-small file =
     first = firstMalformed (settingsOf (settingsIn file) .posts) (stepsIn file)
 
     go : (wrong : Bool) → lengthWrong (length file) ≡ wrong → (trailer settings malformed : Bool) → ltb first count ≡ malformed →
-        countOrIndex (cond wrong (Refused 1 0) (cond trailer (Refused 2 0) (cond settings (Refused 3 0)
-        (cond malformed (Refused 4 first) (Day count))))) ≤ mostSteps
+        packedReading (cond wrong (Refused 1 0) (cond trailer (Refused 2 0) (cond settings (Refused 3 0)
+        (cond malformed (Refused 4 first) (Day count))))) < 2 ^ 32
     go true e t s m h = omega arith
     go false e true s m h = omega arith
     go false e false true m h = omega arith
     go false e false false true h = omega (arith, few-steps file (length-right (length file) e), ltb-true first count h)
-    go false e false false false h = few-steps file (length-right (length file) e)
+    go false e false false false h = omega (arith, few-steps file (length-right (length file) e))

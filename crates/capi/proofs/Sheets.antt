@@ -8,7 +8,7 @@ use Rattle.listing.specs.declared.Listed.{Listed}
 use Rattle.listing.specs.declared.Listed.the-variants.{Bytes, TooShort}
 use Rattle.listing.specs.Text.{listed}
 use Rattle.listing.proofs.Handed.{bytes-counted}
-use Rattle.capi.specs.Listings.{packedListed}
+use Rattle.packed.specs.Packed.{packedListed}
 
 pub listed-fits : (text buffer : List ℕ) (r : Listed) → r ≡ listed text buffer → length buffer * 1 < 2 ^ 63 → packedListed r ≤ 2 ^ 63
 unfolding packedListed

@@ -4,7 +4,6 @@ use mathlib.Core.Bool.{cond}
 use mathlib.Core.List.{List}
 use lib.ListN.{length}
 use lib.Dec.{ltb}
-use Rattle.section.specs.declared.Indications.{Indications}
 use Rattle.section.specs.declared.Settings.{Settings}
 use Rattle.section.specs.declared.Verdict.{Verdict}
 use Rattle.section.specs.declared.Verdict.the-variants.{Accepted, Refused}
@@ -13,6 +12,7 @@ use Rattle.section.specs.Words.{refusalOf, saidBy, saidNumber}
 use Rattle.rules.specs.Indications.{indications}
 use Rattle.rules.specs.Judge.{judge}
 use Rattle.text.specs.Text.{written}
+use Rattle.packed.specs.Packed.{packedIndications}
 use Rattle.image.specs.Image.{imageLength, imageOf, imageRight, sectionOf}
 
 -- ## The fresh section
@@ -45,10 +45,6 @@ judgeImage image step =
     cond (imageRight image) (writtenBack (judge (sectionOf image) step .verdict) image (imageOf (judge (sectionOf image) step .section))) image
 
 -- ## What a post shows
-
--- CIRCULATION, 8 × TRONÇON and 64 × the permission
-unfoldable pub packedIndications : Indications → ℕ
-packedIndications i = i .circulation + i .troncon * 8 + i .permission * 64
 
 -- bytes that are no section's image give 0
 unfoldable pub shownOf : List ℕ → ℕ → ℕ → ℕ

@@ -1,3 +1,2 @@
-pub mod Files
+pub mod Settings
 pub mod Engine
-pub mod Listings

@@ -1,13 +1,13 @@
 // The engine, over a section's image.
 ghost use mathlib.Core.Path.{_≡_};
 ghost use lib.ListN.{length};
-ghost use Rattle.section.specs.Words.{saidNumber};
 ghost use Rattle.engine.specs.AcceptedCount.{acceptedCount};
 ghost use Rattle.capi.specs.Engine.{freshAnswer, freshImage, judgeAnswer, judgeImage, shownOf};
-ghost use Rattle.capi.specs.Files.{settingsGiven};
+ghost use Rattle.capi.specs.Settings.{settingsGiven};
 use crate::settings_given;
 use image::IMAGE_LENGTH;
-use section::Said;
+use packed::packed_indications;
+use packed::said_number;
 use section::Verdict;
 
 // The fresh section's image, at the front of the buffer.
@@ -19,20 +19,8 @@ pub extern "C" fn bsr_fresh(n: u8, form: u8, mask: u16, line: u16, buffer: &mut 
     if buffer.len() < IMAGE_LENGTH {
         return 5;
     }
-    image::put_image(buffer, section::fresh(settings_given(n, form, mask, line)));
+    image_writer::put_image(buffer, section::fresh(settings_given(n, form, mask, line)));
     0
-}
-
-fn said_number(said: Said) -> u16
-    ensures { λ r. ⌜ r ≡ saidNumber said ⌝ }
-{
-    match said {
-        Said::Nothing => 0,
-        Said::Cvt => 1,
-        Said::Cvtz => 2,
-        Said::Vns => 3,
-        Said::Vnsz => 4,
-    }
 }
 
 // Judges a step. The image is written back only when the step is accepted.
@@ -44,12 +32,12 @@ pub extern "C" fn bsr_judge(bytes: &mut [u8], step: &[u8]) -> u16
     if !image::image_right(bytes) {
         return 6;
     }
-    let answer = engine::judge(image::section_of(bytes), step);
+    let answer = engine::judge(image_reader::section_of(bytes), step);
     let verdict = answer.verdict;
     match verdict {
         Verdict::Accepted(said) => {
             let after = answer.section;
-            image::put_image(bytes, after);
+            image_writer::put_image(bytes, after);
             said_number(said) * 256
         }
         Verdict::Refused(number) => number as u16,
@@ -64,8 +52,7 @@ pub extern "C" fn bsr_indications(bytes: &[u8], track: u8, post: u8) -> u16
     if !image::image_right(bytes) {
         return 0;
     }
-    let shown = engine::indications(image::section_of(bytes), track, post);
-    (shown.circulation as u16) + (shown.troncon as u16) * 8 + (shown.permission as u16) * 64
+    packed_indications(engine::indications(image_reader::section_of(bytes), track, post))
 }
 
 // How many of the whole steps are accepted when they are offered one after another from fresh.

@@ -3,10 +3,12 @@ ghost use mathlib.Core.Path.{_≡_};
 ghost use lib.ListN.{length};
 ghost use Rattle.layout.specs.Layout.{stepsPart};
 ghost use Rattle.dayfile.specs.Tests.{readOf, writeVerdict, writtenInto};
-ghost use Rattle.capi.specs.Files.{packedReading, packedSettings, packedWritten, settingsGiven};
+ghost use Rattle.packed.specs.Packed.{packedReading, packedSettings, packedWritten};
+ghost use Rattle.capi.specs.Settings.{settingsGiven};
 use crate::settings_given;
-use dayfile::Reading;
-use dayfile::Written;
+use packed::packed_reading;
+use packed::packed_settings;
+use packed::packed_written;
 
 // Reads a day file: the refusal, and the count of steps or the refusal's index.
 #[no_mangle]
@@ -15,10 +17,7 @@ pub extern "C" fn bsr_read(file: &[u8]) -> u32
 {
     let answer = dayfile::read(file);
     let reading = answer.reading;
-    match reading {
-        Reading::Day(count) => count as u32,
-        Reading::Refused(number, index) => (number as u32) * 65536 + (index as u32),
-    }
+    packed_reading(reading)
 }
 
 // The settings of a day file; 0 for one that is refused.
@@ -27,11 +26,7 @@ pub extern "C" fn bsr_settings(file: &[u8]) -> u64
     ensures { λ r. ⌜ r ≡ packedSettings (readOf (now (file .entry)) .settings) ⌝ }
 {
     let answer = dayfile::read(file);
-    let c = answer.settings;
-    (c.posts as u64)
-        + (c.form as u64) * 256
-        + (c.mask as u64) * 65536
-        + (c.line as u64) * 4294967296
+    packed_settings(answer.settings)
 }
 
 // The length of the part that holds the first so many steps.
@@ -56,9 +51,5 @@ pub extern "C" fn bsr_write(
     ensures { λ r. ⌜ r ≡ packedWritten (writeVerdict (settingsGiven n form mask line) (now (steps .entry)) (length (now (buffer .entry)))) ⌝ }
     ensures { λ _. ⌜ now (buffer .exit) ≡ writtenInto (settingsGiven n form mask line) (now (steps .entry)) (now (buffer .entry)) ⌝ }
 {
-    let done = dayfile::write(settings_given(n, form, mask, line), steps, buffer);
-    match done {
-        Written::Bytes(length) => ((length % 4294967296) as u64) * 256,
-        Written::Refused(number, index) => (number as u64) + ((index % 4294967296) as u64) * 256,
-    }
+    packed_written(dayfile::write(settings_given(n, form, mask, line), steps, buffer))
 }

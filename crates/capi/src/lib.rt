@@ -5,7 +5,7 @@ mod file_calls;
 mod listing_calls;
 
 ghost use mathlib.Core.Path.{_≡_};
-ghost use Rattle.capi.specs.Files.{settingsGiven};
+ghost use Rattle.capi.specs.Settings.{settingsGiven};
 use section::Settings;
 
 // The settings that a call hands in, field by field.

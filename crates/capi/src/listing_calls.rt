@@ -1,22 +1,10 @@
 // The listing and the panel of a day file.
 ghost use mathlib.Core.Path.{_≡_};
-ghost use Prim.Native.Nat.{_≤_, _^_};
 ghost use Rattle.listing.specs.Listing.{listing};
 ghost use Rattle.listing.specs.Panel.{panel};
 ghost use Rattle.listing.specs.Text.{listed, handedOver};
-ghost use Rattle.capi.specs.Listings.{packedListed};
-use listing::Listed;
-
-// No buffer, and so no text in it, is as long as 2^63 bytes.
-fn packed(done: Listed) -> u64
-    requires { ⌜ packedListed done ≤ 2 ^ 63 ⌝ }
-    ensures { λ r. ⌜ r ≡ packedListed done ⌝ }
-{
-    match done {
-        Listed::Bytes(length) => (length as u64) + 1,
-        Listed::TooShort => 0,
-    }
-}
+ghost use Rattle.packed.specs.Packed.{packedListed};
+use packed::packed_listed;
 
 // The bench listing of a file, at the front of the buffer.
 #[no_mangle]
@@ -24,7 +12,7 @@ pub extern "C" fn bsr_listing(file: &[u8], buffer: &mut [u8]) -> u64
     ensures { λ r. ⌜ r ≡ packedListed (listed (listing (now (file .entry))) (now (buffer .entry))) ⌝ }
     ensures { λ _. ⌜ now (buffer .exit) ≡ handedOver (listing (now (file .entry))) (now (buffer .entry)) ⌝ }
 {
-    packed(listing::listing(file, buffer))
+    packed_listed(listing::listing(file, buffer))
 }
 
 // The panel of a file, at the front of the buffer.
@@ -33,5 +21,5 @@ pub extern "C" fn bsr_panel(file: &[u8], buffer: &mut [u8]) -> u64
     ensures { λ r. ⌜ r ≡ packedListed (listed (panel (now (file .entry))) (now (buffer .entry))) ⌝ }
     ensures { λ _. ⌜ now (buffer .exit) ≡ handedOver (panel (now (file .entry))) (now (buffer .entry)) ⌝ }
 {
-    packed(listing::panel(file, buffer))
+    packed_listed(listing::panel(file, buffer))
 }

@@ -1,10 +1,8 @@
 // Runs the stored days. For each name among the arguments it reads NAME.day, NAME.listing and
 // NAME.panel, and compares what the library makes of the day with what is stored.
-mod agreement;
-
-use agreement::ROOM_FOR_SHEET;
 use agreement::Sheet;
 use agreement::agrees;
+use agreement::sheet_room;
 use libc::STDOUT_FILENO;
 
 // A byte more than the longest day file: a file that fills it is too long.
@@ -52,7 +50,7 @@ fn sheet_differs(name: &[u8], sheet: Sheet, file: &[u8]) -> bool {
     if descriptor < 0 {
         return report(name, b": cannot be read\n");
     }
-    let mut stored = [0u8; ROOM_FOR_SHEET];
+    let mut stored = sheet_room();
     let length = io::read_full(descriptor, &mut stored);
     libc::close(descriptor);
     if agrees(sheet, file, &stored[0..length]) {

@@ -1,11 +1,9 @@
-// A section to and from its image, 392 bytes. The layout is not stable: it may change with any delivery.
-mod image_reader;
-mod image_tests;
-mod image_writer;
-
-pub use image_reader::section_of;
-pub use image_tests::image_right;
-pub use image_writer::put_image;
+// The image of a section, 392 bytes: its layout, and whether every byte of it stands for a value.
+// The layout is not stable: it may change with any delivery.
+ghost use mathlib.Core.Path.{_≡_};
+ghost use Prim.Native.Nat.{_+_, _≤_};
+ghost use lib.ListN.{length};
+ghost use Rattle.image.specs.Image.{trackLength, postLength, postsLength, postRight, postsRight, trackRight, imageRight};
 
 pub const IMAGE_LENGTH: usize = 392;
 
@@ -24,3 +22,65 @@ pub const POSTS: usize = 4;
 pub const TRAINS: usize = 132;
 
 pub const LAST_TRAINS: usize = 162;
+
+// Of a post: device, permission, measures, faults, mark.
+fn post_right(bytes: &[u8], at: usize) -> bool
+    requires { ⌜ at + postLength ≤ length (now bytes) ⌝ }
+    ensures { λ r. ⌜ r ≡ postRight (now (bytes .entry)) at ⌝ }
+{
+    if bytes[at] > 1 {
+        return false;
+    }
+    if bytes[at + 1] > 1 {
+        return false;
+    }
+    if bytes[at + 2] > 1 {
+        return false;
+    }
+    if bytes[at + 3] > 7 {
+        return false;
+    }
+    bytes[at + 4] <= 1
+}
+
+// Of all sixteen posts, from the last one down.
+fn posts_right(bytes: &[u8], at: usize) -> bool
+    requires { ⌜ at + postsLength ≤ length (now bytes) ⌝ }
+    ensures { λ r. ⌜ r ≡ postsRight (now (bytes .entry)) at 16 ⌝ }
+{
+    let mut i = 16;
+    while i > 0 {
+        i -= 1;
+        if !post_right(bytes, at + POST_LENGTH * i) {
+            return false;
+        }
+    }
+    true
+}
+
+// Of a track: direction, act, posts.
+fn track_right(bytes: &[u8], at: usize) -> bool
+    requires { ⌜ at + trackLength ≤ length (now bytes) ⌝ }
+    ensures { λ r. ⌜ r ≡ trackRight (now (bytes .entry)) at ⌝ }
+{
+    if bytes[at] > 1 {
+        return false;
+    }
+    if bytes[at + 1] > 3 {
+        return false;
+    }
+    posts_right(bytes, at + POSTS)
+}
+
+// Of the right length, and both tracks.
+pub fn image_right(bytes: &[u8]) -> bool
+    ensures { λ r. ⌜ r ≡ imageRight (now (bytes .entry)) ⌝ }
+{
+    if bytes.len() != IMAGE_LENGTH {
+        return false;
+    }
+    if !track_right(bytes, TRACK_A) {
+        return false;
+    }
+    track_right(bytes, TRACK_B)
+}

@@ -1,18 +1,36 @@
 -- A buffer handed back: what stands in it, and what a caller knows of it.
-use Prim.Native.Nat.{ℕ, _≤_}
+use Prim.Native.Nat.{ℕ, _-_, _≤_}
 use mathlib.Core.Bool.{Bool, true, false, cond}
 use mathlib.Core.Path.{_≡_, refl, sym, _∙_, ap}
-use mathlib.Core.List.{List}
+use mathlib.Core.List.{List, _++_}
 use native.Mathlib.Omega.{arith}
+use native.Mathlib.Nat.{zero-add}
 use borrow.Author.Tests.{leb-true, le-leb}
 use lib.Dec.{leb}
-use lib.ListN.{length, take}
-use lib.Seq.{length-take-le}
+use lib.ListN.{length, take, drop, length-append}
+use lib.Seq.{length-take-le, take-at}
 use Rattle.text.specs.Text.{written}
 use Rattle.listing.specs.declared.Listed.{Listed}
 use Rattle.listing.specs.declared.Listed.the-variants.{Bytes, TooShort}
 use Rattle.listing.specs.Text.{listed, handedOver}
-use Rattle.listing.proofs.Puts.{at-front, front-fits}
+
+-- ## At the front of a buffer
+
+pub at-front : (l s : List ℕ) → written l 0 s ≡ s ++ drop (length s) l
+unfolding written
+at-front l s = ap (λ (k : ℕ). s ++ drop k l) (zero-add (length s))
+
+-- what was put at the front of a buffer that kept its length: it fits, and is the buffer's front
+module _ (l m s : List ℕ) (r : ℕ) (put : (r ≡ length s) × (m ≡ written l 0 s)) where
+  pub front-fits : length m ≡ length l → r ≤ length m
+  front-fits e = omega (arith, put .0, simp length-append at (ap length (sym (put .1 ∙ at-front l s)) ∙ refl))
+
+  pub front-taken : take (r - 0) (drop 0 m) ≡ s
+  front-taken =
+      let e : r - 0 ≡ length s = omega (arith, put .0) in
+      ap (λ (k : ℕ). take k m) e ∙ ap (take (length s)) (put .1 ∙ at-front l s) ∙ take-at s (drop (length s) l) (length s) refl
+
+-- ## What is handed over
 
 -- a text put at its front
 pub put-at-once :

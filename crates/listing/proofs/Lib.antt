@@ -1,4 +1,1 @@
-pub mod Puts
-pub mod Shown
-pub mod Days
 pub mod Handed

@@ -1,5 +1,4 @@
 pub mod Text
 pub mod Listing
 pub mod Panel
-pub mod Sheet
 pub mod Worked

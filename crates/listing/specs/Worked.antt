@@ -16,9 +16,12 @@ use Rattle.dayfile.specs.Tests.{refusalNumber, lengthWrong, markRight, trailerR
 use Rattle.dayfile.specs.Tests.{firstMalformed, someMalformed, readVerdict, readOf}
 use Rattle.examples.specs.Days.{on, offeredAs, refusals, fresh}
 use Rattle.text.specs.Text.{ascii, digits, decimal}
-use Rattle.listing.specs.Text.{word, letter, trackLetter, inTurn}
-use Rattle.listing.specs.Listing.{refusedLine, header, verdictFields, fields, stepLine, sectionBefore, answerTo, lines, printedRead, printed, listing}
-use Rattle.listing.specs.Panel.{lamps, lampsOf, trackName, panelFields, panelLine, panel}
+use Rattle.lines.specs.Text.{word, letter, trackLetter, inTurn}
+use Rattle.lines.specs.Lines.{refusedLine, header, verdictFields, fields, stepLine}
+use Rattle.panel_lines.specs.Lamps.{lamps, lampsOf, trackName, panelFields, panelLine}
+use Rattle.sheets.specs.Printed.{sectionBefore, answerTo, lines, printedRead, printed}
+use Rattle.listing.specs.Listing.{listing}
+use Rattle.listing.specs.Panel.{panel}
 
 -- "n = 2, telephone, mask 3, line 1"
 unfoldable pub settings : Settings

@@ -1,27 +1,19 @@
 // The bench listing and the panel of a day file, from bytes to bytes.
-mod day;
-mod panel_line;
-mod step_line;
-
 ghost use mathlib.Core.Path.{_≡_};
 ghost use lib.ListN.{length};
 ghost use Rattle.layout.specs.Layout.{mostSteps};
+ghost use Rattle.sheets.specs.Printed.{printed};
+ghost use Rattle.sheets.specs.Sheet.{lineOn, room};
 ghost use Rattle.listing.specs.Text.{listed, handedOver};
-ghost use Rattle.listing.specs.Listing.{printed, listing};
+ghost use Rattle.listing.specs.Listing.{listing};
 ghost use Rattle.listing.specs.Panel.{panel};
-ghost use Rattle.listing.specs.Sheet.{lineOn, room};
-use day::print;
+use sheets::Sheet;
+use sheets::print;
 
 // How many bytes were put at the front of the buffer, or that it is too short for them.
 pub enum Listed {
     Bytes(usize),
     TooShort,
-}
-
-// What is printed of each step: what it did, or what the posts show after it.
-enum Sheet {
-    OfSteps,
-    OfPosts,
 }
 
 // Puts a text at the front of the buffer, if it is long enough.

@@ -17,6 +17,9 @@ report-requires c κs = search needs
 returns : tie.Need-returns
 returns c = search needs
 
+sheet-room-requires : tie.Need-sheet-room-requires
+sheet-room-requires c κs = search needs
+
 slice-aggregate-read-full : tie.Need-slice-aggregate-read-full
 slice-aggregate-read-full c = search needs
 
@@ -55,6 +58,7 @@ sheet-differs-spec =
     slice-aggregate-report
     report-requires
     returns
+    sheet-room-requires
     slice-aggregate-read-full
     read-full-requires
     close-requires

@@ -1,5 +1,5 @@
 use borrow.Author.Needs.{needs}
-use Rattle.listing.specs.Sheet.{lineRoom, room}
+use Rattle.sheets.specs.Sheet.{lineRoom, room}
 use Rattle.listing.proofs.room_for.Statement.{statement}
 use Rattle.listing.proofs.room_for.Tie as tie
 

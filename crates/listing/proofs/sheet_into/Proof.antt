@@ -3,11 +3,10 @@
 use borrow.Author.Needs.{needs}
 use native.Mathlib.Omega.{arith}
 use denote.Ref.{now}
-use Rattle.listing.specs.Listing.{printed}
-use Rattle.listing.specs.Sheet.{lineOn}
-use Rattle.listing.proofs.Puts.{front-fits, front-taken}
-use Rattle.listing.proofs.Handed.{put-at-once}
-use Rattle.listing.proofs.Days.{most-room}
+use Rattle.sheets.specs.Printed.{printed}
+use Rattle.sheets.specs.Sheet.{lineOn}
+use Rattle.listing.proofs.Handed.{front-fits, front-taken, put-at-once}
+use Rattle.sheets.proofs.Days.{most-room}
 use Rattle.listing.proofs.sheet_into.Statement.{statement}
 use Rattle.listing.proofs.sheet_into.Tie as tie
 

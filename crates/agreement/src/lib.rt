@@ -1,0 +1,45 @@
+// Whether stored bytes are what the library makes of a day file.
+ghost use mathlib.Core.Path.{_≡_};
+ghost use mathlib.Core.Bool.{true};
+ghost use Prim.Native.Nat.{_≤_};
+ghost use lib.ListN.{length, replicate};
+ghost use Rattle.listing.specs.Text.{listed, handedOver};
+ghost use Rattle.agreement.specs.Made.{made};
+use listing::Listed;
+
+pub enum Sheet {
+    Listing,
+    Panel,
+}
+
+// Room for one byte more than the longest panel: stored bytes that fill it differ.
+pub fn sheet_room() -> [u8; 426009]
+    ensures { λ r. ⌜ r ≡ replicate 426009 0 ⌝ }
+{
+    [0; 426009]
+}
+
+fn make(sheet: Sheet, file: &[u8], buffer: &mut [u8]) -> Listed
+    ensures { λ r. ⌜ r ≡ listed (made sheet (now (file .entry))) (now (buffer .entry)) ⌝ }
+    ensures { λ _. ⌜ now (buffer .exit) ≡ handedOver (made sheet (now (file .entry))) (now (buffer .entry)) ⌝ }
+{
+    match sheet {
+        Sheet::Listing => listing::listing(file, buffer),
+        Sheet::Panel => listing::panel(file, buffer),
+    }
+}
+
+// Whether the stored bytes are what is made of the file. What does not fit the buffer is longer
+// than they are.
+pub fn agrees(sheet: Sheet, file: &[u8], stored: &[u8]) -> bool
+    requires { ⌜ length (now stored) ≤ 426009 ⌝ }
+    ensures { λ r. ⌜ (r ≡ true → made sheet (now (file .entry)) ≡ now (stored .entry)) ⌝ }
+    ensures { λ r. ⌜ (made sheet (now (file .entry)) ≡ now (stored .entry) → r ≡ true) ⌝ }
+{
+    let mut buffer = sheet_room();
+    let listed = make(sheet, file, &mut buffer);
+    match listed {
+        Listed::Bytes(length) => check::same(&buffer[0..length], stored),
+        Listed::TooShort => false,
+    }
+}

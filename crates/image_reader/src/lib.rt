@@ -1,0 +1,118 @@
+// A section from its image.
+ghost use mathlib.Core.Path.{_≡_};
+ghost use Prim.Native.Nat.{_+_, _≤_};
+ghost use lib.ListN.{length};
+ghost use Rattle.layout.specs.Layout.{settingsLength, settingsOf};
+ghost use Rattle.image.specs.Image.{imageLength, trackLength, postLength, postsLength, numberLength, numbersLength};
+ghost use Rattle.image.specs.Image.{numberAt, postAt, postsFrom, numbersFrom, walkOf, trackAt, sectionOf};
+use image::LAST_TRAINS;
+use image::NUMBER_LENGTH;
+use image::POST_LENGTH;
+use image::POSTS;
+use image::TRACK_A;
+use image::TRACK_B;
+use image::TRAINS;
+use section::Act;
+use section::Post;
+use section::Section;
+use section::Settings;
+use section::Track;
+use section::Walk;
+
+fn number_at(bytes: &[u8], at: usize) -> u16
+    requires { ⌜ at + numberLength ≤ length (now bytes) ⌝ }
+    ensures { λ r. ⌜ r ≡ numberAt (now (bytes .entry)) at ⌝ }
+{
+    section::pair_of(bytes[at], bytes[at + 1])
+}
+
+fn post_at(bytes: &[u8], at: usize) -> Post
+    requires { ⌜ at + postLength ≤ length (now bytes) ⌝ }
+    ensures { λ r. ⌜ r ≡ postAt (now (bytes .entry)) at ⌝ }
+{
+    let faults = bytes[at + 3];
+    Post {
+        cvt: bytes[at] == 1,
+        permission: bytes[at + 1] == 1,
+        measures: bytes[at + 2] == 1,
+        fault1: faults % 2 == 1,
+        fault2: faults / 2 % 2 == 1,
+        fault3: faults / 4 % 2 == 1,
+        mark: bytes[at + 4] == 1,
+        seals: number_at(bytes, at + 6),
+    }
+}
+
+fn posts_from(bytes: &[u8], at: usize) -> [Post; 16]
+    requires { ⌜ at + postsLength ≤ length (now bytes) ⌝ }
+    ensures { λ r. ⌜ r ≡ postsFrom (now (bytes .entry)) at 16 ⌝ }
+{
+    let mut posts = [section::blank(); 16];
+    let mut i = 0;
+    while i < 16 {
+        posts[i] = post_at(bytes, at + POST_LENGTH * i);
+        i += 1;
+    }
+    posts
+}
+
+fn numbers_from(bytes: &[u8], at: usize) -> [u16; 15]
+    requires { ⌜ at + numbersLength ≤ length (now bytes) ⌝ }
+    ensures { λ r. ⌜ r ≡ numbersFrom (now (bytes .entry)) at 15 ⌝ }
+{
+    let mut numbers = [0; 15];
+    let mut i = 0;
+    while i < 15 {
+        numbers[i] = number_at(bytes, at + NUMBER_LENGTH * i);
+        i += 1;
+    }
+    numbers
+}
+
+fn walk_of(act: u8, post: u8) -> Walk
+    ensures { λ r. ⌜ r ≡ walkOf act post ⌝ }
+{
+    match act {
+        0 => Walk::Settled,
+        1 => Walk::Turn(post, Act::Set),
+        2 => Walk::Turn(post, Act::Announce),
+        _ => Walk::Turn(post, Act::Acknowledge),
+    }
+}
+
+fn track_at(bytes: &[u8], at: usize) -> Track
+    requires { ⌜ at + trackLength ≤ length (now bytes) ⌝ }
+    ensures { λ r. ⌜ r ≡ trackAt (now (bytes .entry)) at ⌝ }
+{
+    Track {
+        posts: posts_from(bytes, at + POSTS),
+        trains: numbers_from(bytes, at + TRAINS),
+        last: numbers_from(bytes, at + LAST_TRAINS),
+        cvt: bytes[at] == 1,
+        walk: walk_of(bytes[at + 1], bytes[at + 2]),
+    }
+}
+
+fn settings_of(bytes: &[u8]) -> Settings
+    requires { ⌜ settingsLength ≤ length (now bytes) ⌝ }
+    ensures { λ r. ⌜ r ≡ settingsOf (now (bytes .entry)) ⌝ }
+{
+    Settings {
+        posts: bytes[0],
+        form: bytes[1],
+        mask: number_at(bytes, 2),
+        line: number_at(bytes, 4),
+    }
+}
+
+// The section that an image says.
+pub fn section_of(bytes: &[u8]) -> Section
+    requires { ⌜ imageLength ≤ length (now bytes) ⌝ }
+    ensures { λ r. ⌜ r ≡ sectionOf (now (bytes .entry)) ⌝ }
+{
+    Section {
+        settings: settings_of(bytes),
+        a: track_at(bytes, TRACK_A),
+        b: track_at(bytes, TRACK_B),
+    }
+}

@@ -1,0 +1,32 @@
+-- The lines of the listing (document 01, "The bench listing"): of a refused file, of a day's header, of a step.
+use Prim.Native.Nat.{ℕ}
+use mathlib.Core.List.{List, [], _∷_, _++_}
+use Rattle.section.specs.declared.Answer.{Answer}
+use Rattle.section.specs.declared.Verdict.{Verdict}
+use Rattle.section.specs.Words.{refusalOf, saidBy}
+use Rattle.text.specs.Text.{ascii, decimal}
+use Rattle.lines.specs.Text.{word, trackLetter}
+
+-- "one line, `refused K I` (number, index)"
+unfoldable pub refusedLine : ℕ → ℕ → List ℕ
+refusedLine number index = ascii "refused " ++ (decimal number ++ (ascii " " ++ (decimal index ++ ascii "\n")))
+
+-- "a header (`posts`, n, `steps`, the count)"
+unfoldable pub header : ℕ → ℕ → List ℕ
+header n count = ascii "posts " ++ (decimal n ++ (ascii " steps " ++ (decimal count ++ ascii "\n")))
+
+-- "0 or refusal, what is said or `-`"
+unfoldable pub verdictFields : Verdict → List ℕ
+verdictFields verdict = decimal (refusalOf verdict) ++ (ascii " " ++ word (saidBy verdict))
+
+-- a track's letter, after a space
+abbrev pub letterField : ℕ → List ℕ
+letterField letter = ascii " " ++ (letter ∷ [])
+
+-- "index, 0 or refusal, what is said or `-`, tracks A and B after the step", "fields one space apart"
+unfoldable pub fields : ℕ → Verdict → ℕ → ℕ → List ℕ
+fields index verdict a b =
+    decimal index ++ (ascii " " ++ (verdictFields verdict ++ (letterField a ++ (letterField b ++ ascii "\n"))))
+
+unfoldable pub stepLine : ℕ → Answer → List ℕ
+stepLine index answer = fields index (answer .verdict) (trackLetter (answer .section .a)) (trackLetter (answer .section .b))

@@ -1,0 +1,33 @@
+-- What the C interface returns, packed into one number.
+use Prim.Native.Nat.{ℕ, _+_, _*_, _%_, _^_}
+use Rattle.section.specs.declared.Indications.{Indications}
+use Rattle.section.specs.declared.Settings.{Settings}
+use Rattle.dayfile.specs.declared.Reading.{Reading}
+use Rattle.dayfile.specs.declared.Reading.the-variants.{Day, Refused}
+use Rattle.dayfile.specs.declared.Written.{Written}
+use Rattle.dayfile.specs.declared.Written.the-variants.{Bytes, Refused as NotWritten}
+use Rattle.listing.specs.declared.Listed.{Listed}
+use Rattle.listing.specs.declared.Listed.the-variants.{Bytes as Put, TooShort}
+
+-- the refusal × 65,536, and the count of steps or the refusal's index
+unfoldable pub packedReading : Reading → ℕ
+packedReading (Day count) = count
+packedReading (Refused number index) = number * 65536 + index
+
+-- n, the form, the mask and the line, each from a byte of its own on
+unfoldable pub packedSettings : Settings → ℕ
+packedSettings c = c .posts + c .form * 2 ^ 8 + c .mask * 2 ^ 16 + c .line * 2 ^ 32
+
+-- the refusal, and 256 × the file's length or the refusal's index, of which the lowest 32 bits are kept
+unfoldable pub packedWritten : Written → ℕ
+packedWritten (Bytes length) = length % 2 ^ 32 * 256
+packedWritten (NotWritten number index) = number + index % 2 ^ 32 * 256
+
+-- CIRCULATION, 8 × TRONÇON and 64 × the permission
+unfoldable pub packedIndications : Indications → ℕ
+packedIndications i = i .circulation + i .troncon * 8 + i .permission * 64
+
+-- the length and 1, or 0 for a buffer too short
+unfoldable pub packedListed : Listed → ℕ
+packedListed (Put length) = length + 1
+packedListed TooShort = 0

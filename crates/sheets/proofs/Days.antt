@@ -1,0 +1,164 @@
+-- The lines of a day: how long they are, and what the loop over the steps keeps.
+use Prim.Native.Nat.{ℕ, zero, suc, _+_, _-_, _*_, _<_, _≤_}
+use mathlib.Core.Bool.{true, _&&_}
+use mathlib.Core.Path.{_≡_, _∙_, ap}
+use mathlib.Core.List.{List}
+use native.Mathlib.Omega.{arith}
+use native.Mathlib.Nat.{mul-suc, mul-le-mul-left, add-sub-cancel-left}
+use native.Mathlib.Numerals.{add-one}
+use borrow.Author.Tests.{leb-true}
+use lib.Dec.{leb}
+use lib.ListN.{length, take, drop, length-drop}
+use lib.Seq.{length-take-le}
+use Rattle.section.specs.declared.Answer.{Answer}
+use Rattle.section.specs.declared.Section.{Section}
+use Rattle.section.specs.declared.Settings.{Settings}
+use Rattle.section.specs.Bytes.{within}
+use Rattle.section.specs.Fresh.{freshSection}
+use Rattle.section.specs.Numbers.{leastPosts, mostPosts, stepLength}
+use Rattle.section.specs.Range.{inRange}
+use Rattle.section.specs.Settings.{settingsRight}
+use Rattle.section.specs.StepLaws.{and-left, and-right}
+use Rattle.section.proofs.Laws.{fresh-in-range}
+use Rattle.rules.specs.Judge.{judge}
+use Rattle.rules.proofs.RangeLaw.{ranges-kept}
+use Rattle.layout.specs.Layout.{mostSteps, settingsOf, settingsIn, stepAt, stepsIn, stepsPart}
+use Rattle.dayfile.specs.Tests.{readOf, refusalNumber, settingsBytesRight}
+use Rattle.dayfile.specs.declared.Reading.the-variants.{Day, Refused}
+use Rattle.dayfile.proofs.Laws.{all-whole}
+use Rattle.dayfile.proofs.Reader.{day-read, few-steps}
+use Rattle.dayfile.proofs.RoundTrip.{gives-its-steps}
+use Rattle.text.specs.Text.{written}
+use Rattle.lines.specs.Text.{inTurn}
+use Rattle.lines.specs.Lines.{refusedLine}
+use Rattle.lines.proofs.Puts.{Putting, step-line-length, in-turn-length}
+use Rattle.panel_lines.proofs.Shown.{panel-line-length}
+use Rattle.sheets.specs.declared.Sheet.{Sheet}
+use Rattle.sheets.specs.declared.Sheet.the-variants.{OfSteps, OfPosts}
+use Rattle.sheets.specs.Printed.{sectionBefore, answerTo, printedRead, printed}
+use Rattle.sheets.specs.Sheet.{lineOn, lineRoom, room}
+
+-- ## The ranges along a day
+
+-- a section in its ranges has few enough posts
+pub few-posts : (s : Section) → inRange s ≡ true → s .settings .posts ≤ mostPosts
+unfolding inRange settingsRight within
+few-posts s e =
+    let n = s .settings .posts in
+    let within-limits = and-left (leb leastPosts n && leb n mostPosts) _ (and-left (settingsRight (s .settings)) _ e) in
+    leb-true n mostPosts (and-right (leb leastPosts n) (leb n mostPosts) within-limits)
+
+-- ## How long a line and a sheet are
+
+line-length :
+    (sheet : Sheet) (index : ℕ) (bytes : List ℕ) (answer : Answer) → answer .section .settings .posts ≤ mostPosts
+    → length (lineOn sheet index bytes answer) ≤ lineRoom sheet
+unfolding lineOn lineRoom
+line-length OfSteps index bytes answer h = step-line-length index answer
+line-length OfPosts index bytes answer h = panel-line-length index bytes answer h
+
+-- fewer steps need no more room
+pub fewer-fit : (sheet : Sheet) (count : ℕ) → count ≤ mostSteps → room sheet count ≤ room sheet mostSteps
+unfolding room
+fewer-fit sheet count h = omega (arith, mul-le-mul-left (lineRoom sheet) h)
+
+pub most-room : (sheet : Sheet) → room sheet mostSteps ≤ 426008
+unfolding room lineRoom
+most-room OfSteps = omega arith
+most-room OfPosts = omega arith
+
+-- ## The loop over the steps
+
+abbrev pub lineAt : Sheet → Section → List ℕ → ℕ → List ℕ
+lineAt sheet first steps i = lineOn sheet i (stepAt steps i) (answerTo first steps i)
+
+module _ (sheet : Sheet) (first : Section) (steps : List ℕ) (r : inRange first ≡ true) where
+  pub in-range-before : (i : ℕ) → inRange (sectionBefore first steps i) ≡ true
+  unfolding sectionBefore
+  in-range-before zero = r
+  in-range-before (suc i) = ranges-kept (sectionBefore first steps i) (stepAt steps i) (in-range-before i)
+
+  pub few-posts-after : (i : ℕ) → answerTo first steps i .section .settings .posts ≤ mostPosts
+  unfolding answerTo
+  few-posts-after i =
+      few-posts (judge (sectionBefore first steps i) (stepAt steps i) .section)
+      (ranges-kept (sectionBefore first steps i) (stepAt steps i) (in-range-before i))
+
+  pub lines-length : (m : ℕ) → length (inTurn (lineAt sheet first steps) m) ≤ lineRoom sheet * m
+  lines-length m =
+      in-turn-length (lineAt sheet first steps) (lineRoom sheet) m
+      (λ i. line-length sheet i (stepAt steps i) (answerTo first steps i) (few-posts-after i))
+
+  -- a buffer with room for all lines has room for one more
+  pub one-more-fits :
+      (i count at room : ℕ) → i < count → at + lineRoom sheet * count ≤ room
+      → at + length (inTurn (lineAt sheet first steps) i) + lineRoom sheet ≤ room
+  one-more-fits i count at room h all =
+      omega (arith, lines-length i, rw (mul-suc (lineRoom sheet) i) at (mul-le-mul-left (lineRoom sheet) h))
+
+-- the code judges on the same section and the same bytes
+pub answered :
+    (first : Section) (steps : List ℕ) (i : ℕ) (s : Section) (part : List ℕ) (answer : Answer) → s ≡ sectionBefore first steps i
+    → part ≡ stepAt steps i → answer ≡ judge s part → answer ≡ answerTo first steps i
+unfolding answerTo
+answered first steps i s part answer e f g = g ∙ (rw (e, f))
+
+pub line-put :
+    (sheet : Sheet) (first : Section) (steps : List ℕ) (i : ℕ) (part : List ℕ) (answer : Answer) (m k : List ℕ) (r q : ℕ)
+    → part ≡ stepAt steps i → answer ≡ answerTo first steps i → Putting m r (lineOn sheet i part answer) q k
+    → Putting m r (lineAt sheet first steps i) q k
+line-put sheet first steps i part answer m k r q e f p = rw (e, f) at p
+
+-- the step's bytes, as the code takes them
+pub step-part : (steps : List ℕ) (i : ℕ) → take (i * stepLength + stepLength - i * stepLength) (drop (i * stepLength) steps) ≡ stepAt steps i
+unfolding stepAt
+step-part steps i = ap (λ (k : ℕ). take k (drop (i * 8) steps)) (add-sub-cancel-left (i * 8) 8)
+
+pub step-length : (steps : List ℕ) (i count : ℕ) → i < count → stepLength * count ≤ length steps → length (stepAt steps i) ≡ stepLength
+unfolding stepAt
+step-length steps i count h l = length-take-le 8 (drop (i * 8) steps) (simp length-drop (omega arith))
+
+pub started : (s : Section) (c : Settings) → s ≡ freshSection c → settingsRight c ≡ true → inRange s ≡ true
+started s c e h = ap inRange e ∙ fresh-in-range c h
+
+pub step-after : (first : Section) (steps : List ℕ) (i : ℕ) → answerTo first steps i .section ≡ sectionBefore first steps (i + 1)
+unfolding answerTo sectionBefore
+step-after first steps i = rw (add-one i)
+
+-- ## A file that is read
+
+module _ (file : List ℕ) (count : ℕ) (e : readOf file .reading ≡ Day count) where
+  pub few-steps-read : count ≤ mostSteps
+  unfolding readOf
+  few-steps-read = let d = day-read file count e in omega (arith, few-steps file (d .length-well), d .counted)
+
+  pub steps-whole : stepLength * count ≤ length (stepsPart file count)
+  unfolding readOf
+  steps-whole =
+      let d = day-read file count e in
+      rw (gives-its-steps file count e) (omega (arith, all-whole (settingsOf (settingsIn file) .posts) (stepsIn file) (d .steps-well), d .counted))
+
+  pub settings-read-right : settingsRight (readOf file .settings) ≡ true
+  unfolding readOf refusalNumber settingsBytesRight
+  settings-read-right =
+      let d = day-read file count e in
+      rw e (and-left (settingsRight (settingsOf (settingsIn file))) _ (d .settings-well))
+
+-- ## What is printed of a file
+
+pub printed-refused :
+    (sheet : Sheet) (file : List ℕ) (number index : ℕ) → readOf file .reading ≡ Refused number index
+    → refusedLine number index ≡ printed (lineOn sheet) file
+unfolding printed printedRead
+printed-refused sheet file number index e = rw e
+
+pub printed-day :
+    (sheet : Sheet) (file : List ℕ) (count : ℕ) (c : Settings) (steps : List ℕ) → readOf file .reading ≡ Day count
+    → c ≡ readOf file .settings → steps ≡ stepsPart file count → printedRead (lineOn sheet) (Day count) c steps ≡ printed (lineOn sheet) file
+unfolding printed
+printed-day sheet file count c steps e f g = rw (e, f, g, gives-its-steps file count e)
+
+-- the same text, at the front
+pub same-text :
+    (l m s t : List ℕ) (r : ℕ) → s ≡ t → (r ≡ length s) × (m ≡ written l 0 s) → (r ≡ length t) × (m ≡ written l 0 t)
+same-text l m s t r e p = rw e at p

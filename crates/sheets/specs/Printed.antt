@@ -1,0 +1,35 @@
+-- What is printed of a file (document 01, "The bench listing"): from the file's bytes to bytes, for any line of a step.
+use Prim.Native.Nat.{ℕ, zero, suc}
+use mathlib.Core.List.{List, _++_}
+use Rattle.section.specs.declared.Answer.{Answer}
+use Rattle.section.specs.declared.Section.{Section}
+use Rattle.section.specs.declared.Settings.{Settings}
+use Rattle.section.specs.Fresh.{freshSection}
+use Rattle.rules.specs.Judge.{judge}
+use Rattle.layout.specs.Layout.{stepAt, stepsIn}
+use Rattle.dayfile.specs.Tests.{readOf}
+use Rattle.dayfile.specs.declared.Reading.{Reading}
+use Rattle.dayfile.specs.declared.Reading.the-variants.{Day, Refused}
+use Rattle.lines.specs.Text.{inTurn}
+use Rattle.lines.specs.Lines.{refusedLine, header}
+
+-- the section that step i is judged on: the first, then the one that the step before left
+unfoldable pub sectionBefore : Section → List ℕ → ℕ → Section
+sectionBefore first steps zero = first
+sectionBefore first steps (suc i) = judge (sectionBefore first steps i) (stepAt steps i) .section
+
+unfoldable pub answerTo : Section → List ℕ → ℕ → Answer
+answerTo first steps i = judge (sectionBefore first steps i) (stepAt steps i)
+
+-- a line per step: `line` gives it from the step's index, its bytes and the answer to it
+unfoldable pub lines : (ℕ → List ℕ → Answer → List ℕ) → Section → List ℕ → ℕ → List ℕ
+lines line first steps count = inTurn (λ i. line i (stepAt steps i) (answerTo first steps i)) count
+
+-- "A refused file gives one line. Else a header, then a line per step."
+unfoldable pub printedRead : (ℕ → List ℕ → Answer → List ℕ) → Reading → Settings → List ℕ → List ℕ
+printedRead line (Refused number index) c steps = refusedLine number index
+printedRead line (Day count) c steps = header (c .posts) count ++ lines line (freshSection c) steps count
+
+-- what is printed of a file
+unfoldable pub printed : (ℕ → List ℕ → Answer → List ℕ) → List ℕ → List ℕ
+printed line file = printedRead line (readOf file .reading) (readOf file .settings) (stepsIn file)

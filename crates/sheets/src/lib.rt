@@ -1,0 +1,116 @@
+// What is printed of a file, a line a step: the listing or the panel.
+ghost use mathlib.Core.Bool.{true};
+ghost use mathlib.Core.Path.{_≡_};
+ghost use Prim.Native.Nat.{_+_, _*_, _≤_, _<_};
+ghost use lib.ListN.{length};
+ghost use Rattle.section.specs.Fresh.{freshSection};
+ghost use Rattle.section.specs.Numbers.{mostPosts, stepLength};
+ghost use Rattle.section.specs.Settings.{settingsRight};
+ghost use Rattle.layout.specs.Layout.{mostSteps};
+ghost use Rattle.dayfile.specs.declared.Reading.{Reading};
+ghost use Rattle.text.specs.Text.{written};
+ghost use Rattle.sheets.specs.Printed.{lines, printedRead, printed};
+ghost use Rattle.sheets.specs.Sheet.{lineOn, lineRoom, room};
+use dayfile::Reading;
+use lines::put_fields;
+use lines::put_header;
+use lines::put_refused;
+use lines::track_letter;
+use panel_lines::put_panel;
+use section::Answer;
+use section::STEP_LENGTH;
+use section::Settings;
+
+// What is printed of each step: what it did, or what the posts show after it.
+pub enum Sheet {
+    OfSteps,
+    OfPosts,
+}
+
+// Writes the line of a step, and returns the next place.
+fn put_line(
+    sheet: Sheet,
+    buffer: &mut [u8],
+    at: usize,
+    index: usize,
+    bytes: &[u8],
+    answer: Answer,
+) -> usize
+    requires { ⌜ at + lineRoom sheet ≤ length (now buffer) ⌝ }
+    requires { ⌜ (1 < length (now bytes)) × (answer .section .settings .posts ≤ mostPosts) ⌝ }
+    ensures { λ r. ⌜ r ≡ at + length (lineOn sheet index (now (bytes .entry)) answer) ⌝ }
+    ensures { λ _. ⌜ now (buffer .exit) ≡ written (now (buffer .entry)) at (lineOn sheet index (now (bytes .entry)) answer) ⌝ }
+{
+    let verdict = answer.verdict;
+    let s = answer.section;
+    match sheet {
+        Sheet::OfSteps => put_fields(
+            buffer,
+            at,
+            index,
+            verdict,
+            track_letter(s.a),
+            track_letter(s.b),
+        ),
+        Sheet::OfPosts => put_panel(buffer, at, index, bytes[1], s),
+    }
+}
+
+// Writes the lines of all steps, each judged on the section that the one before left, and returns the next place.
+fn put_lines(
+    sheet: Sheet,
+    buffer: &mut [u8],
+    at: usize,
+    c: Settings,
+    steps: &[u8],
+    count: usize,
+) -> usize
+    requires { ⌜ at + lineRoom sheet * count ≤ length (now buffer) ⌝ }
+    requires { ⌜ (stepLength * count ≤ length (now steps)) × (settingsRight c ≡ true) ⌝ }
+    ensures { λ r. ⌜ r ≡ at + length (lines (lineOn sheet) (freshSection c) (now (steps .entry)) count) ⌝ }
+    ensures { λ _. ⌜ now (buffer .exit) ≡ written (now (buffer .entry)) at (lines (lineOn sheet) (freshSection c) (now (steps .entry)) count) ⌝ }
+{
+    let mut state = section::fresh(c);
+    let mut next = at;
+    let mut i = 0;
+    while i < count {
+        let start = i * STEP_LENGTH;
+        let bytes = &steps[start..start + STEP_LENGTH];
+        let answer = engine::judge(state, bytes);
+        next = put_line(sheet, buffer, next, i, bytes, answer);
+        state = answer.section;
+        i += 1;
+    }
+    next
+}
+
+// Writes what is printed of a day, and returns its length.
+fn put_day(sheet: Sheet, buffer: &mut [u8], c: Settings, steps: &[u8], count: usize) -> usize
+    requires { ⌜ room sheet count ≤ length (now buffer) ⌝ }
+    requires { ⌜ (stepLength * count ≤ length (now steps)) × (settingsRight c ≡ true) ⌝ }
+    ensures { λ r. ⌜ r ≡ length (printedRead (lineOn sheet) (Reading.Day count) c (now (steps .entry))) ⌝ }
+    ensures { λ _. ⌜ now (buffer .exit) ≡ written (now (buffer .entry)) 0 (printedRead (lineOn sheet) (Reading.Day count) c (now (steps .entry))) ⌝ }
+{
+    let next = put_header(buffer, 0, c.posts, count);
+    put_lines(sheet, buffer, next, c, steps, count)
+}
+
+// Writes what is printed of a file, and returns its length.
+pub fn print(sheet: Sheet, file: &[u8], buffer: &mut [u8]) -> usize
+    requires { ⌜ room sheet mostSteps ≤ length (now buffer) ⌝ }
+    ensures { λ r. ⌜ r ≡ length (printed (lineOn sheet) (now (file .entry))) ⌝ }
+    ensures { λ _. ⌜ now (buffer .exit) ≡ written (now (buffer .entry)) 0 (printed (lineOn sheet) (now (file .entry))) ⌝ }
+{
+    let answer = dayfile::read(file);
+    let reading = answer.reading;
+    match reading {
+        Reading::Refused(number, index) => put_refused(buffer, 0, number, index),
+        Reading::Day(count) => put_day(
+            sheet,
+            buffer,
+            answer.settings,
+            dayfile::steps(file, count),
+            count,
+        ),
+    }
+}
