@@ -1,9 +1,7 @@
 -- The effects of the table, by what they change; and what they lean on.
-use Prim.Native.Nat.{suc, _<_}
+use Prim.Native.Nat.{_<_}
 use Rattle.section.specs.declared.Settings.{Settings}
 use Rattle.section.specs.declared.Post.{Post}
-use Rattle.section.specs.declared.Walk.{Walk}
-use Rattle.section.specs.declared.Said.{Said}
 use Rattle.section.specs.declared.Said.the-variants.{Nothing}
 use Rattle.section.specs.declared.Step.{Step}
 use Rattle.section.specs.declared.Step.the-variants.{Order, Set, Announce, Acknowledge, Start, Pass, Leave, MeasuresOn, MeasuresOff, FaultOn}
@@ -11,28 +9,19 @@ use Rattle.section.specs.declared.Step.the-variants.{FaultOff, Release, Key}
 use Rattle.section.specs.Numbers.{mostSeals}
 use Rattle.rules.specs.declared.Site.{Site}
 use Rattle.rules.specs.declared.Movement.{Movement}
-use Rattle.rules.specs.declared.Movement.the-variants.{Stays}
 use Rattle.rules.specs.declared.Effect.{Effect}
-use Rattle.rules.specs.Site.{rankAt}
+use Rattle.reversal_effects.specs.Walking.{HasAhead}
 
 -- a step that changes its post's record and does something with a train
 abbrev pub moving : Site → Post → Movement → Effect
 moving e own train = record { own = own; walk = e .walk; cvt = e .cvt; train = train; said = Nothing }
 
--- a step of a reversal before its last set
-abbrev pub walking : Site → Post → Walk → Said → Effect
-walking e own walk said = record { own = own; walk = walk; cvt = e .cvt; train = Stays; said = said }
-
 module _ (c : Settings) (e : Site) where
-  -- a block section ahead of the post
-  abbrev pub HasAhead : Type 0
-  HasAhead = suc (rankAt c e) < c .posts
-
   -- "announce (never at the last post)"; key with a "seal count 0 to 999" after it
   unfoldable pub HasNext : Step → Type 0
   HasNext (Order p) = Unit {0}
   HasNext (Set p) = Unit {0}
-  HasNext (Announce p) = HasAhead
+  HasNext (Announce p) = HasAhead c e
   HasNext (Acknowledge p) = Unit {0}
   HasNext (Start p number) = Unit {0}
   HasNext (Pass p number) = Unit {0}

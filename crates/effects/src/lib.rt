@@ -1,9 +1,12 @@
 // What an accepted step does: the post's record, the walk, the running direction, the movement of a train, and what is said.
 ghost use mathlib.Core.Path.{_≡_};
-ghost use Rattle.rules.specs.Site.{nextPost};
-ghost use Rattle.rules.specs.Table.{cleared, setting, effect};
+ghost use Rattle.rules.specs.Table.{cleared, effect};
 ghost use Rattle.occupancy.specs.Placed.{Placed};
-ghost use Rattle.effects.specs.Part.{moving, walking, HasAhead, HasNext};
+ghost use Rattle.effects.specs.Part.{moving, HasNext};
+use reversal_effects::acknowledging;
+use reversal_effects::announcing;
+use reversal_effects::setting;
+use reversal_effects::walking;
 use rules::Effect;
 use rules::Movement;
 use rules::Site;
@@ -29,19 +32,6 @@ pub fn moving(e: Site, own: Post, train: Movement) -> Effect
     }
 }
 
-// A step of a reversal before its last set.
-pub fn walking(e: Site, own: Post, walk: Walk, said: Said) -> Effect
-    ensures { λ r. ⌜ r ≡ walking e own walk said ⌝ }
-{
-    Effect {
-        own: own,
-        walk: walk,
-        cvt: e.cvt,
-        train: Movement::Stays,
-        said: said,
-    }
-}
-
 // Fault 1 takes the mark with it.
 pub fn cleared(own: Post, fault: Fault) -> Post
     ensures { λ r. ⌜ r ≡ cleared fault own ⌝ }
@@ -51,60 +41,6 @@ pub fn cleared(own: Post, fault: Fault) -> Post
         Fault::Two => own.faulty(Fault::Two, false),
         Fault::Three => own.faulty(Fault::Three, false),
     }
-}
-
-// Set, and key after its seal: the last one changes the running direction and gives permission.
-pub fn setting(c: Settings, e: Site, own: Post) -> Effect
-    requires { ⌜ Placed c e ⌝ }
-    ensures { λ r. ⌜ r ≡ setting c e own ⌝ }
-{
-    let cvt = e.cvt;
-    let turned = own.turned(!cvt).marked(false);
-    if occupancy::at_receiving_end(c, e) {
-        return Effect {
-            own: turned.permitted(true),
-            walk: Walk::Settled,
-            cvt: !cvt,
-            train: Movement::Stays,
-            said: Said::Nothing,
-        };
-    }
-    walking(e, turned, Walk::Turn(e.post, Act::Announce), Said::Nothing)
-}
-
-// The post at which the walk goes on after an announcement.
-pub fn next_post(c: Settings, e: Site) -> u8
-    requires { ⌜ (Placed c e) × (HasAhead c e) ⌝ }
-    ensures { λ r. ⌜ r ≡ nextPost c e ⌝ }
-{
-    if section::is_upward(e.track, e.cvt) {
-        e.post + 1
-    } else {
-        e.post - 1
-    }
-}
-
-pub fn announcing(c: Settings, e: Site) -> Effect
-    requires { ⌜ (Placed c e) × (HasAhead c e) ⌝ }
-    ensures { λ r. ⌜ r ≡ effect c (Step.Announce (e .post)) e ⌝ }
-{
-    let own = e.own;
-    let walk = Walk::Turn(next_post(c, e), Act::Acknowledge);
-    if e.cvt {
-        return walking(e, own, walk, Said::Vns);
-    }
-    walking(e, own, walk, Said::Cvt)
-}
-
-pub fn acknowledging(c: Settings, e: Site) -> Effect
-    ensures { λ r. ⌜ r ≡ effect c (Step.Acknowledge (e .post)) e ⌝ }
-{
-    let own = e.own;
-    let walk = Walk::Turn(e.post, Act::Set);
-    if e.cvt {
-        return walking(e, own, walk, Said::Vnsz);
-    }
-    walking(e, own, walk, Said::Cvtz)
 }
 
 // The effect of each kind.

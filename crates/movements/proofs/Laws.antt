@@ -7,7 +7,7 @@ use Rattle.section.proofs.Laws.{rank-lt, block-lt}
 use Rattle.rules.specs.declared.Site.{Site}
 use Rattle.rules.specs.Site.{upAt, rankAt, blockAhead, blockBefore}
 use Rattle.occupancy.specs.Placed.{Placed}
-use Rattle.effects.specs.Part.{HasAhead}
+use Rattle.reversal_effects.specs.Walking.{HasAhead}
 use Rattle.movements.specs.Blocks.{HasBefore}
 
 module _ (c : Settings) (e : Site) (h : Placed c e) where

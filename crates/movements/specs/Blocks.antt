@@ -7,7 +7,8 @@ use Rattle.rules.specs.declared.Movement.{Movement}
 use Rattle.rules.specs.declared.Movement.the-variants.{Stays, Enters, Moves, Leaves}
 use Rattle.rules.specs.Site.{rankAt}
 use Rattle.rules.specs.Table.{effect}
-use Rattle.effects.specs.Part.{HasAhead, HasNext}
+use Rattle.reversal_effects.specs.Walking.{HasAhead}
+use Rattle.effects.specs.Part.{HasNext}
 
 module _ (c : Settings) (e : Site) where
   -- a block section before the post

@@ -5,7 +5,7 @@ ghost use Rattle.section.specs.Numbers.{mostBlocks};
 ghost use Rattle.rules.specs.Site.{blockAhead, blockBefore};
 ghost use Rattle.rules.specs.Table.{trainsAfter, lastAfter, trackAfter};
 ghost use Rattle.occupancy.specs.Placed.{Placed};
-ghost use Rattle.effects.specs.Part.{HasAhead};
+ghost use Rattle.reversal_effects.specs.Walking.{HasAhead};
 ghost use Rattle.movements.specs.Blocks.{HasBefore, HasBlocks, Fitting};
 use rules::Movement;
 use rules::Site;

@@ -1,12 +1,12 @@
 use mathlib.Core.Path.{_∙_, sym}
 use native.Mathlib.Numerals.{add-one}
 use Rattle.rules.specs.Site.{upAt}
-use Rattle.effects.proofs.Laws.{above-zero}
+use Rattle.reversal_effects.proofs.Laws.{above-zero}
 use borrow.Author.Needs.{needs}
-use Rattle.effects.proofs.next_post.Statement.{statement}
-use Rattle.effects.proofs.next_post.Tie as tie
-use Rattle.effects.proofs.next_post.Reads as reads
-use Rattle.effects.proofs.next_post.Lts as lts
+use Rattle.reversal_effects.proofs.next_post.Statement.{statement}
+use Rattle.reversal_effects.proofs.next_post.Tie as tie
+use Rattle.reversal_effects.proofs.next_post.Reads as reads
+use Rattle.reversal_effects.proofs.next_post.Lts as lts
 use Rattle.section.proofs.is_upward.Reads as is-upward-reads
 
 is-upward-requires : tie.Need-is-upward-requires
