@@ -3,9 +3,9 @@ use Prim.Native.Nat.{ℕ}
 use mathlib.Core.List.{List}
 use Rattle.listing.specs.Listing.{listing}
 use Rattle.listing.specs.Panel.{panel}
-use Rattle.agreement.specs.declared.Sheet.{Sheet}
-use Rattle.agreement.specs.declared.Sheet.the-variants.{Listing, Panel}
+use Rattle.sheets.specs.declared.Sheet.{Sheet}
+use Rattle.sheets.specs.declared.Sheet.the-variants.{OfSteps, OfPosts}
 
 unfoldable pub made : Sheet → List ℕ → List ℕ
-made Listing file = listing file
-made Panel file = panel file
+made OfSteps file = listing file
+made OfPosts file = panel file

@@ -6,11 +6,7 @@ ghost use lib.ListN.{length, replicate};
 ghost use Rattle.listing.specs.Text.{listed, handedOver};
 ghost use Rattle.agreement.specs.Made.{made};
 use listing::Listed;
-
-pub enum Sheet {
-    Listing,
-    Panel,
-}
+use sheets::Sheet;
 
 // Room for one byte more than the longest panel: stored bytes that fill it differ.
 pub fn sheet_room() -> [u8; 426009]
@@ -24,13 +20,12 @@ fn make(sheet: Sheet, file: &[u8], buffer: &mut [u8]) -> Listed
     ensures { λ _. ⌜ now (buffer .exit) ≡ handedOver (made sheet (now (file .entry))) (now (buffer .entry)) ⌝ }
 {
     match sheet {
-        Sheet::Listing => listing::listing(file, buffer),
-        Sheet::Panel => listing::panel(file, buffer),
+        Sheet::OfSteps => listing::listing(file, buffer),
+        Sheet::OfPosts => listing::panel(file, buffer),
     }
 }
 
-// Whether the stored bytes are what is made of the file. What does not fit the buffer is longer
-// than they are.
+// Whether the stored bytes are what is made of the file. What does not fit the buffer is longer than they are.
 pub fn agrees(sheet: Sheet, file: &[u8], stored: &[u8]) -> bool
     requires { ⌜ length (now stored) ≤ 426009 ⌝ }
     ensures { λ r. ⌜ (r ≡ true → made sheet (now (file .entry)) ≡ now (stored .entry)) ⌝ }

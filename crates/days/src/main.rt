@@ -1,9 +1,9 @@
 // Runs the stored days. For each name among the arguments it reads NAME.day, NAME.listing and
 // NAME.panel, and compares what the library makes of the day with what is stored.
-use agreement::Sheet;
 use agreement::agrees;
 use agreement::sheet_room;
 use libc::STDOUT_FILENO;
+use sheets::Sheet;
 
 // A byte more than the longest day file: a file that fills it is too long.
 const ROOM_FOR_FILE: usize = 32793;
@@ -24,8 +24,8 @@ fn open(name: &[u8], ending: &[u8]) -> i32 {
 
 fn open_sheet(name: &[u8], sheet: Sheet) -> i32 {
     match sheet {
-        Sheet::Listing => open(name, b".listing"),
-        Sheet::Panel => open(name, b".panel"),
+        Sheet::OfSteps => open(name, b".listing"),
+        Sheet::OfPosts => open(name, b".panel"),
     }
 }
 
@@ -38,8 +38,8 @@ fn report(name: &[u8], what: &[u8]) -> bool {
 
 fn report_sheet(name: &[u8], sheet: Sheet) -> bool {
     match sheet {
-        Sheet::Listing => report(name, b": listing differs\n"),
-        Sheet::Panel => report(name, b": panel differs\n"),
+        Sheet::OfSteps => report(name, b": listing differs\n"),
+        Sheet::OfPosts => report(name, b": panel differs\n"),
     }
 }
 
@@ -61,10 +61,10 @@ fn sheet_differs(name: &[u8], sheet: Sheet, file: &[u8]) -> bool {
 
 // The panel is looked at where the listing agrees.
 fn file_differs(name: &[u8], file: &[u8]) -> bool {
-    if sheet_differs(name, Sheet::Listing, file) {
+    if sheet_differs(name, Sheet::OfSteps, file) {
         return true;
     }
-    sheet_differs(name, Sheet::Panel, file)
+    sheet_differs(name, Sheet::OfPosts, file)
 }
 
 fn day_differs(name: &[u8]) -> bool {
