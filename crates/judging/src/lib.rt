@@ -1,9 +1,10 @@
-// Judging a step on a section whose ranges hold: 4, then the table. The checks take the step's site and the trains' cells; only an accepted
-// step makes a track anew.
+// Judging a step on a section whose ranges hold: 4, then the table. The checks take the step's site and the trains' cells; a whole track is
+// handed on only where a step is accepted.
 ghost use mathlib.Core.Bool.{true};
 ghost use mathlib.Core.Path.{_≡_};
 ghost use Rattle.section.specs.Range.{inRange};
 ghost use Rattle.rules.specs.Judge.{judgeInRange};
+use rules::Site;
 use section::Answer;
 use section::Decoded;
 use section::Section;
@@ -27,8 +28,18 @@ pub fn judge_in_range(mut s: Section, bytes: &[u8]) -> Answer
     let t = if track { s.b } else { s.a };
     let other = if track { s.a } else { s.b };
     let other_walk = other.walk;
-    let vns = sites::settled_on_vns(other_walk, other.cvt);
-    let e = sites::site_on(vns, track, sites::post_of(step), t);
+    let post = sites::post_of(step);
+    let at = post as usize;
+    let own = t.posts[at];
+    let walk = t.walk;
+    let e = Site {
+        track: track,
+        post: post,
+        cvt: t.cvt,
+        walk: walk,
+        vns: sites::settled_on_vns(other_walk, other.cvt),
+        own: own,
+    };
     let trains = t.trains;
     let last = t.last;
     let verdict = checks::verdict(c, step, e, &trains, &last);

@@ -130,8 +130,19 @@ fn shown_on(c: Settings, track: bool, post: u8, t: Track) -> Indications
     requires { ⌜ (settingsRight c ≡ true) × (trackFits (c .posts) track t ≡ true) × (post < c .posts) ⌝ }
     ensures { λ r. ⌜ r ≡ shownAt c (siteOn true track post t) (t .trains) ⌝ }
 {
+    let at = post as usize;
+    let own = t.posts[at];
+    let walk = t.walk;
     let trains = t.trains;
-    shown_at(c, sites::site_on(true, track, post, t), &trains)
+    let e = Site {
+        track: track,
+        post: post,
+        cvt: t.cvt,
+        walk: walk,
+        vns: true,
+        own: own,
+    };
+    shown_at(c, e, &trains)
 }
 
 fn all_dark() -> Indications

@@ -1,13 +1,9 @@
-// Where a step is taken: its post, the track there, and whether the other track is settled on VNS.
+// Where a step is taken: its post, and whether the other track is settled on VNS.
 ghost use mathlib.Core.Bool.{not, _&&_};
 ghost use mathlib.Core.Path.{_≡_};
-ghost use Prim.Native.Nat.{_<_};
-ghost use Rattle.section.specs.Numbers.{mostPosts};
 ghost use Rattle.section.specs.Step.{postOf};
-ghost use Rattle.rules.specs.Site.{isSettled, siteOn};
-use rules::Site;
+ghost use Rattle.rules.specs.Site.{isSettled};
 use section::Step;
-use section::Track;
 use section::Walk;
 
 pub fn post_of(x: Step) -> u8
@@ -37,23 +33,5 @@ pub fn settled_on_vns(walk: Walk, cvt: bool) -> bool
     match walk {
         Walk::Settled => !cvt,
         Walk::Turn(_, _) => false,
-    }
-}
-
-// The site of a post on its track.
-pub fn site_on(vns: bool, track: bool, post: u8, t: Track) -> Site
-    requires { ⌜ post < mostPosts ⌝ }
-    ensures { λ r. ⌜ r ≡ siteOn vns track post t ⌝ }
-{
-    let at = post as usize;
-    let own = t.posts[at];
-    let walk = t.walk;
-    Site {
-        track: track,
-        post: post,
-        cvt: t.cvt,
-        walk: walk,
-        vns: vns,
-        own: own,
     }
 }

@@ -10,7 +10,7 @@ use Rattle.section.specs.declared.Decoded.the-variants.{Well}
 use Rattle.section.specs.Range.{inRange}
 use Rattle.section.specs.Step.{decoded}
 use Rattle.section.specs.Store.{trackOf}
-use Rattle.rules.specs.Site.{settledOnVns}
+use Rattle.rules.specs.Site.{siteOn, settledOnVns}
 use Rattle.judging.proofs.Looked.{Looked, post-among, site-is, malformed, placed, fits, accepted, refused}
 use borrow.Author.Needs.{needs}
 use Rattle.judging.proofs.judge_in_range.Statement.{statement}
@@ -54,21 +54,20 @@ step c = well c .d .given .0 .0
 abbrev own : tie.After-last2 → Track
 own c = c .before .before .before .before .before .before .before .before .if1 .t
 
-abbrev sited : tie.After-last2 → tie.After-site-on
-sited c = c .before .before .before .before
-
-looked : (c : tie.After-last2) → Looked (start c .args .s) (now (start c .args .bytes)) (step c) (own c) (sited c .site-on .result)
+looked : (c : tie.After-last2) →
+    Looked (start c .args .s) (now (start c .args .bytes)) (step c) (own c)
+    (siteOn (c .before .before .before .before .settled-on-vns .result) (step c .track) (c .before .before .before .before .before .before .post-of
+    .result) (own c))
 looked c =
-    let b = sited c .before .before in
-    let picked = own-track (b .before .before) in
+    let b = c .before .before .before .before in
+    let picked = own-track (b .before .before .before .before) in
     record {
       range = in-its-range (well c);
       well = says (well c);
       track = picked;
       site =
-          sited c .site-on .ensures
-          ∙ site-is (start c .args .s) (step c) (b .settled-on-vns .ensures ∙ ap settledOnVns (other-track (b .before))) (sited c .before .post-of
-          .ensures) picked;
+          site-is (start c .args .s) (step c) (b .settled-on-vns .ensures ∙ ap settledOnVns (other-track (b .before .before .before))) (b .before
+          .before .post-of .ensures) picked;
     }
 
 decode-requires : tie.Need-decode-requires
@@ -83,16 +82,20 @@ enum-told c = search needs
 returns : tie.Need-returns
 returns c = let b = c .before .before in malformed _ _ (b .before .before .before .pre) (sym (b .decode .ensures) ∙ c .enum-told .given .1)
 
-settled-on-vns-requires : tie.Need-settled-on-vns-requires
-settled-on-vns-requires c κs = search needs
-
 post-of-requires : tie.Need-post-of-requires
 post-of-requires c κs = search needs
 
-site-on-requires : tie.Need-site-on-requires
-site-on-requires c κs =
-    let d = c .before .before .before .before .before in
-    omega (arith, c .post-of .ensures, post-among _ _ (in-its-range d) (says d))
+cast-at : tie.Need-cast-at
+cast-at c = search needs
+
+mul-own : tie.Need-mul-own
+mul-own c = search needs
+
+element-copy-out-own : tie.Need-element-copy-out-own
+element-copy-out-own c = let d = c .before .before .before .before in omega (arith, c .post-of .ensures, post-among _ _ (in-its-range d) (says d))
+
+settled-on-vns-requires : tie.Need-settled-on-vns-requires
+settled-on-vns-requires c κs = search needs
 
 verdict-requires : tie.Need-verdict-requires
 verdict-requires c κs = placed (looked c)
@@ -131,9 +134,11 @@ judge-in-range-spec =
     enum-known-d
     enum-told
     returns
-    settled-on-vns-requires
     post-of-requires
-    site-on-requires
+    cast-at
+    mul-own
+    element-copy-out-own
+    settled-on-vns-requires
     verdict-requires
     enum-told-2
     track-after-requires
