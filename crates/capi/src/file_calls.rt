@@ -2,7 +2,7 @@
 ghost use mathlib.Core.Path.{_≡_};
 ghost use lib.ListN.{length};
 ghost use Rattle.layout.specs.Layout.{stepsPart};
-ghost use Rattle.dayfile.specs.Tests.{readOf, writeVerdict, writtenInto};
+ghost use Rattle.dayfile.specs.Answers.{readOf, writeVerdict, writtenInto};
 ghost use Rattle.packed.specs.Packed.{packedReading, packedSettings, packedWritten};
 ghost use Rattle.capi.specs.Settings.{settingsGiven};
 use crate::settings_given;

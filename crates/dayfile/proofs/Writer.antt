@@ -15,7 +15,8 @@ use Rattle.section.specs.Bytes.{byte}
 use Rattle.section.specs.Numbers.{stepLength}
 use Rattle.layout.specs.Layout.{mostSteps, settingsLength, trailerLength, settingsDistance, stepsDistance, mark, pairBytes}
 use Rattle.layout.specs.Layout.{fourBytes, settingsBytes, trailer, stepCount, fileOf}
-use Rattle.dayfile.specs.Tests.{firstMalformed, someMalformed, writerRefusalNumber, writeVerdict, writtenInto}
+use Rattle.file_tests.specs.Tests.{firstMalformed, someMalformed}
+use Rattle.dayfile.specs.Answers.{writerRefusalNumber, writeVerdict, writtenInto}
 use Rattle.layout.proofs.Parts.{settings-long}
 use Rattle.dayfile.proofs.Reader.{neither, past}
 use Rattle.dayfile.specs.declared.Written.{Written}

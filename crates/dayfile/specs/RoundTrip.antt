@@ -6,8 +6,8 @@ use lib.ListN.{length, take, drop}
 use Rattle.section.specs.declared.Settings.{Settings}
 use Rattle.section.specs.Bytes.{AllBytes}
 use Rattle.layout.specs.Layout.{stepCount, fileOf, stepsIn, stepsPart}
-use Rattle.dayfile.specs.Tests.{refusalNumber, refusalIndex, writerRefusalNumber, writerRefusalIndex, readVerdict, readOf}
-use Rattle.dayfile.specs.Tests.{writeVerdict, writtenInto}
+use Rattle.dayfile.specs.Answers.{refusalNumber, refusalIndex, writerRefusalNumber, writerRefusalIndex, readVerdict, readOf}
+use Rattle.dayfile.specs.Answers.{writeVerdict, writtenInto}
 use Rattle.dayfile.specs.declared.Reading.the-variants.{Day}
 use Rattle.dayfile.specs.declared.Written.the-variants.{Bytes}
 

@@ -1,12 +1,10 @@
 // Day files (document 01, "The day file"): the reader and the writer.
-mod tests;
-
 ghost use mathlib.Core.Path.{_≡_};
 ghost use Prim.Native.Nat.{_+_, _≤_};
 ghost use mathlib.Core.List.{_++_};
 ghost use lib.ListN.{length, take, drop};
 ghost use Rattle.layout.specs.Layout.{mostSteps, stepsDistance, stepCount, fileOf, stepsPart};
-ghost use Rattle.dayfile.specs.Tests.{notRead, readOf, writeVerdict, writtenInto};
+ghost use Rattle.dayfile.specs.Answers.{notRead, readOf, writeVerdict, writtenInto};
 use layout::MOST_STEPS;
 use layout::SETTINGS_DISTANCE;
 use layout::SETTINGS_LENGTH;
@@ -50,20 +48,20 @@ fn refused(number: u8, index: usize) -> ReadAnswer
 pub fn read(file: &[u8]) -> ReadAnswer
     ensures { λ r. ⌜ r ≡ readOf (now (file .entry)) ⌝ }
 {
-    if tests::length_wrong(file.len()) {
+    if file_tests::length_wrong(file.len()) {
         return refused(1, 0);
     }
     let steps = layout::steps_in(file);
     let count = layout::step_count(steps);
-    if !tests::trailer_right(count, layout::trailer_in(file)) {
+    if !file_tests::trailer_right(count, layout::trailer_in(file)) {
         return refused(2, 0);
     }
     let bytes = layout::settings_in(file);
-    if !tests::settings_bytes_right(bytes) {
+    if !file_tests::settings_bytes_right(bytes) {
         return refused(3, 0);
     }
     let c = layout::settings_of(bytes);
-    let first = tests::first_malformed(c.posts, steps);
+    let first = file_tests::first_malformed(c.posts, steps);
     if first < count {
         return refused(4, first);
     }
@@ -115,7 +113,7 @@ pub fn write(c: Settings, steps: &[u8], buffer: &mut [u8]) -> Written
         return Written::Refused(3, 0);
     }
     let count = layout::step_count(steps);
-    let first = tests::first_malformed(c.posts, steps);
+    let first = file_tests::first_malformed(c.posts, steps);
     if first < count {
         return Written::Refused(4, first);
     }

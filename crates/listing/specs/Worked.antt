@@ -12,8 +12,10 @@ use Rattle.section.specs.Step.{isWell, wellFormed}
 use Rattle.rules.specs.Indications.{setCount, isNextToSet, circulation, troncon, shown, lampsAt, dark, indicationsOn, indications}
 use Rattle.layout.specs.Layout.{pairBytes, four, fourBytes, fourAt, settingsBytes, trailer, stepCount, fileOf, fromEnd, trailerIn, settingsIn, stepsIn}
 use Rattle.layout.specs.Layout.{settingsOf, stepAt}
-use Rattle.dayfile.specs.Tests.{refusalNumber, lengthWrong, markRight, trailerRight, zerosRight, settingsBytesRight, wellAt, leading}
-use Rattle.dayfile.specs.Tests.{firstMalformed, someMalformed, readVerdict, readOf}
+use Rattle.file_tests.specs.Tests.{lengthWrong, markRight, trailerRight, zerosRight, settingsBytesRight, wellAt, leading}
+use Rattle.dayfile.specs.Answers.{refusalNumber}
+use Rattle.file_tests.specs.Tests.{firstMalformed, someMalformed}
+use Rattle.dayfile.specs.Answers.{readVerdict, readOf}
 use Rattle.examples.specs.Days.{on, offeredAs, refusals, fresh}
 use Rattle.text.specs.Text.{ascii, digits, decimal}
 use Rattle.lines.specs.Text.{word, letter, trackLetter, inTurn}

@@ -14,8 +14,10 @@ use Rattle.section.specs.Post.{sealed}
 use Rattle.section.specs.Step.{isWell, wellFormed}
 use Rattle.section.specs.Store.{postOn, withPost, withTrack}
 use Rattle.layout.specs.Layout.{four, fourAt, stepCount, fromEnd, trailerIn, settingsIn, stepsIn, settingsOf, stepAt}
-use Rattle.dayfile.specs.Tests.{refusalNumber, lengthWrong, markRight, trailerRight, zerosRight, settingsBytesRight}
-use Rattle.dayfile.specs.Tests.{wellAt, leading, firstMalformed, someMalformed, readVerdict, readOf}
+use Rattle.file_tests.specs.Tests.{lengthWrong, markRight, trailerRight, zerosRight, settingsBytesRight}
+use Rattle.dayfile.specs.Answers.{refusalNumber}
+use Rattle.file_tests.specs.Tests.{wellAt, leading, firstMalformed, someMalformed}
+use Rattle.dayfile.specs.Answers.{readVerdict, readOf}
 use Rattle.examples.specs.Days.{on, offeredAs, refusals, fresh}
 
 -- ## What is asked

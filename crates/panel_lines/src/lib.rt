@@ -39,7 +39,7 @@ fn put_posts(buffer: &mut [u8], at: usize, s: Section, track: u8) -> usize
     let mut next = at;
     let mut p = 0;
     while p < n {
-        next = put_lamps(buffer, next, engine::indications(s, track, p));
+        next = put_lamps(buffer, next, lamps::indications(s, track, p));
         p += 1;
     }
     next

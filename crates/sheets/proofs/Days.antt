@@ -23,9 +23,10 @@ use Rattle.section.proofs.Laws.{fresh-in-range}
 use Rattle.rules.specs.Judge.{judge}
 use Rattle.rules.proofs.RangeLaw.{ranges-kept}
 use Rattle.layout.specs.Layout.{mostSteps, settingsOf, settingsIn, stepAt, stepsIn, stepsPart}
-use Rattle.dayfile.specs.Tests.{readOf, refusalNumber, settingsBytesRight}
+use Rattle.file_tests.specs.Tests.{settingsBytesRight}
+use Rattle.dayfile.specs.Answers.{readOf, refusalNumber}
 use Rattle.dayfile.specs.declared.Reading.the-variants.{Day, Refused}
-use Rattle.dayfile.proofs.Laws.{all-whole}
+use Rattle.file_tests.proofs.Laws.{all-whole}
 use Rattle.dayfile.proofs.Reader.{day-read, few-steps}
 use Rattle.dayfile.proofs.RoundTrip.{gives-its-steps}
 use Rattle.text.specs.Text.{written}

@@ -7,7 +7,7 @@ use Rattle.section.specs.declared.Settings.{Settings}
 use Rattle.section.specs.Fresh.{freshSection}
 use Rattle.rules.specs.Judge.{judge}
 use Rattle.layout.specs.Layout.{stepAt, stepsIn}
-use Rattle.dayfile.specs.Tests.{readOf}
+use Rattle.dayfile.specs.Answers.{readOf}
 use Rattle.dayfile.specs.declared.Reading.{Reading}
 use Rattle.dayfile.specs.declared.Reading.the-variants.{Day, Refused}
 use Rattle.lines.specs.Text.{inTurn}

@@ -1,5 +1,5 @@
 -- The answer is made of its number, its index and blank settings.
-use Rattle.dayfile.specs.Tests.{notRead, blank}
+use Rattle.dayfile.specs.Answers.{notRead, blank}
 use mathlib.Core.Path.{refl}
 use Rattle.dayfile.proofs.refused.Statement.{statement}
 use Rattle.dayfile.proofs.refused.Tie as tie

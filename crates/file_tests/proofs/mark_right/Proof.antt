@@ -1,9 +1,9 @@
 -- The branches are the tests of the four bytes, in their order.
-use Rattle.dayfile.specs.Tests.{markRight}
+use Rattle.file_tests.specs.Tests.{markRight}
 use borrow.Author.Tests.{eq-eqb, ne-eqb}
 use borrow.Author.Needs.{needs}
-use Rattle.dayfile.proofs.tests.mark_right.Statement.{statement}
-use Rattle.dayfile.proofs.tests.mark_right.Tie as tie
+use Rattle.file_tests.proofs.mark_right.Statement.{statement}
+use Rattle.file_tests.proofs.mark_right.Tie as tie
 
 shared-slice-read-if1 : tie.Need-shared-slice-read-if1
 shared-slice-read-if1 c = search needs

@@ -1,16 +1,13 @@
--- The tests of a day file in their order, and the answers (document 01, "Refusals from the input").
-use Prim.Native.Nat.{ℕ, zero, suc, _%_}
-use mathlib.Core.Bool.{Bool, not, cond, _&&_, _||_}
+-- The order of the tests, and the answers of the reader and the writer (document 01, "Refusals from the input").
+use Prim.Native.Nat.{ℕ}
+use mathlib.Core.Bool.{not, cond, _||_}
 use mathlib.Core.List.{List, _++_}
 use lib.ListN.{length, drop}
 use lib.Dec.{eqb, ltb}
 use Rattle.section.specs.declared.Settings.{Settings}
-use Rattle.section.specs.Bytes.{byte, pair}
-use Rattle.section.specs.Numbers.{stepLength}
 use Rattle.section.specs.Settings.{settingsRight}
-use Rattle.section.specs.Step.{wellFormed}
-use Rattle.layout.specs.Layout.{mostSteps, settingsDistance, stepsDistance, longestFile, mark, fourAt, stepCount, fileOf, trailerIn}
-use Rattle.layout.specs.Layout.{settingsIn, stepsIn, settingsOf, stepAt}
+use Rattle.layout.specs.Layout.{mostSteps, stepsDistance, stepCount, fileOf, trailerIn, settingsIn, stepsIn, settingsOf}
+use Rattle.file_tests.specs.Tests.{lengthWrong, trailerRight, settingsBytesRight, firstMalformed, someMalformed}
 use Rattle.dayfile.specs.declared.Reading.{Reading}
 use Rattle.dayfile.specs.declared.Reading.the-variants.{Day, Refused}
 use Rattle.dayfile.specs.declared.ReadAnswer.{ReadAnswer}
@@ -34,46 +31,6 @@ writerRefusalNumber (NotWritten number index) = number
 unfoldable pub writerRefusalIndex : Written → ℕ
 writerRefusalIndex (Bytes length) = 0
 writerRefusalIndex (NotWritten number index) = index
-
--- ## The tests
-
--- "length below 24, above 32,792 or not a multiple of 8"
-unfoldable pub lengthWrong : ℕ → Bool
-lengthWrong length = ltb length settingsDistance || (ltb longestFile length || not (eqb (length % stepLength) 0))
-
-unfoldable pub markRight : List ℕ → Bool
-markRight t =
-    eqb (byte t 0) (byte mark 0)
-    && (eqb (byte t 1) (byte mark 1) && (eqb (byte t 2) (byte mark 2) && eqb (byte t 3) (byte mark 3)))
-
--- the mark, both distances and the count are those of a file with so many steps
-unfoldable pub trailerRight : ℕ → List ℕ → Bool
-trailerRight count t =
-    markRight t
-    && (eqb (fourAt t 4) settingsDistance && (eqb (fourAt t 8) (stepsDistance count) && eqb (fourAt t 12) count))
-
--- "bytes 6–7 zero"
-unfoldable pub zerosRight : List ℕ → Bool
-zerosRight s = eqb (pair (byte s 6) (byte s 7)) 0
-
--- "settings outside the above" are refused
-unfoldable pub settingsBytesRight : List ℕ → Bool
-settingsBytesRight s = settingsRight (settingsOf s) && zerosRight s
-
-unfoldable pub wellAt : ℕ → List ℕ → ℕ → Bool
-wellAt n steps i = wellFormed n (stepAt steps i)
-
--- how many of the first m numbers, from 0 on, pass the test before one that does not
-unfoldable pub leading : (ℕ → Bool) → ℕ → ℕ
-leading test zero = 0
-leading test (suc m) = cond (test 0) (suc (leading (λ (k : ℕ). test (suc k)) m)) 0
-
--- "the index of the first malformed step"; the number of steps where none is
-unfoldable pub firstMalformed : ℕ → List ℕ → ℕ
-firstMalformed n steps = leading (wellAt n steps) (stepCount steps)
-
-unfoldable pub someMalformed : ℕ → List ℕ → Bool
-someMalformed n steps = ltb (firstMalformed n steps) (stepCount steps)
 
 -- ## The reader
 

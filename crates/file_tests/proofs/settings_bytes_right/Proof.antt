@@ -1,9 +1,9 @@
 -- The branches are the tests of the ranges and of bytes 6 and 7.
-use Rattle.dayfile.specs.Tests.{settingsBytesRight, zerosRight}
+use Rattle.file_tests.specs.Tests.{settingsBytesRight, zerosRight}
 use Rattle.section.proofs.Told.{told-false, told-true}
 use borrow.Author.Needs.{needs}
-use Rattle.dayfile.proofs.tests.settings_bytes_right.Statement.{statement}
-use Rattle.dayfile.proofs.tests.settings_bytes_right.Tie as tie
+use Rattle.file_tests.proofs.settings_bytes_right.Statement.{statement}
+use Rattle.file_tests.proofs.settings_bytes_right.Tie as tie
 
 settings-of-requires : tie.Need-settings-of-requires
 settings-of-requires c κs = search needs

@@ -3,7 +3,7 @@ ghost use mathlib.Core.Path.{_≡_};
 ghost use Prim.Native.Nat.{_≤_};
 ghost use lib.ListN.{length};
 ghost use Rattle.layout.specs.Layout.{mostSteps, settingsLength, trailerLength};
-ghost use Rattle.dayfile.specs.Tests.{lengthWrong, markRight, trailerRight, settingsBytesRight, firstMalformed};
+ghost use Rattle.file_tests.specs.Tests.{lengthWrong, markRight, trailerRight, settingsBytesRight, firstMalformed};
 use layout::MARK;
 use layout::MOST_STEPS;
 use layout::SETTINGS_DISTANCE;
@@ -25,7 +25,7 @@ pub fn length_wrong(length: usize) -> bool
 }
 
 // Whether the trailer's first four bytes are the mark.
-pub(crate) fn mark_right(t: &[u8]) -> bool
+pub fn mark_right(t: &[u8]) -> bool
     requires { ⌜ trailerLength ≤ length (now t) ⌝ }
     ensures { λ r. ⌜ r ≡ markRight (now (t .entry)) ⌝ }
 {
@@ -42,7 +42,7 @@ pub(crate) fn mark_right(t: &[u8]) -> bool
 }
 
 // Whether the trailer is that of a file with so many steps.
-pub(crate) fn trailer_right(count: usize, t: &[u8]) -> bool
+pub fn trailer_right(count: usize, t: &[u8]) -> bool
     requires { ⌜ (count ≤ mostSteps) × (trailerLength ≤ length (now t)) ⌝ }
     ensures { λ r. ⌜ r ≡ trailerRight count (now (t .entry)) ⌝ }
 {
@@ -59,7 +59,7 @@ pub(crate) fn trailer_right(count: usize, t: &[u8]) -> bool
 }
 
 // Whether eight bytes are settings: within their ranges, and bytes 6 and 7 zero.
-pub(crate) fn settings_bytes_right(s: &[u8]) -> bool
+pub fn settings_bytes_right(s: &[u8]) -> bool
     requires { ⌜ settingsLength ≤ length (now s) ⌝ }
     ensures { λ r. ⌜ r ≡ settingsBytesRight (now (s .entry)) ⌝ }
 {

@@ -1,10 +1,10 @@
 -- The branches are the tests of the mark, the distances and the count, in their order.
-use Rattle.dayfile.specs.Tests.{trailerRight}
+use Rattle.file_tests.specs.Tests.{trailerRight}
 use borrow.Author.Tests.{eq-eqb, ne-eqb}
 use Rattle.section.proofs.Told.{told-false, told-true}
 use borrow.Author.Needs.{needs}
-use Rattle.dayfile.proofs.tests.trailer_right.Statement.{statement}
-use Rattle.dayfile.proofs.tests.trailer_right.Tie as tie
+use Rattle.file_tests.proofs.trailer_right.Statement.{statement}
+use Rattle.file_tests.proofs.trailer_right.Tie as tie
 
 mark-right-requires : tie.Need-mark-right-requires
 mark-right-requires c κs = search needs
