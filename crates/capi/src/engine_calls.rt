@@ -1,7 +1,7 @@
 // The engine, over a section's image.
 ghost use mathlib.Core.Path.{_≡_};
 ghost use lib.ListN.{length};
-ghost use Rattle.engine.specs.AcceptedCount.{acceptedCount};
+ghost use Rattle.whole_day.specs.AcceptedCount.{acceptedCount};
 ghost use Rattle.capi.specs.Engine.{freshAnswer, freshImage, judgeAnswer, judgeImage, shownOf};
 ghost use Rattle.capi.specs.Settings.{settingsGiven};
 use crate::settings_given;
@@ -60,5 +60,5 @@ pub extern "C" fn bsr_indications(bytes: &[u8], track: u8, post: u8) -> u16
 pub extern "C" fn bsr_accepted(n: u8, form: u8, mask: u16, line: u16, steps: &[u8]) -> u64
     ensures { λ r. ⌜ r ≡ acceptedCount (settingsGiven n form mask line) (now (steps .entry)) ⌝ }
 {
-    engine::accepted_count(settings_given(n, form, mask, line), steps) as u64
+    whole_day::accepted_count(settings_given(n, form, mask, line), steps) as u64
 }

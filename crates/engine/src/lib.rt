@@ -1,13 +1,10 @@
 // The engine: a step offered to a section is judged, and a post's indications are shown.
-mod whole_day;
-
 ghost use mathlib.Core.Path.{_≡_};
 ghost use Rattle.rules.specs.Judge.{judge};
 pub use lamps::indications;
 use section::Answer;
 use section::Section;
 use section::Verdict;
-pub use whole_day::accepted_count;
 
 // Judges bytes offered to a section: 6, then 4, then the table. A refusal returns the section as it came.
 pub fn judge(s: Section, bytes: &[u8]) -> Answer

@@ -1,14 +1,61 @@
-// Judging a step on a section whose ranges hold: 4, then the table. The checks take the step's site and the trains' cells; a whole track is
-// handed on only where a step is accepted.
+// Judging a step on a section whose ranges hold: 4, then the table.
 ghost use mathlib.Core.Bool.{true};
 ghost use mathlib.Core.Path.{_≡_};
 ghost use Rattle.section.specs.Range.{inRange};
 ghost use Rattle.rules.specs.Judge.{judgeInRange};
-use rules::Site;
+ghost use Rattle.sites.specs.Fit.{Fit};
+ghost use Rattle.table.specs.Judged.{siteIn};
+ghost use Rattle.judging.specs.OnTrack.{trackAnswer};
 use section::Answer;
 use section::Decoded;
 use section::Section;
+use section::Settings;
+use section::Track;
+use section::TrackStep;
 use section::Verdict;
+use sites::Running;
+
+// A step's verdict, and its track after it.
+pub struct TrackAnswer {
+    pub verdict: Verdict,
+    pub track: Track,
+}
+
+// Judges a well-formed step on its own track; of the other only the running direction and the walk count.
+fn judge_on_track(c: Settings, x: TrackStep, t: Track, other: Running) -> TrackAnswer
+    requires { ⌜ Fit c (siteIn x t other) ⌝ }
+    ensures { λ r. ⌜ r ≡ trackAnswer c x t other ⌝ }
+{
+    let step = x.step;
+    let post = sites::post_of(step);
+    let at = post as usize;
+    let own = t.posts[at];
+    let walk = t.walk;
+    let running = Running {
+        cvt: t.cvt,
+        walk: walk,
+    };
+    let mut trains = t.trains;
+    let mut last = t.last;
+    let e = sites::site(x.track, post, own, running, other);
+    let judged = table::judge_at(c, step, e, &mut trains, &mut last);
+    let verdict = judged.verdict;
+    let own_after = judged.own;
+    let after = judged.running;
+    let walk_after = after.walk;
+    let mut posts = t.posts;
+    posts[at] = own_after;
+    TrackAnswer {
+        verdict: verdict,
+        track: Track {
+            posts: posts,
+            trains: trains,
+            last: last,
+            cvt: after.cvt,
+            walk: walk_after,
+        },
+    }
+}
 
 // Judges bytes offered to a section in its ranges. An accepted step changes its own track; a refused one leaves the section as it came.
 pub fn judge_in_range(mut s: Section, bytes: &[u8]) -> Answer
@@ -24,35 +71,20 @@ pub fn judge_in_range(mut s: Section, bytes: &[u8]) -> Answer
         };
     };
     let track = x.track;
-    let step = x.step;
     let t = if track { s.b } else { s.a };
     let other = if track { s.a } else { s.b };
     let other_walk = other.walk;
-    let post = sites::post_of(step);
-    let at = post as usize;
-    let own = t.posts[at];
-    let walk = t.walk;
-    let e = Site {
-        track: track,
-        post: post,
-        cvt: t.cvt,
-        walk: walk,
-        vns: sites::settled_on_vns(other_walk, other.cvt),
-        own: own,
+    let running = Running {
+        cvt: other.cvt,
+        walk: other_walk,
     };
-    let trains = t.trains;
-    let last = t.last;
-    let verdict = checks::verdict(c, step, e, &trains, &last);
-    match verdict {
-        Verdict::Accepted(_) => {
-            let after = movements::track_after(c, step, e, t);
-            if track {
-                s.b = after;
-            } else {
-                s.a = after;
-            }
-        }
-        Verdict::Refused(_) => {}
+    let answer = judge_on_track(c, x, t, running);
+    let verdict = answer.verdict;
+    let after = answer.track;
+    if track {
+        s.b = after;
+    } else {
+        s.a = after;
     }
     Answer {
         verdict: verdict,

@@ -1,10 +1,17 @@
-// Where a step is taken: its post, and whether the other track is settled on VNS.
-ghost use mathlib.Core.Bool.{not, _&&_};
+// Where a step is taken: its post, and what the two tracks do.
 ghost use mathlib.Core.Path.{_≡_};
 ghost use Rattle.section.specs.Step.{postOf};
-ghost use Rattle.rules.specs.Site.{isSettled};
+ghost use Rattle.sites.specs.Running.{settledVns, siteWith};
+use rules::Site;
+use section::Post;
 use section::Step;
 use section::Walk;
+
+// A track's running direction (true for CVT) and its walk.
+pub struct Running {
+    pub cvt: bool,
+    pub walk: Walk,
+}
 
 pub fn post_of(x: Step) -> u8
     ensures { λ r. ⌜ r ≡ postOf x ⌝ }
@@ -26,12 +33,28 @@ pub fn post_of(x: Step) -> u8
     }
 }
 
-// A track with that walk and running direction is settled on VNS.
-pub fn settled_on_vns(walk: Walk, cvt: bool) -> bool
-    ensures { λ r. ⌜ r ≡ (isSettled walk && not cvt) ⌝ }
+// A track with that running direction and walk is settled on VNS.
+pub fn settled_on_vns(running: Running) -> bool
+    ensures { λ r. ⌜ r ≡ settledVns running ⌝ }
 {
+    let walk = running.walk;
     match walk {
-        Walk::Settled => !cvt,
+        Walk::Settled => !running.cvt,
         Walk::Turn(_, _) => false,
+    }
+}
+
+// The site of a step at a post with that record; the other track counts by whether it is settled on VNS.
+pub fn site(track: bool, post: u8, own: Post, running: Running, other: Running) -> Site
+    ensures { λ r. ⌜ r ≡ siteWith track post own running other ⌝ }
+{
+    let walk = running.walk;
+    Site {
+        track: track,
+        post: post,
+        cvt: running.cvt,
+        walk: walk,
+        vns: settled_on_vns(other),
+        own: own,
     }
 }

@@ -1,1 +1,2 @@
 pub mod AcceptedCount
+pub mod Rows

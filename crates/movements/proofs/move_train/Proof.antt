@@ -2,10 +2,10 @@ use mathlib.Core.Path.{subst}
 use Rattle.rules.specs.Table.{trainsAfter}
 use Rattle.movements.specs.Blocks.{HasBlocks}
 use borrow.Author.Needs.{needs}
-use Rattle.movements.proofs.trains_after.Statement.{statement}
-use Rattle.movements.proofs.trains_after.Tie as tie
-use Rattle.movements.proofs.trains_after.Reads as reads
-use Rattle.movements.proofs.trains_after.Lts as lts
+use Rattle.movements.proofs.move_train.Statement.{statement}
+use Rattle.movements.proofs.move_train.Tie as tie
+use Rattle.movements.proofs.move_train.Reads as reads
+use Rattle.movements.proofs.move_train.Lts as lts
 use Rattle.movements.proofs.block_ahead.Reads as block-ahead-reads
 use Rattle.movements.proofs.block_before.Reads as block-before-reads
 
@@ -22,8 +22,8 @@ block-ahead-requires c κs = let b = c .before .before .before in (b .pre .0, su
 mul-trains : tie.Need-mul-trains
 mul-trains c = search needs
 
-array-write-trains : tie.Need-array-write-trains
-array-write-trains c = search needs
+element-write-trains : tie.Need-element-write-trains
+element-write-trains c = search needs
 
 enum-known-m-2 : tie.Need-enum-known-m-2
 enum-known-m-2 c = search needs
@@ -43,14 +43,14 @@ block-ahead-requires-2 c κs =
 mul-trains-2 : tie.Need-mul-trains-2
 mul-trains-2 c = search needs
 
-array-write-trains-2 : tie.Need-array-write-trains-2
-array-write-trains-2 c = search needs
+element-write-trains-2 : tie.Need-element-write-trains-2
+element-write-trains-2 c = search needs
 
 mul-trains-3 : tie.Need-mul-trains-3
 mul-trains-3 c = search needs
 
-array-write-trains-3 : tie.Need-array-write-trains-3
-array-write-trains-3 c = search needs
+element-write-trains-3 : tie.Need-element-write-trains-3
+element-write-trains-3 c = search needs
 
 enum-told-2 : tie.Need-enum-told-2
 enum-told-2 c = search needs
@@ -62,8 +62,8 @@ block-before-requires-2 c κs = let b = c .before .before in (b .pre .0, subst (
 mul-trains-4 : tie.Need-mul-trains-4
 mul-trains-4 c = search needs
 
-array-write-trains-4 : tie.Need-array-write-trains-4
-array-write-trains-4 c = search needs
+element-write-trains-4 : tie.Need-element-write-trains-4
+element-write-trains-4 c = search needs
 
 returns : tie.Need-returns
 unfolding trainsAfter
@@ -81,26 +81,26 @@ returns-4 : tie.Need-returns-4
 unfolding trainsAfter
 returns-4 c = rw (c .block-before2 .ensures .0, c .before .enum-told2 .given .1)
 
-pub trains-after-spec : {M : Type 1} → statement M
-trains-after-spec =
+pub move-train-spec : {M : Type 1} → statement M
+move-train-spec =
     tie.close
     (tie.spec
     enum-told
     enum-known-m
     block-ahead-requires
     mul-trains
-    array-write-trains
+    element-write-trains
     enum-known-m-2
     block-before-requires
     block-ahead-requires-2
     mul-trains-2
-    array-write-trains-2
+    element-write-trains-2
     mul-trains-3
-    array-write-trains-3
+    element-write-trains-3
     enum-told-2
     block-before-requires-2
     mul-trains-4
-    array-write-trains-4
+    element-write-trains-4
     returns
     returns-2
     returns-3

@@ -2,10 +2,10 @@ use mathlib.Core.Path.{subst}
 use Rattle.rules.specs.Table.{lastAfter}
 use Rattle.movements.specs.Blocks.{HasBlocks}
 use borrow.Author.Needs.{needs}
-use Rattle.movements.proofs.last_after.Statement.{statement}
-use Rattle.movements.proofs.last_after.Tie as tie
-use Rattle.movements.proofs.last_after.Reads as reads
-use Rattle.movements.proofs.last_after.Lts as lts
+use Rattle.movements.proofs.note_last.Statement.{statement}
+use Rattle.movements.proofs.note_last.Tie as tie
+use Rattle.movements.proofs.note_last.Reads as reads
+use Rattle.movements.proofs.note_last.Lts as lts
 use Rattle.movements.proofs.block_ahead.Reads as block-ahead-reads
 
 enum-told : tie.Need-enum-told
@@ -21,8 +21,8 @@ block-ahead-requires c κs = let b = c .before .before .before in (b .pre .0, su
 mul-last : tie.Need-mul-last
 mul-last c = search needs
 
-array-write-last : tie.Need-array-write-last
-array-write-last c = search needs
+element-write-last : tie.Need-element-write-last
+element-write-last c = search needs
 
 enum-known-m-2 : tie.Need-enum-known-m-2
 enum-known-m-2 c = search needs
@@ -36,8 +36,8 @@ block-ahead-requires-2 c κs =
 mul-last-2 : tie.Need-mul-last-2
 mul-last-2 c = search needs
 
-array-write-last-2 : tie.Need-array-write-last-2
-array-write-last-2 c = search needs
+element-write-last-2 : tie.Need-element-write-last-2
+element-write-last-2 c = search needs
 
 enum-told-2 : tie.Need-enum-told-2
 enum-told-2 c = search needs
@@ -58,19 +58,19 @@ returns-4 : tie.Need-returns-4
 unfolding lastAfter
 returns-4 c = rw (c .enum-told2 .given .1)
 
-pub last-after-spec : {M : Type 1} → statement M
-last-after-spec =
+pub note-last-spec : {M : Type 1} → statement M
+note-last-spec =
     tie.close
     (tie.spec
     enum-told
     enum-known-m
     block-ahead-requires
     mul-last
-    array-write-last
+    element-write-last
     enum-known-m-2
     block-ahead-requires-2
     mul-last-2
-    array-write-last-2
+    element-write-last-2
     enum-told-2
     returns
     returns-2

@@ -18,17 +18,12 @@ use Rattle.section.specs.Settings.{settingsRight}
 use Rattle.section.proofs.Laws.{fresh-in-range}
 use Rattle.rules.specs.Judge.{judgeInRange, judge}
 use Rattle.rules.proofs.RangeLaw.{ranges-kept}
-use Rattle.engine.specs.AcceptedCount.{countsAs, offeredAt, acceptedFrom, acceptedCount}
+use Rattle.whole_day.specs.AcceptedCount.{countsAs, offeredAt, acceptedFrom, acceptedCount}
 
 pub counts-at-most : (v : Verdict) (r : ℕ) → r ≡ countsAs v → r ≤ 1
 unfolding countsAs
 counts-at-most (Accepted w) r e = omega arith
 counts-at-most (Refused k) r e = omega arith
-
-pub none-counted : (f : ℕ → ℕ) (m : ℕ) → f m ≡ 0 + f (m - 0)
-none-counted f m =
-    let e : m - 0 ≡ m = omega arith in
-    rw e (omega arith)
 
 -- the part that is lent is the step's bytes
 pub part-offered : (steps : List ℕ) (i : ℕ) → take (i * 8 + 8 - i * 8) (drop (i * 8) steps) ≡ offeredAt steps i
@@ -45,16 +40,6 @@ one-more s steps i k k′ total done r bytes after q t is told counts =
     let n : i + 1 ≡ suc i = add-one i in
     let u : total ≡ done + acceptedFrom s steps i (suc k′) = t ∙ ap (λ (j : ℕ). done + acceptedFrom s steps i j) q in
     rw (counts, e, n, add-assoc) u
-
--- the last step is counted
-pub all-counted :
-    (c : Settings) (s₀ s : Section) (steps : List ℕ) (i m done : ℕ) → s₀ ≡ freshSection c → i ≡ m → m ≡ length steps / 8
-    → acceptedFrom s₀ steps 0 m ≡ done + acceptedFrom s steps i (m - i) → done ≡ acceptedCount c steps
-unfolding acceptedFrom acceptedCount
-all-counted c s₀ s steps i m done fresh end count t =
-    let z : m - i ≡ 0 = omega arith in
-    let u : acceptedFrom s₀ steps 0 m ≡ done + 0 = t ∙ ap (λ (k : ℕ). done + acceptedFrom s steps i k) z in
-    sym (add-zero done) ∙ sym u ∙ ap (λ (x : Section). acceptedFrom x steps 0 m) fresh ∙ ap (acceptedFrom (freshSection c) steps 0) count
 
 -- a section out of its ranges accepts nothing
 none-accepted : (s : Section) (steps : List ℕ) (i m : ℕ) → inRange s ≡ false → acceptedFrom s steps i m ≡ 0
@@ -73,6 +58,3 @@ judged-in-range s bytes after h e = rw h e
 
 pub range-kept : (s : Section) (bytes : List ℕ) (after : Answer) → inRange s ≡ true → after ≡ judgeInRange s bytes → inRange (after .section) ≡ true
 range-kept s bytes after h e = rw (judged-in-range s bytes after h e) (ranges-kept s bytes h)
-
-pub fresh-range : (c : Settings) (s : Section) → settingsRight c ≡ true → s ≡ freshSection c → inRange s ≡ true
-fresh-range c s right e = rw e (fresh-in-range c right)

@@ -1,0 +1,61 @@
+use mathlib.Core.Path.{subst, sym}
+use Rattle.sites.specs.Fit.{Fit}
+use Rattle.table.proofs.OnTrack.{site-in}
+use Rattle.judging.proofs.OnTrack.{put-back}
+use borrow.Author.Needs.{needs}
+use Rattle.judging.proofs.judge_on_track.Statement.{statement}
+use Rattle.judging.proofs.judge_on_track.Tie as tie
+
+post-of-requires : tie.Need-post-of-requires
+post-of-requires c κs = search needs
+
+cast-at : tie.Need-cast-at
+cast-at c = search needs
+
+mul-own : tie.Need-mul-own
+mul-own c = search needs
+
+element-copy-out-own : tie.Need-element-copy-out-own
+element-copy-out-own c = search needs
+
+site-requires : tie.Need-site-requires
+site-requires c κs = search needs
+
+judge-at-requires : tie.Need-judge-at-requires
+judge-at-requires c κs =
+    let site = c .before .before in
+    let post = site .before .before .before .before in
+    let a = post .before .args in
+    subst (Fit (a .c)) (sym (site-in (a .x) (a .t3) (a .other) (post .post-of .ensures) (site .site .ensures))) (post .before .pre)
+
+mul-posts : tie.Need-mul-posts
+mul-posts c = search needs
+
+array-set-from-posts : tie.Need-array-set-from-posts
+array-set-from-posts c = search needs
+
+returns : tie.Need-returns
+returns c =
+    let judged = c .before .before .before in
+    let site = judged .before .before .before in
+    let post = site .before .before .before .before in
+    let a = post .before .args in
+    put-back (a .c) (a .x) (a .t3) (a .other) (post .post-of .ensures)
+    (site-in (a .x) (a .t3) (a .other) (post .post-of .ensures) (site .site .ensures))
+    (judged .judge-at .ensures .0)
+    (judged .judge-at .ensures .1 .0)
+    (judged .judge-at .ensures .1 .1)
+
+pub judge-on-track-spec : {M : Type 1} → statement M
+judge-on-track-spec =
+    tie.close
+    (tie.spec
+    post-of-requires
+    cast-at
+    mul-own
+    element-copy-out-own
+    site-requires
+    judge-at-requires
+    mul-posts
+    array-set-from-posts
+    returns)

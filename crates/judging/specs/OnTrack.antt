@@ -1,0 +1,13 @@
+-- A step judged on its own track.
+use Rattle.section.specs.declared.Settings.{Settings}
+use Rattle.section.specs.declared.Track.{Track}
+use Rattle.section.specs.declared.TrackStep.{TrackStep}
+use Rattle.sites.specs.declared.Running.{Running}
+use Rattle.table.specs.Judged.{judgedAt, trackAt, siteIn}
+use Rattle.judging.specs.declared.TrackAnswer.{TrackAnswer}
+
+unfoldable pub trackAnswer : Settings → TrackStep → Track → Running → TrackAnswer
+trackAnswer c x t other = record {
+  verdict = judgedAt c (x .step) (siteIn x t other) (t .trains) (t .last) .verdict;
+  track = trackAt c (x .step) (siteIn x t other) t;
+}

@@ -1,0 +1,2 @@
+pub mod AtSite
+pub mod OnTrack

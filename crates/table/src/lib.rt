@@ -1,0 +1,63 @@
+// A step judged by the table at its site: the checks, then what an accepted step does.
+ghost use mathlib.Core.Path.{_≡_};
+ghost use Rattle.sites.specs.Fit.{Fit};
+ghost use Rattle.table.specs.Judged.{judgedAt, trainsAt, lastAt};
+use rules::Site;
+use section::Post;
+use section::Settings;
+use section::Step;
+use section::Verdict;
+use sites::Running;
+
+// The verdict, and what the step leaves beside the trains: its post's record, and its track's running direction and walk.
+pub struct Judged {
+    pub verdict: Verdict,
+    pub own: Post,
+    pub running: Running,
+}
+
+// Judges a step at its site, and moves its train where it is accepted.
+pub fn judge_at(
+    c: Settings,
+    x: Step,
+    e: Site,
+    trains: &mut [u16; 15],
+    last: &mut [u16; 15],
+) -> Judged
+    requires { ⌜ Fit c e ⌝ }
+    ensures { λ r. ⌜ r ≡ judgedAt c x e (now (trains .entry)) (now (last .entry)) ⌝ }
+    ensures { λ _. ⌜ now (trains .exit) ≡ trainsAt c x e (now (trains .entry)) (now (last .entry)) ⌝ }
+    ensures { λ _. ⌜ now (last .exit) ≡ lastAt c x e (now (trains .entry)) (now (last .entry)) ⌝ }
+{
+    let verdict = checks::verdict(c, x, e, trains, last);
+    match verdict {
+        Verdict::Accepted(_) => {
+            let f = effects::effect_of(c, x, e);
+            let train = f.train;
+            movements::move_train(c, train, e, trains);
+            movements::note_last(c, train, e, last);
+            let own = f.own;
+            let walk = f.walk;
+            Judged {
+                verdict: verdict,
+                own: own,
+                running: Running {
+                    cvt: f.cvt,
+                    walk: walk,
+                },
+            }
+        }
+        Verdict::Refused(_) => {
+            let own = e.own;
+            let walk = e.walk;
+            Judged {
+                verdict: verdict,
+                own: own,
+                running: Running {
+                    cvt: e.cvt,
+                    walk: walk,
+                },
+            }
+        }
+    }
+}

@@ -1,0 +1,163 @@
+-- The cells of the two tracks, side by side, before and after a step.
+use Prim.Native.Nat.{ℕ, _-_, _<_}
+use mathlib.Core.Bool.{Bool, true, false, cond, not}
+use mathlib.Core.List.{List, []}
+use mathlib.Core.Path.{_≡_, refl, sym, _∙_, ap, subst}
+use native.Mathlib.Omega.{arith}
+use lib.ListN.{length, getD, set, length-set}
+use lib.Seq.{getD-set-same, getD-set-other}
+use Rattle.section.specs.declared.Settings.{Settings}
+use Rattle.section.specs.declared.Post.{Post}
+use Rattle.section.specs.declared.Track.{Track}
+use Rattle.section.specs.declared.Section.{Section}
+use Rattle.section.specs.declared.TrackStep.{TrackStep}
+use Rattle.section.specs.declared.Decoded.the-variants.{Well}
+use Rattle.section.specs.declared.Walk.the-variants.{Settled}
+use Rattle.section.specs.Post.{blank}
+use Rattle.section.specs.Range.{inRange}
+use Rattle.section.specs.Step.{decoded, postOf}
+use Rattle.section.specs.Store.{trackOf, withTrack, postOn}
+use Rattle.rules.specs.declared.Site.{Site}
+use Rattle.rules.specs.Judge.{siteOf, judgeInRange}
+use Rattle.sites.specs.declared.Running.{Running}
+use Rattle.sites.specs.Running.{runningOf, siteWith}
+use Rattle.sites.specs.Fit.{Fit}
+use Rattle.table.specs.declared.Judged.{Judged}
+use Rattle.table.specs.Judged.{judgedAt, trainsAt, lastAt, trackAt, siteIn}
+use Rattle.table.proofs.OnTrack.{site-in, step-judged, fit, judged}
+use Rattle.whole_day.specs.Rows.{row, settled, trackIn, sectionIn}
+
+-- a write to the place of a track changes nothing at the other's
+module _ {A : Type 0} (l : List A) (v d : A) (two : length l ≡ 2) where
+  kept-a : (k : Bool) → getD (set l (row k) v) 0 d ≡ cond k (getD l 0 d) v
+  kept-a true = getD-set-other l 1 0 v d (λ e. omega arith)
+  kept-a false = getD-set-same l 0 v d (omega arith)
+
+  kept-b : (k : Bool) → getD (set l (row k) v) 1 d ≡ cond k v (getD l 1 d)
+  kept-b true = getD-set-same l 1 v d (omega arith)
+  kept-b false = getD-set-other l 0 1 v d (λ e. omega arith)
+
+module _
+    (posts : List (List Post))
+    (trains last : List (List ℕ))
+    (running : List Running)
+    (c : Settings) where
+  abbrev s : Section
+  s = sectionIn posts trains last running c
+
+  -- a track's cells stand at its place
+  own-row : (k : Bool) → trackIn posts trains last running (row k) ≡ trackOf s k
+  own-row true = refl
+  own-row false = refl
+
+  other-row : (k : Bool) → runningOf (trackIn posts trains last running (1 - row k)) ≡ runningOf (trackOf s (not k))
+  other-row true = refl
+  other-row false = refl
+
+  -- each has a place for A and one for B
+  pub record Two : Type 0 where
+    pub two-posts : length posts ≡ 2
+    pub two-trains : length trains ≡ 2
+    pub two-last : length last ≡ 2
+    pub two-running : length running ≡ 2
+
+  module _ (two : Two) (t : Track) where
+    abbrev track-a : Bool → Track
+    track-a k = record {
+      posts = cond k (getD posts 0 []) (t .posts);
+      trains = cond k (getD trains 0 []) (t .trains);
+      last = cond k (getD last 0 []) (t .last);
+      cvt = cond k (getD running 0 settled) (runningOf t) .cvt;
+      walk = cond k (getD running 0 settled) (runningOf t) .walk;
+    }
+
+    abbrev track-b : Bool → Track
+    track-b k = record {
+      posts = cond k (t .posts) (getD posts 1 []);
+      trains = cond k (t .trains) (getD trains 1 []);
+      last = cond k (t .last) (getD last 1 []);
+      cvt = cond k (runningOf t) (getD running 1 settled) .cvt;
+      walk = cond k (runningOf t) (getD running 1 settled) .walk;
+    }
+
+    one-changed : (k : Bool) → record { settings = c; a = track-a k; b = track-b k } ≡ withTrack s k t
+    one-changed true = refl
+    one-changed false = refl
+
+    -- what is written at a track's place is the section's track
+    pub rows-after :
+        (k : Bool)
+        → sectionIn (set posts (row k) (t .posts)) (set trains (row k) (t .trains)) (set last (row k) (t .last)) (set running (row k) (runningOf t)) c
+        ≡ withTrack s k t
+    rows-after k =
+        rw (
+          kept-a posts (t .posts) [] (two .two-posts) k,
+          kept-b posts (t .posts) [] (two .two-posts) k,
+          kept-a trains (t .trains) [] (two .two-trains) k,
+          kept-b trains (t .trains) [] (two .two-trains) k,
+          kept-a last (t .last) [] (two .two-last) k,
+          kept-b last (t .last) [] (two .two-last) k,
+          kept-a running (runningOf t) settled (two .two-running) k,
+          kept-b running (runningOf t) settled (two .two-running) k,
+        ) (one-changed k)
+
+  -- ## A well-formed step
+
+  module _ (bytes : List ℕ) (x : TrackStep) (well : decoded (c .posts) bytes ≡ Well x) {k p : ℕ} (ek : k ≡ row (x .track)) (ep : p ≡ postOf (x .step)) where
+    -- the site that the code puts together
+    pub site-at :
+        {e : Site} → e ≡ siteWith (x .track) p (getD (getD posts k []) p blank) (getD running k settled) (getD running (1 - k) settled)
+        → e ≡ siteOf s x
+    site-at es =
+        let own = trackOf s (x .track) in
+        let other = runningOf (trackOf s (not (x .track))) in
+        let here : trackIn posts trains last running k ≡ own = ap (trackIn posts trains last running) ek ∙ own-row (x .track) in
+        let there : getD running (1 - k) settled ≡ other = ap (λ (i : ℕ). getD running (1 - i) settled) ek ∙ other-row (x .track) in
+        site-in x own other ep (
+        es ∙ (ap (λ (t : Track). siteWith (x .track) p (postOn t p) (runningOf t) (getD running (1 - k) settled)) here
+        ∙ ap (siteWith (x .track) p (postOn own p) (runningOf own)) there)
+        )
+
+    pub fit-at : inRange s ≡ true → {e : Site} → e ≡ siteOf s x → Fit c e
+    fit-at h es = subst (Fit c) (sym es) (fit s bytes x well h (runningOf (trackOf s (not (x .track)))))
+
+    -- what the step leaves, written at its track's place
+    pub judged-at :
+        Two → {e : Site} {j : Judged} {moved noted : List ℕ} → e ≡ siteOf s x
+        → j ≡ judgedAt c (x .step) e (getD trains k []) (getD last k [])
+        → moved ≡ trainsAt c (x .step) e (getD trains k []) (getD last k [])
+        → noted ≡ lastAt c (x .step) e (getD trains k []) (getD last k [])
+        → record {
+          verdict = j .verdict;
+          section =
+              sectionIn (set posts k (set (getD posts k []) p (j .own))) (set trains k moved) (set last k noted) (set running k (j .running)) c;
+        } ≡ judgeInRange s bytes
+    unfolding trackAt
+    judged-at two {e} {j} {moved} {noted} es ej em en =
+        let t = trackOf s (x .track) in
+        let after = trackAt c (x .step) (siteOf s x) t in
+        let here : trackIn posts trains last running k ≡ t = ap (trackIn posts trains last running) ek ∙ own-row (x .track) in
+        let gives : j ≡ judgedAt c (x .step) (siteOf s x) (t .trains) (t .last) =
+        ej ∙ (ap (λ (u : Track). judgedAt c (x .step) e (u .trains) (u .last)) here
+        ∙ ap (λ (f : Site). judgedAt c (x .step) f (t .trains) (t .last)) es) in
+        let moves : moved ≡ after .trains =
+        em ∙ (ap (λ (u : Track). trainsAt c (x .step) e (u .trains) (u .last)) here
+        ∙ ap (λ (f : Site). trainsAt c (x .step) f (t .trains) (t .last)) es) in
+        let notes : noted ≡ after .last =
+        en ∙ (ap (λ (u : Track). lastAt c (x .step) e (u .trains) (u .last)) here
+        ∙ ap (λ (f : Site). lastAt c (x .step) f (t .trains) (t .last)) es) in
+        let records : set (getD posts k []) p (j .own) ≡ after .posts =
+        ap (λ (u : Track). set (u .posts) p (j .own)) here
+        ∙ (ap (λ (q : ℕ). set (t .posts) q (j .own)) ep ∙ ap (λ (i : Judged). set (t .posts) (postOf (x .step)) (i .own)) gives) in
+        rw (records, moves, notes, gives, ek, rows-after two after (x .track)) (step-judged s x ∙ judged s bytes x well)
+
+-- a write keeps the places
+pub two-after :
+    (posts : List (List Post)) (trains last : List (List ℕ)) (running : List Running) (c : Settings) → Two posts trains last running c
+    → (k : ℕ) (p : List Post) (t l : List ℕ) (r : Running) → Two (set posts k p) (set trains k t) (set last k l) (set running k r) c
+two-after posts trains last running c two k p t l r = record {
+  two-posts = length-set posts k p ∙ two .two-posts;
+  two-trains = length-set trains k t ∙ two .two-trains;
+  two-last = length-set last k l ∙ two .two-last;
+  two-running = length-set running k r ∙ two .two-running;
+}
