@@ -1,20 +1,24 @@
-//! Links the static library of the proved implementation, made by `rt staticlib capi`.
+//! Links the static libraries of the proved implementation, made by `rt staticlib`, one a delivery.
 
 use std::path::Path;
 use std::{env, process};
 
+const LIBRARIES: [&str; 3] = ["capi_files", "capi", "capi_listing"];
+
 fn main() {
     let package = env::var("CARGO_MANIFEST_DIR").expect("cargo sets CARGO_MANIFEST_DIR");
-    let libraries = Path::new(&package).join("../target/staticlib");
-    let archive = libraries.join("libcapi.a");
-    println!("cargo:rerun-if-changed={}", archive.display());
-    if !archive.exists() {
-        eprintln!(
-            "{} is missing: `rt staticlib capi` makes it",
-            archive.display()
-        );
-        process::exit(1);
+    let folder = Path::new(&package).join("../target/staticlib");
+    println!("cargo:rustc-link-search=native={}", folder.display());
+    for library in LIBRARIES {
+        let archive = folder.join(format!("lib{library}.a"));
+        println!("cargo:rerun-if-changed={}", archive.display());
+        if !archive.exists() {
+            eprintln!(
+                "{} is missing: `rt staticlib {library}` makes it",
+                archive.display()
+            );
+            process::exit(1);
+        }
+        println!("cargo:rustc-link-lib=static={library}");
     }
-    println!("cargo:rustc-link-search=native={}", libraries.display());
-    println!("cargo:rustc-link-lib=static=capi");
 }

@@ -4,17 +4,24 @@ use mathlib.Core.Bool.{true, false}
 use mathlib.Core.List.{List}
 use mathlib.Core.Path.{_≡_, _∙_}
 use native.Mathlib.Omega.{arith}
+use lib.ListN.{length}
+use lib.Dec.{ltb}
 use Rattle.section.specs.declared.Answer.{Answer}
+use Rattle.section.specs.declared.Indications.{Indications}
 use Rattle.section.specs.declared.Said.{Said}
 use Rattle.section.specs.declared.Said.the-variants.{Nothing, Cvt, Cvtz, Vns, Vnsz}
 use Rattle.section.specs.declared.Section.{Section}
+use Rattle.section.specs.declared.Settings.{Settings}
 use Rattle.section.specs.declared.Verdict.the-variants.{Accepted, Refused}
+use Rattle.section.specs.Fresh.{freshSection}
 use Rattle.section.specs.Words.{refusalOf, saidBy, saidNumber}
+use Rattle.rules.specs.Indications.{indications}
 use Rattle.rules.specs.Judge.{judge}
 use Rattle.text.specs.Text.{written}
-use Rattle.image.specs.Image.{imageOf, imageRight, sectionOf}
+use Rattle.packed.specs.Packed.{packedIndications}
+use Rattle.image.specs.Image.{imageLength, imageOf, imageRight, sectionOf}
 use Rattle.image.proofs.Laws.{right-length, whole-written}
-use Rattle.capi.specs.Engine.{packedVerdict, judgeAnswer, writtenBack, judgeImage}
+use Rattle.capi.specs.Engine.{freshAnswer, freshImage, packedVerdict, judgeAnswer, writtenBack, judgeImage, shownOf}
 
 pub said-small : {n : ℕ} (said : Said) → n ≡ saidNumber said → n ≤ 4
 unfolding saidNumber
@@ -23,6 +30,23 @@ said-small Cvt e = omega arith
 said-small Cvtz e = omega arith
 said-small Vns e = omega arith
 said-small Vnsz e = omega arith
+
+-- ## The fresh section
+
+module _ (c : Settings) (buffer : List ℕ) where
+  -- the answer, and the buffer afterwards
+  abbrev Fresh : ℕ → List ℕ → Type 0
+  Fresh r after = (r ≡ freshAnswer (length buffer)) × (after ≡ freshImage c buffer)
+
+  pub too-short : ltb (length buffer) imageLength ≡ true → Fresh 5 buffer
+  unfolding freshAnswer freshImage
+  too-short e = (rw e, rw e)
+
+  pub put :
+      ltb (length buffer) imageLength ≡ false → {given : Settings} {s : Section} {after : List ℕ} → given ≡ c → s ≡ freshSection given →
+      after ≡ written buffer 0 (imageOf s) → Fresh 0 after
+  unfolding freshAnswer freshImage
+  put e eg es ew = (rw e, rw (e, ← eg, ← es) ew)
 
 -- ## A step judged
 
@@ -47,3 +71,15 @@ module _ (image step : List ℕ) where
     pub refused : {k : ℕ} → a .verdict ≡ Refused k → Judged k image
     unfolding judgeAnswer judgeImage packedVerdict writtenBack refusalOf saidBy saidNumber
     refused v = let h : a ≡ judge (sectionOf image) step = rw es at ea in (rw (e, ← h, v) (omega arith), rw (e, ← h, v))
+
+-- ## What a post shows
+
+pub nothing-shown : (image : List ℕ) (track post : ℕ) → imageRight image ≡ false → 0 ≡ shownOf image track post
+unfolding shownOf
+nothing-shown image track post e = rw e
+
+pub shown :
+    (image : List ℕ) (track post : ℕ) → imageRight image ≡ true → {s : Section} {i : Indications} {n : ℕ} → s ≡ sectionOf image →
+    i ≡ indications s track post → n ≡ packedIndications i → n ≡ shownOf image track post
+unfolding shownOf
+shown image track post e es ei en = rw (e, ← es, ← ei) en

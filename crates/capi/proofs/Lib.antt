@@ -1,3 +1,1 @@
-pub mod Readings
 pub mod Images
-pub mod Sheets

@@ -39,14 +39,14 @@ fn judge_on_track(c: Settings, x: TrackStep, t: Track, other: Running) -> TrackA
     let mut last = t.last;
     let e = sites::site(x.track, post, own, running, other);
     let judged = table::judge_at(c, step, e, &mut trains, &mut last);
-    let verdict = judged.verdict;
+    let told = judged.verdict;
     let own_after = judged.own;
     let after = judged.running;
     let walk_after = after.walk;
     let mut posts = t.posts;
     posts[at] = own_after;
     TrackAnswer {
-        verdict: verdict,
+        verdict: told,
         track: Track {
             posts: posts,
             trains: trains,

@@ -1,14 +1,26 @@
-// What the C interface returns, packed into one number.
+// What the C interface takes and returns: settings field by field, and answers packed into one number.
 ghost use mathlib.Core.Path.{_≡_};
-ghost use Prim.Native.Nat.{_<_, _≤_, _^_};
+ghost use Prim.Native.Nat.{_<_, _^_};
 ghost use Rattle.section.specs.Words.{saidNumber};
-ghost use Rattle.packed.specs.Packed.{packedReading, packedSettings, packedWritten, packedIndications, packedListed};
+ghost use Rattle.packed.specs.Packed.{packedReading, packedSettings, packedWritten, packedIndications};
+ghost use Rattle.packed.specs.Settings.{settingsGiven};
 use dayfile::Reading;
 use dayfile::Written;
-use listing::Listed;
 use section::Indications;
 use section::Said;
 use section::Settings;
+
+// The settings that a call hands in, field by field.
+pub fn settings_given(n: u8, form: u8, mask: u16, line: u16) -> Settings
+    ensures { λ r. ⌜ r ≡ settingsGiven n form mask line ⌝ }
+{
+    Settings {
+        posts: n,
+        form: form,
+        mask: mask,
+        line: line,
+    }
+}
 
 // The refusal, and the count of steps or the refusal's index: every reading of a file fits.
 pub fn packed_reading(reading: Reading) -> u32
@@ -59,15 +71,4 @@ pub fn packed_indications(shown: Indications) -> u16
     ensures { λ r. ⌜ r ≡ packedIndications shown ⌝ }
 {
     (shown.circulation as u16) + (shown.troncon as u16) * 8 + (shown.permission as u16) * 64
-}
-
-// No buffer, and so no text in it, is as long as 2^63 bytes.
-pub fn packed_listed(done: Listed) -> u64
-    requires { ⌜ packedListed done ≤ 2 ^ 63 ⌝ }
-    ensures { λ r. ⌜ r ≡ packedListed done ⌝ }
-{
-    match done {
-        Listed::Bytes(length) => (length as u64) + 1,
-        Listed::TooShort => 0,
-    }
 }

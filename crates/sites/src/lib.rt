@@ -37,9 +37,10 @@ pub fn post_of(x: Step) -> u8
 pub fn settled_on_vns(running: Running) -> bool
     ensures { λ r. ⌜ r ≡ settledVns running ⌝ }
 {
+    let cvt = running.cvt;
     let walk = running.walk;
     match walk {
-        Walk::Settled => !running.cvt,
+        Walk::Settled => !cvt,
         Walk::Turn(_, _) => false,
     }
 }
