@@ -109,7 +109,7 @@ pub fn write(c: Settings, steps: &[u8], buffer: &mut [u8]) -> Written
     ensures { λ r. ⌜ r ≡ writeVerdict c (now (steps .entry)) (length (now (buffer .entry))) ⌝ }
     ensures { λ _. ⌜ now (buffer .exit) ≡ writtenInto c (now (steps .entry)) (now (buffer .entry)) ⌝ }
 {
-    if !ranges::settings_right(c) {
+    if !settings_range::settings_right(c) {
         return Written::Refused(3, 0);
     }
     let count = layout::step_count(steps);

@@ -63,7 +63,7 @@ pub fn settings_bytes_right(s: &[u8]) -> bool
     requires { ⌜ settingsLength ≤ length (now s) ⌝ }
     ensures { λ r. ⌜ r ≡ settingsBytesRight (now (s .entry)) ⌝ }
 {
-    if !ranges::settings_right(layout::settings_of(s)) {
+    if !settings_range::settings_right(layout::settings_of(s)) {
         return false;
     }
     section::pair_of(s[6], s[7]) == 0
@@ -80,7 +80,7 @@ pub fn first_malformed(n: u8, steps: &[u8]) -> usize
             break i;
         }
         let at = i * STEP_LENGTH;
-        if !steps::is_well_formed(n, &steps[at..at + STEP_LENGTH]) {
+        if !step_tests::is_well_formed(n, &steps[at..at + STEP_LENGTH]) {
             break i;
         }
         i += 1;

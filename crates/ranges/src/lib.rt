@@ -1,6 +1,100 @@
-// Whether settings and the fields of a state are in their ranges: refusals 3 and 6.
-mod settings_range;
-mod state_range;
+// Whether settings and the fields of a state are in their ranges: refusal 6.
+ghost use mathlib.Core.Path.{_≡_};
+ghost use mathlib.Core.Bool.{_&&_};
+ghost use Prim.Native.Nat.{_-_, _<_, _≤_};
+ghost use lib.Dec.{leb};
+ghost use Rattle.section.specs.Numbers.{largestTrain, mostSeals};
+ghost use Rattle.section.specs.Range.{sealsFit, numbersFit, actFits, walkFits, trackFits, inRange};
+use section::Act;
+use section::LARGEST_TRAIN;
+use section::MOST_SEALS;
+use section::Section;
+use section::Track;
+use section::Walk;
+use section::is_first;
+use section::is_last;
+use section::is_upward;
+use settings_range::settings_right;
 
-pub use settings_range::settings_right;
-pub use state_range::in_range;
+// A post's seal count, and the train and the last train of the block section beside it.
+fn post_and_block_fit(seals: u16, train: u16, last: u16) -> bool
+    ensures { λ r. ⌜ r ≡ (leb seals mostSeals && (leb train largestTrain && leb last largestTrain)) ⌝ }
+{
+    if seals > MOST_SEALS {
+        return false;
+    }
+    if train > LARGEST_TRAIN {
+        return false;
+    }
+    last <= LARGEST_TRAIN
+}
+
+// Every post and block section of a track, in one loop from the last post down.
+fn cells_fit(n: u8, t: Track) -> bool
+    requires { ⌜ (2 ≤ n) × (n ≤ 16) ⌝ }
+    ensures { λ r. ⌜ r ≡ (sealsFit n (t .posts) && (numbersFit (n - 1) (t .trains) && numbersFit (n - 1) (t .last))) ⌝ }
+{
+    let mut i = (n - 1) as usize;
+    if t.posts[i].seals > MOST_SEALS {
+        return false;
+    }
+    while i > 0 {
+        i -= 1;
+        if !post_and_block_fit(t.posts[i].seals, t.trains[i], t.last[i]) {
+            return false;
+        }
+    }
+    true
+}
+
+// Announce is never at the last post, acknowledge never at the first.
+fn act_fits(n: u8, up: bool, p: u8, act: Act) -> bool
+    requires { ⌜ p < n ⌝ }
+    ensures { λ r. ⌜ r ≡ actFits n up p act ⌝ }
+{
+    match act {
+        Act::Set => true,
+        Act::Announce => !is_last(n, up, p),
+        Act::Acknowledge => !is_first(n, up, p),
+    }
+}
+
+fn walk_fits(n: u8, up: bool, walk: Walk) -> bool
+    ensures { λ r. ⌜ r ≡ walkFits n up walk ⌝ }
+{
+    match walk {
+        Walk::Settled => true,
+        Walk::Turn(p, act) => {
+            if p < n {
+                act_fits(n, up, p, act)
+            } else {
+                false
+            }
+        }
+    }
+}
+
+fn track_fits(n: u8, track: bool, t: Track) -> bool
+    requires { ⌜ (2 ≤ n) × (n ≤ 16) ⌝ }
+    ensures { λ r. ⌜ r ≡ trackFits n track t ⌝ }
+{
+    if !cells_fit(n, t) {
+        return false;
+    }
+    let walk = t.walk;
+    walk_fits(n, is_upward(track, t.cvt), walk)
+}
+
+// What refusal 6 asks for.
+pub fn in_range(s: Section) -> bool
+    ensures { λ r. ⌜ r ≡ inRange s ⌝ }
+{
+    let n = s.settings.posts;
+    if !settings_right(s.settings) {
+        return false;
+    }
+    if !track_fits(n, false, s.a) {
+        return false;
+    }
+    track_fits(n, true, s.b)
+}

@@ -1,6 +1,6 @@
 // A day's steps, offered one after another from fresh. The cells of the two tracks stand side by side, A before B, and a step changes them
 // in their places.
-ghost use mathlib.Core.Bool.{true, cond};
+ghost use mathlib.Core.Bool.{true};
 ghost use mathlib.Core.Path.{_≡_};
 ghost use Prim.Native.Nat.{_<_};
 ghost use Rattle.section.specs.Settings.{settingsRight};
@@ -89,7 +89,7 @@ fn accepted_from(c: Settings, steps: &[u8], fresh: [[Post; 16]; 2]) -> usize
 pub fn accepted_count(c: Settings, steps: &[u8]) -> usize
     ensures { λ r. ⌜ r ≡ acceptedCount c (now (steps .entry)) ⌝ }
 {
-    if !ranges::settings_right(c) {
+    if !settings_range::settings_right(c) {
         return 0;
     }
     accepted_from(c, steps, fresh_posts(c))

@@ -1,0 +1,45 @@
+use borrow.Author.Needs.{needs}
+use Rattle.section.specs.Range.{inRange}
+use Rattle.section.proofs.Laws.{posts-right}
+use Rattle.section.proofs.Told.{told-false, told-true}
+use Rattle.ranges.proofs.in_range.Statement.{statement}
+use Rattle.ranges.proofs.in_range.Tie as tie
+
+settings-right-requires : tie.Need-settings-right-requires
+settings-right-requires c κs = search needs
+
+returns : tie.Need-returns
+unfolding inRange
+returns c = rw (told-false (c .before .settings-right .ensures) (c .if1 .taken))
+
+track-fits-requires : tie.Need-track-fits-requires
+track-fits-requires c κs = posts-right _ (told-true (c .before .settings-right .ensures) (c .if1 .left))
+
+returns-2 : tie.Need-returns-2
+unfolding inRange
+returns-2 c =
+    let b = c .before .before in
+    rw (told-true (b .before .settings-right .ensures) (b .if1 .left), told-false (c .before .track-fits .ensures) (c .if2 .taken))
+
+track-fits-requires-2 : tie.Need-track-fits-requires-2
+track-fits-requires-2 c κs =
+    let b = c .before .before in
+    posts-right _ (told-true (b .before .settings-right .ensures) (b .if1 .left))
+
+returns-3 : tie.Need-returns-3
+unfolding inRange
+returns-3 c =
+    let d = c .before in
+    let b = d .before .before in
+    rw (told-true (b .before .settings-right .ensures) (b .if1 .left), told-true (d .before .track-fits .ensures) (d .if2 .left)) (c .track-fits2 .ensures)
+
+pub in-range-spec : {M : Type 1} → statement M
+in-range-spec =
+    tie.close
+    (tie.spec
+    settings-right-requires
+    returns
+    track-fits-requires
+    returns-2
+    track-fits-requires-2
+    returns-3)

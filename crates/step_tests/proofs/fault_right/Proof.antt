@@ -1,0 +1,22 @@
+use borrow.Author.Needs.{needs}
+use Rattle.section.specs.Step.{faultRight}
+use Rattle.section.proofs.Told.{told}
+use Rattle.step_tests.proofs.fault_right.Statement.{statement}
+use Rattle.step_tests.proofs.fault_right.Tie as tie
+
+is-within-requires : tie.Need-is-within-requires
+is-within-requires c κs = search needs
+
+is-within-requires-2 : tie.Need-is-within-requires-2
+is-within-requires-2 c κs = search needs
+
+returns : tie.Need-returns
+unfolding faultRight
+returns c = rw (told (c .before .before .is-within .ensures) (c .before .if1 .taken)) (c .is-within2 .ensures)
+
+returns-2 : tie.Need-returns-2
+unfolding faultRight
+returns-2 c = rw (told (c .before .is-within .ensures) (c .if1 .left))
+
+pub fault-right-spec : {M : Type 1} → statement M
+fault-right-spec = tie.close (tie.spec is-within-requires is-within-requires-2 returns returns-2)
