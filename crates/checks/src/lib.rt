@@ -32,7 +32,7 @@ pub fn verdict(
         Step::MeasuresOff { post: _ } => post_steps::measures_off(e),
         Step::FaultOn { post: _, fault } => post_steps::fault_on(e, fault),
         Step::FaultOff { post: _, fault } => post_steps::fault_off(e, fault),
-        Step::Release { post: _, number } => reversal_checks::release(c, e, number, trains, last),
-        Step::Key { post: _ } => reversal_checks::key(c, e, trains),
+        Step::Release { post: _, number } => emergency_checks::release(c, e, number, trains, last),
+        Step::Key { post: _ } => emergency_checks::key(c, e, trains),
     }
 }

@@ -1,10 +1,90 @@
-// The checks of the steps of a reversal, and of the steps for a device that fails.
-mod emergency_steps;
-mod reversal_steps;
+// The steps of a reversal. Cells that a kind does not look at stand in its contract as [].
+ghost use mathlib.Core.List.{[]};
+ghost use mathlib.Core.Path.{_≡_};
+ghost use Rattle.section.specs.declared.Settings.{Settings};
+ghost use Rattle.section.specs.declared.Step.the-variants.{Order, Set, Announce, Acknowledge};
+ghost use Rattle.occupancy.specs.Placed.{Placed};
+ghost use Rattle.conditions.specs.VerdictAt.{verdictAt};
+use conditions::confirmed;
+use conditions::is_settled;
+use conditions::is_turn;
+use conditions::order_allowed;
+use conditions::secured;
+use occupancy::at_sending_end;
+use occupancy::order_occupied;
+use occupancy::watched_occupied;
+use rules::Site;
+use section::Act;
+use section::Said;
+use section::Settings;
+use section::Verdict;
 
-pub use emergency_steps::key;
-pub use emergency_steps::release;
-pub use reversal_steps::acknowledge;
-pub use reversal_steps::announce;
-pub use reversal_steps::order;
-pub use reversal_steps::set;
+pub fn order(c: Settings, e: Site, trains: &[u16; 15]) -> Verdict
+    requires { ⌜ Placed c e ⌝ }
+    ensures { λ r. ⌜ r ≡ verdictAt c (Order (e .post)) e (now (trains .entry)) [] ⌝ }
+{
+    let walk = e.walk;
+    if !is_settled(walk) {
+        return Verdict::Refused(11);
+    }
+    if !at_sending_end(c, e) {
+        return Verdict::Refused(12);
+    }
+    if !order_allowed(e) {
+        return Verdict::Refused(14);
+    }
+    if order_occupied(c, e, trains) {
+        return Verdict::Refused(13);
+    }
+    Verdict::Accepted(Said::Nothing) // the reversal begins
+}
+
+pub fn set(c: Settings, e: Site, trains: &[u16; 15]) -> Verdict
+    requires { ⌜ Placed c e ⌝ }
+    ensures { λ r. ⌜ r ≡ verdictAt c (Set (e .post)) e (now (trains .entry)) [] ⌝ }
+{
+    let walk = e.walk;
+    if !is_turn(walk, e.post, Act::Set) {
+        return Verdict::Refused(15);
+    }
+    if watched_occupied(c, e, trains) {
+        return Verdict::Refused(13);
+    }
+    if !confirmed(c, e) {
+        return Verdict::Refused(18);
+    }
+    if !secured(e) {
+        return Verdict::Refused(16);
+    }
+    if e.own.fault2 {
+        return Verdict::Refused(19);
+    }
+    Verdict::Accepted(Said::Nothing)
+}
+
+// Under any settings, as acknowledge.
+pub fn announce(e: Site) -> Verdict
+    ensures { λ r. ⌜ ((c : Settings) → r ≡ verdictAt c (Announce (e .post)) e [] []) ⌝ }
+{
+    let walk = e.walk;
+    if !is_turn(walk, e.post, Act::Announce) {
+        return Verdict::Refused(15);
+    }
+    if e.cvt {
+        return Verdict::Accepted(Said::Vns);
+    }
+    Verdict::Accepted(Said::Cvt)
+}
+
+pub fn acknowledge(e: Site) -> Verdict
+    ensures { λ r. ⌜ ((c : Settings) → r ≡ verdictAt c (Acknowledge (e .post)) e [] []) ⌝ }
+{
+    let walk = e.walk;
+    if !is_turn(walk, e.post, Act::Acknowledge) {
+        return Verdict::Refused(15);
+    }
+    if e.cvt {
+        return Verdict::Accepted(Said::Vnsz);
+    }
+    Verdict::Accepted(Said::Cvtz)
+}

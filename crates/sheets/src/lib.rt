@@ -12,14 +12,14 @@ ghost use Rattle.text.specs.Text.{written};
 ghost use Rattle.sheets.specs.Printed.{lines, printedRead, printed};
 ghost use Rattle.sheets.specs.Sheet.{lineOn, lineRoom, room};
 use dayfile::Reading;
-use lines::put_fields;
 use lines::put_header;
 use lines::put_refused;
-use lines::track_letter;
 use panel_lines::put_panel;
 use section::Answer;
 use section::STEP_LENGTH;
 use section::Settings;
+use step_lines::put_fields;
+use step_lines::track_letter;
 
 // What is printed of each step: what it did, or what the posts show after it.
 pub enum Sheet {
