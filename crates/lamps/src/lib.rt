@@ -42,7 +42,7 @@ fn set_count(n: u8, up: bool, walk: Walk) -> u8
     match walk {
         Walk::Settled => 0,
         Walk::Turn(p, act) => {
-            let before = section::rank(n, up, p);
+            let before = positions::rank(n, up, p);
             match act {
                 Act::Set => before,
                 Act::Announce => before + 1,
@@ -74,7 +74,7 @@ fn is_flashing(c: Settings, e: Site) -> bool
         return false;
     }
     let walk = e.walk;
-    let count = set_count(c.posts, section::is_upward(e.track, e.cvt), walk);
+    let count = set_count(c.posts, positions::is_upward(e.track, e.cvt), walk);
     is_next_to_set(count, occupancy::rank_at(c, e))
 }
 

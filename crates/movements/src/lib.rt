@@ -15,9 +15,9 @@ pub fn block_ahead(c: Settings, e: Site) -> usize
     requires { ⌜ (Placed c e) × (HasAhead c e) ⌝ }
     ensures { λ r. ⌜ (r ≡ blockAhead c e) × (r < mostBlocks) ⌝ }
 {
-    section::block(
+    positions::block(
         c.posts,
-        section::is_upward(e.track, e.cvt),
+        positions::is_upward(e.track, e.cvt),
         occupancy::rank_at(c, e),
     ) as usize
 }
@@ -26,9 +26,9 @@ pub fn block_before(c: Settings, e: Site) -> usize
     requires { ⌜ (Placed c e) × (HasBefore c e) ⌝ }
     ensures { λ r. ⌜ (r ≡ blockBefore c e) × (r < mostBlocks) ⌝ }
 {
-    section::block(
+    positions::block(
         c.posts,
-        section::is_upward(e.track, e.cvt),
+        positions::is_upward(e.track, e.cvt),
         occupancy::rank_at(c, e) - 1,
     ) as usize
 }

@@ -32,7 +32,7 @@ pub fn train_after(cells: &[u16; 15], n: u8, up: bool, j: u8) -> u64
     requires { ⌜ (j + 1 < n) × (n ≤ 16) ⌝ }
     ensures { λ r. ⌜ r ≡ getD (now (cells .entry)) (block n up j) 0 ⌝ }
 {
-    train_in(cells, section::block(n, up, j))
+    train_in(cells, positions::block(n, up, j))
 }
 
 // A train in one of the first m block sections.
@@ -73,7 +73,7 @@ pub fn train_before(c: Settings, e: Site, trains: &[u16; 15]) -> u64
     train_after(
         trains,
         c.posts,
-        section::is_upward(e.track, e.cvt),
+        positions::is_upward(e.track, e.cvt),
         rank_at(c, e) - 1,
     )
 }
@@ -86,7 +86,7 @@ pub fn train_ahead(c: Settings, e: Site, cells: &[u16; 15]) -> u64
     train_after(
         cells,
         c.posts,
-        section::is_upward(e.track, e.cvt),
+        positions::is_upward(e.track, e.cvt),
         rank_at(c, e),
     )
 }

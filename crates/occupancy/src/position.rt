@@ -9,19 +9,19 @@ pub fn rank_at(c: Settings, e: Site) -> u8
     requires { ⌜ Placed c e ⌝ }
     ensures { λ r. ⌜ r ≡ rankAt c e ⌝ }
 {
-    section::rank(c.posts, section::is_upward(e.track, e.cvt), e.post)
+    positions::rank(c.posts, positions::is_upward(e.track, e.cvt), e.post)
 }
 
 pub fn at_sending_end(c: Settings, e: Site) -> bool
     requires { ⌜ Placed c e ⌝ }
     ensures { λ r. ⌜ r ≡ atSendingEnd c e ⌝ }
 {
-    section::is_first(c.posts, section::is_upward(e.track, e.cvt), e.post)
+    positions::is_first(c.posts, positions::is_upward(e.track, e.cvt), e.post)
 }
 
 pub fn at_receiving_end(c: Settings, e: Site) -> bool
     requires { ⌜ Placed c e ⌝ }
     ensures { λ r. ⌜ r ≡ atReceivingEnd c e ⌝ }
 {
-    section::is_last(c.posts, section::is_upward(e.track, e.cvt), e.post)
+    positions::is_last(c.posts, positions::is_upward(e.track, e.cvt), e.post)
 }

@@ -17,9 +17,9 @@ pub fn stretch_ends(c: Settings, track: bool, cvt: bool, j: u8) -> bool
     if !cvt {
         return true;
     }
-    section::is_signalled(
+    positions::is_signalled(
         c.mask,
-        section::rank(c.posts, section::is_upward(track, cvt), j),
+        positions::rank(c.posts, positions::is_upward(track, cvt), j),
     )
 }
 
@@ -29,7 +29,7 @@ pub fn stretch_holds(c: Settings, track: bool, cvt: bool, from: u8, trains: &[u1
     ensures { λ r. ⌜ r ≡ stretchHolds (stretchEnds c track cvt) (trainAt c track cvt (now (trains .entry))) (c .posts - suc from) from ⌝ }
 {
     let n = c.posts;
-    let up = section::is_upward(track, cvt);
+    let up = positions::is_upward(track, cvt);
     let mut j = from;
     while j + 1 < n {
         if train_after(trains, n, up, j) != 0 {

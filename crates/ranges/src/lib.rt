@@ -5,15 +5,15 @@ ghost use Prim.Native.Nat.{_-_, _<_, _≤_};
 ghost use lib.Dec.{leb};
 ghost use Rattle.section.specs.Numbers.{largestTrain, mostSeals};
 ghost use Rattle.section.specs.Range.{sealsFit, numbersFit, actFits, walkFits, trackFits, inRange};
+use positions::is_first;
+use positions::is_last;
+use positions::is_upward;
 use section::Act;
 use section::LARGEST_TRAIN;
 use section::MOST_SEALS;
 use section::Section;
 use section::Track;
 use section::Walk;
-use section::is_first;
-use section::is_last;
-use section::is_upward;
 use settings_range::settings_right;
 
 // A post's seal count, and the train and the last train of the block section beside it.

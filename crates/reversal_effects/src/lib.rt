@@ -51,7 +51,7 @@ pub fn next_post(c: Settings, e: Site) -> u8
     requires { ⌜ (Placed c e) × (HasAhead c e) ⌝ }
     ensures { λ r. ⌜ r ≡ nextPost c e ⌝ }
 {
-    if section::is_upward(e.track, e.cvt) {
+    if positions::is_upward(e.track, e.cvt) {
         e.post + 1
     } else {
         e.post - 1

@@ -1,17 +1,10 @@
 // The vocabulary of direction blocking (document 01): settings, steps, the state of a section, answers.
 mod fresh_section;
 mod little_endian;
-mod positions;
 mod post_record;
 
 pub use fresh_section::fresh;
 pub use little_endian::pair_of;
-pub use positions::block;
-pub use positions::is_first;
-pub use positions::is_last;
-pub use positions::is_signalled;
-pub use positions::is_upward;
-pub use positions::rank;
 pub use post_record::blank;
 
 pub const LEAST_POSTS: u8 = 2;

@@ -2,11 +2,11 @@
 ghost use mathlib.Core.Path.{_≡_};
 ghost use Prim.Native.Nat.{_≤_};
 ghost use Rattle.section.specs.Settings.{noneFrom, settingsRight};
+use positions::is_signalled;
 use section::LARGEST_LINE;
 use section::LEAST_POSTS;
 use section::MOST_POSTS;
 use section::Settings;
-use section::is_signalled;
 
 // No bit at n or above. (At 16 bits a shift by 16 is an error, so the mask is widened.)
 fn none_from(mask: u16, n: u8) -> bool

@@ -7,7 +7,7 @@ use Rattle.lamps.proofs.is_flashing.Lts as lts
 use Rattle.lamps.proofs.is_next_to_set.Reads as is-next-to-set-reads
 use Rattle.lamps.proofs.set_count.Reads as set-count-reads
 use Rattle.occupancy.proofs.rank_at.Reads as rank-at-reads
-use Rattle.section.proofs.is_upward.Reads as is-upward-reads
+use Rattle.positions.proofs.is_upward.Reads as is-upward-reads
 
 returns : tie.Need-returns
 returns c = rw (not-materialised (c .before .before .args .c) (c .if1 .taken))

@@ -1,8 +1,8 @@
 use native.Mathlib.Omega.{arith}
 use borrow.Author.Needs.{needs}
 use Rattle.section.specs.Geometry.{rank}
-use Rattle.section.proofs.positions.rank.Statement.{statement}
-use Rattle.section.proofs.positions.rank.Tie as tie
+use Rattle.positions.proofs.rank.Statement.{statement}
+use Rattle.positions.proofs.rank.Tie as tie
 
 sub-result : tie.Need-sub-result
 sub-result c = search needs

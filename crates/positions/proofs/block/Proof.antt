@@ -1,8 +1,8 @@
 use native.Mathlib.Omega.{arith}
 use borrow.Author.Needs.{needs}
 use Rattle.section.specs.Geometry.{block}
-use Rattle.section.proofs.positions.block.Statement.{statement}
-use Rattle.section.proofs.positions.block.Tie as tie
+use Rattle.positions.proofs.block.Statement.{statement}
+use Rattle.positions.proofs.block.Tie as tie
 
 sub-result : tie.Need-sub-result
 sub-result c = search needs

@@ -4,9 +4,9 @@ use Prim.Native.Nat.{ℕ, _/_, _^_}
 use lib.Bits.{and-mask}
 use lib.Dec.{eqb}
 use borrow.Author.Needs.{needs}
 use Rattle.section.specs.Settings.{bit}
-use Rattle.section.proofs.positions.is_signalled.Statement.{statement}
-use Rattle.section.proofs.positions.is_signalled.Tie as tie
+use Rattle.positions.proofs.is_signalled.Statement.{statement}
+use Rattle.positions.proofs.is_signalled.Tie as tie
 
 shr-result : tie.Need-shr-result
 shr-result c = search needs

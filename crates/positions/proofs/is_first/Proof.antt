@@ -1,7 +1,7 @@
 use borrow.Author.Needs.{needs}
 use Rattle.section.specs.Geometry.{isFirst}
-use Rattle.section.proofs.positions.is_first.Statement.{statement}
-use Rattle.section.proofs.positions.is_first.Tie as tie
+use Rattle.positions.proofs.is_first.Statement.{statement}
+use Rattle.positions.proofs.is_first.Tie as tie
 
 rank-requires : tie.Need-rank-requires
 rank-requires c κs = search needs

@@ -1,10 +1,10 @@
 use native.Mathlib.Numerals.{add-one}
 use native.Mathlib.Omega.{arith}
 use borrow.Author.Needs.{needs}
 use Rattle.section.specs.Geometry.{isLast}
 use Rattle.section.proofs.Laws.{rank-lt}
-use Rattle.section.proofs.positions.is_last.Statement.{statement}
-use Rattle.section.proofs.positions.is_last.Tie as tie
+use Rattle.positions.proofs.is_last.Statement.{statement}
+use Rattle.positions.proofs.is_last.Tie as tie
 
 rank-requires : tie.Need-rank-requires
 rank-requires c κs = search needs
