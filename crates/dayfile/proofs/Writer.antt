@@ -1,7 +1,7 @@
 -- The writer's answers with the buffer afterwards, each by the tests that lead to it; parts of a buffer, written one after the other.
 use mathlib.Core.Path.{_≡_, refl, sym, _∙_, ap}
 use mathlib.Core.Bool.{true, false, not, _||_}
-use mathlib.Core.List.{List, [], _∷_, _++_, append-nil, append-assoc}
+use mathlib.Core.List.{List, [], _++_, append-nil, append-assoc}
 use Prim.Native.Nat.{ℕ, _+_, _-_, _*_, _<_, _≤_}
 use native.Mathlib.Nat.{add-sub-cancel-left, add-assoc}
 use native.Mathlib.Omega.{arith}
@@ -13,8 +13,8 @@ use Rattle.section.specs.declared.Settings.{Settings}
 use Rattle.section.specs.Settings.{settingsRight}
 use Rattle.section.specs.Bytes.{byte}
 use Rattle.section.specs.Numbers.{stepLength}
-use Rattle.layout.specs.Layout.{mostSteps, settingsLength, trailerLength, settingsDistance, stepsDistance, mark, pairBytes}
-use Rattle.layout.specs.Layout.{fourBytes, settingsBytes, trailer, stepCount, fileOf}
+use Rattle.layout.specs.Layout.{mostSteps, settingsLength, stepsDistance}
+use Rattle.layout.specs.Layout.{settingsBytes, trailer, stepCount, fileOf}
 use Rattle.file_tests.specs.Tests.{firstMalformed, someMalformed}
 use Rattle.dayfile.specs.Answers.{writerRefusalNumber, writeVerdict, writtenInto}
 use Rattle.layout.proofs.Parts.{settings-long}

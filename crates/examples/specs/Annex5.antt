@@ -14,7 +14,6 @@ use Rattle.section.specs.declared.Step.the-variants.{Order, Set, Announce, Ackn
 use Rattle.section.specs.Fresh.{freshSection}
 use Rattle.section.specs.Settings.{settingsRight}
 use Rattle.section.specs.Step.{encoded}
-use Rattle.section.specs.Store.{trackOf}
 use Rattle.rules.specs.Demand3.{Taken, kind, stateAfter, acceptedSteps, underWay, NoTrainInReversal, Demand3}
 use Rattle.rules.proofs.Theorem.{demand3, newOrder}
 use Rattle.examples.specs.Days.{on, offeredAs, refusals, fresh}

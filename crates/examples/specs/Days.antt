@@ -18,7 +18,6 @@ use Rattle.section.specs.Words.{refusalOf}
 use Rattle.rules.specs.Site.{stretchHolds, anyTrain, hasNumber, stretchEnds, watchedOccupied, occupancyAt}
 use Rattle.rules.specs.Table.{checks, effect, trainsAfter, lastAfter, trackAfter}
 use Rattle.rules.specs.Judge.{verdictOf, answerOf, verdictOn, sectionAfter, judgeStep, judgeDecoded, judgeInRange, judge}
-use Rattle.rules.specs.Demand3.{stateAfter}
 
 -- a step on a track (true for B)
 abbrev pub on : Bool → Step → TrackStep

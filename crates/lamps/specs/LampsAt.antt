@@ -6,7 +6,7 @@ use Rattle.section.specs.declared.Settings.{Settings}
 use Rattle.section.specs.declared.Indications.{Indications}
 use Rattle.section.specs.Settings.{isMaterialised}
 use Rattle.rules.specs.declared.Site.{Site}
-use Rattle.rules.specs.Indications.{Lamps, setCount, isNextToSet, shown}
+use Rattle.rules.specs.Indications.{setCount, isNextToSet, shown}
 use Rattle.rules.specs.Site.{upAt, rankAt, atReceivingEnd, watchedOccupied}
 
 abbrev pub shownAt : Settings → Site → List ℕ → Indications

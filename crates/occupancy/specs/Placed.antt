@@ -1,5 +1,5 @@
 -- A site that stands on the line: what the code that looks at it may assume.
-use Prim.Native.Nat.{ℕ, _≤_, _<_, suc, _-_}
+use Prim.Native.Nat.{ℕ, _≤_, _<_, _-_}
 use mathlib.Core.Bool.{Bool}
 use mathlib.Core.List.{List, []}
 use Rattle.section.specs.declared.Settings.{Settings}

@@ -1,16 +1,15 @@
 -- What a post shows (document 01). The indications are a function of eight bits of the state.
 use Prim.Native.Nat.{ℕ, zero, suc}
-use mathlib.Core.Bool.{Bool, true, false, cond, not, _&&_, _||_}
+use mathlib.Core.Bool.{Bool, false, cond, not, _&&_, _||_}
 use lib.Dec.{eqb, ltb}
 use Rattle.section.specs.declared.Settings.{Settings}
-use Rattle.section.specs.declared.Act.{Act}
 use Rattle.section.specs.declared.Act.the-variants.{Set, Announce, Acknowledge}
 use Rattle.section.specs.declared.Walk.{Walk}
 use Rattle.section.specs.declared.Walk.the-variants.{Settled, Turn}
 use Rattle.section.specs.declared.Track.{Track}
 use Rattle.section.specs.declared.Section.{Section}
 use Rattle.section.specs.declared.Indications.{Indications}
-use Rattle.section.specs.Geometry.{upward, rank}
+use Rattle.section.specs.Geometry.{rank}
 use Rattle.section.specs.Range.{inRange}
 use Rattle.section.specs.Settings.{isMaterialised}
 use Rattle.section.specs.Store.{trackOf}

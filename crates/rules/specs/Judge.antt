@@ -1,6 +1,6 @@
 -- Judging an offered step: 6, then 4, then the table.
 use Prim.Native.Nat.{ℕ}
-use mathlib.Core.Bool.{Bool, true, false, cond}
+use mathlib.Core.Bool.{cond}
 use mathlib.Core.List.{List, [], _∷_}
 use Rattle.section.specs.declared.Said.{Said}
 use Rattle.section.specs.declared.Verdict.{Verdict}

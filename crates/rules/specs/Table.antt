@@ -1,5 +1,5 @@
 -- The table of steps (document 01, "Steps, checks in order"): for each kind its checks in the paper's order, and its effect.
-use Prim.Native.Nat.{ℕ, suc}
+use Prim.Native.Nat.{ℕ}
 use mathlib.Core.Bool.{Bool, true, false, cond, not, _&&_, _||_}
 use mathlib.Core.List.{List, [], _∷_}
 use lib.ListN.{set}
@@ -9,13 +9,11 @@ use Rattle.section.specs.declared.Post.{Post}
 use Rattle.section.specs.declared.Fault.{Fault}
 use Rattle.section.specs.declared.Fault.the-variants.{One, Two, Three}
 use Rattle.section.specs.declared.Act.the-variants as act
-use Rattle.section.specs.declared.Walk.{Walk}
 use Rattle.section.specs.declared.Walk.the-variants.{Settled, Turn}
 use Rattle.section.specs.declared.Track.{Track}
 use Rattle.section.specs.declared.Step.{Step}
 use Rattle.section.specs.declared.Step.the-variants.{Order, Set, Announce, Acknowledge, Start, Pass, Leave, MeasuresOn, MeasuresOff, FaultOn}
 use Rattle.section.specs.declared.Step.the-variants.{FaultOff, Release, Key}
-use Rattle.section.specs.declared.Said.{Said}
 use Rattle.section.specs.declared.Said.the-variants.{Nothing, Cvt, Cvtz, Vns, Vnsz}
 use Rattle.section.specs.Numbers.{mostSeals}
 use Rattle.section.specs.Post.{turned, permitted, measured, faulty, marked, sealed, hasFault}
@@ -24,7 +22,7 @@ use Rattle.rules.specs.declared.Site.{Site}
 use Rattle.rules.specs.declared.Movement.{Movement}
 use Rattle.rules.specs.declared.Movement.the-variants.{Stays, Enters, Moves, Leaves}
 use Rattle.rules.specs.declared.Effect.{Effect}
-use Rattle.rules.specs.Site.{isSettled, isTurn, Occupancy, upAt, rankAt, atSendingEnd, atReceivingEnd, blockAhead, blockBefore, nextPost, stretchEnds}
+use Rattle.rules.specs.Site.{isSettled, isTurn, Occupancy, rankAt, atSendingEnd, atReceivingEnd, blockAhead, blockBefore, nextPost, stretchEnds}
 
 -- a check: what must hold, and the refusal where it does not
 pub record Check : Type 0 where

@@ -1,7 +1,7 @@
 -- What a step judged at its site comes to, by its verdict.
 use Prim.Native.Nat.{ℕ}
 use mathlib.Core.List.{List}
-use mathlib.Core.Path.{_≡_, refl, sym, _∙_, ap}
+use mathlib.Core.Path.{_≡_, sym, _∙_, ap}
 use Rattle.section.specs.declared.Said.{Said}
 use Rattle.section.specs.declared.Settings.{Settings}
 use Rattle.section.specs.declared.Step.{Step}
@@ -11,7 +11,6 @@ use Rattle.rules.specs.declared.Effect.{Effect}
 use Rattle.rules.specs.declared.Site.{Site}
 use Rattle.rules.specs.Table.{effect, trainsAfter, lastAfter}
 use Rattle.conditions.specs.VerdictAt.{verdictAt}
-use Rattle.table.specs.declared.Judged.{Judged}
 use Rattle.table.specs.Judged.{judgedOf, cellsOf, judgedAt, trainsAt, lastAt}
 
 module _ (c : Settings) (x : Step) (e : Site) (trains last : List ℕ) {v : Verdict} (told : v ≡ verdictAt c x e trains last) where

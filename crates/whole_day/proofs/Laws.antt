@@ -2,7 +2,7 @@
 use Prim.Native.Nat.{ℕ, zero, suc, _+_, _-_, _*_, _/_, _≤_}
 use mathlib.Core.Bool.{true, false}
 use native.Mathlib.Omega.{arith}
-use native.Mathlib.Nat.{add-assoc, add-zero, add-sub-cancel-left}
+use native.Mathlib.Nat.{add-assoc, add-sub-cancel-left}
 use lib.ListN.{length, take, drop}
 use native.Mathlib.Numerals.{add-one}
 use mathlib.Core.List.{List}
@@ -15,7 +15,6 @@ use Rattle.section.specs.declared.Answer.{Answer}
 use Rattle.section.specs.Fresh.{freshSection}
 use Rattle.section.specs.Range.{inRange}
 use Rattle.section.specs.Settings.{settingsRight}
-use Rattle.section.proofs.Laws.{fresh-in-range}
 use Rattle.rules.specs.Judge.{judgeInRange, judge}
 use Rattle.rules.proofs.RangeLaw.{ranges-kept}
 use Rattle.whole_day.specs.AcceptedCount.{countsAs, offeredAt, acceptedFrom, acceptedCount}

@@ -1,5 +1,5 @@
 -- The cells of the two tracks, side by side, before and after a step.
-use Prim.Native.Nat.{ℕ, _-_, _<_}
+use Prim.Native.Nat.{ℕ, _-_}
 use mathlib.Core.Bool.{Bool, true, false, cond, not}
 use mathlib.Core.List.{List, []}
 use mathlib.Core.Path.{_≡_, refl, sym, _∙_, ap, subst}
@@ -23,9 +23,27 @@ use Rattle.sites.specs.declared.Running.{Running}
 use Rattle.sites.specs.Running.{runningOf, siteWith}
 use Rattle.sites.specs.Fit.{Fit}
 use Rattle.table.specs.declared.Judged.{Judged}
-use Rattle.table.specs.Judged.{judgedAt, trainsAt, lastAt, trackAt, siteIn}
+use Rattle.table.specs.Judged.{judgedAt, trainsAt, lastAt, trackAt}
 use Rattle.table.proofs.OnTrack.{site-in, step-judged, fit, judged}
-use Rattle.whole_day.specs.Rows.{row, settled, trackIn, sectionIn}
+use Rattle.whole_day.specs.Rows.{row}
+
+-- what a track past the two would have
+abbrev pub settled : Running
+settled = record { cvt = false; walk = Settled }
+
+-- the section whose cells they are
+module _ (posts : List (List Post)) (trains last : List (List ℕ)) (running : List Running) where
+  abbrev pub trackIn : ℕ → Track
+  trackIn k = record {
+    posts = getD posts k [];
+    trains = getD trains k [];
+    last = getD last k [];
+    cvt = getD running k settled .cvt;
+    walk = getD running k settled .walk;
+  }
+
+  abbrev pub sectionIn : Settings → Section
+  sectionIn c = record { settings = c; a = trackIn 0; b = trackIn 1 }
 
 -- a write to the place of a track changes nothing at the other's
 module _ {A : Type 0} (l : List A) (v d : A) (two : length l ≡ 2) where

@@ -1,5 +1,5 @@
 -- The walk over a day: the rows are the cells of the section that the steps so far have left.
-use Prim.Native.Nat.{ℕ, suc, _+_, _-_, _/_, _≤_, _<_}
+use Prim.Native.Nat.{ℕ, _+_, _-_, _/_, _≤_, _<_}
 use mathlib.Core.Bool.{true}
 use mathlib.Core.List.{List}
 use mathlib.Core.Path.{_≡_, refl, sym, _∙_, ap, subst}
@@ -21,9 +21,9 @@ use Rattle.rules.specs.Judge.{judgeInRange}
 use Rattle.sites.specs.declared.Running.{Running}
 use Rattle.table.proofs.OnTrack.{malformed}
 use Rattle.whole_day.specs.AcceptedCount.{countsAs, offeredAt, acceptedFrom, acceptedCount}
-use Rattle.whole_day.specs.Rows.{settled, freshPosts, sectionIn}
+use Rattle.whole_day.specs.Rows.{freshPosts}
 use Rattle.whole_day.proofs.Laws.{counts-at-most, one-more, judged-in-range, range-kept}
-use Rattle.whole_day.proofs.Rows.{Two}
+use Rattle.whole_day.proofs.Rows.{settled, sectionIn, Two}
 
 -- after the first i steps: so many are accepted, and the rest of the day goes on from the rows
 pub record Walked

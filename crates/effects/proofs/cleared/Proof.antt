@@ -1,10 +1,6 @@
 use borrow.Author.Needs.{needs}
 use Rattle.effects.proofs.cleared.Statement.{statement}
 use Rattle.effects.proofs.cleared.Tie as tie
-use Rattle.effects.proofs.cleared.Reads as reads
-use Rattle.effects.proofs.cleared.Lts as lts
-use Rattle.section.proofs.Post.faulty.Reads as faulty-reads
-use Rattle.section.proofs.Post.marked.Reads as marked-reads
 
 enum-told : tie.Need-enum-told
 enum-told c = search needs

@@ -4,19 +4,6 @@ use Rattle.effects.specs.Part.{HasNext}
 use borrow.Author.Needs.{needs}
 use Rattle.effects.proofs.effect_of.Statement.{statement}
 use Rattle.effects.proofs.effect_of.Tie as tie
-use Rattle.effects.proofs.effect_of.Reads as reads
-use Rattle.effects.proofs.effect_of.Lts as lts
-use Rattle.reversal_effects.proofs.acknowledging.Reads as acknowledging-reads
-use Rattle.reversal_effects.proofs.announcing.Reads as announcing-reads
-use Rattle.effects.proofs.cleared.Reads as cleared-reads
-use Rattle.effects.proofs.moving.Reads as moving-reads
-use Rattle.reversal_effects.proofs.setting.Reads as setting-reads
-use Rattle.reversal_effects.proofs.walking.Reads as walking-reads
-use Rattle.section.proofs.Post.faulty.Reads as faulty-reads
-use Rattle.section.proofs.Post.marked.Reads as marked-reads
-use Rattle.section.proofs.Post.measured.Reads as measured-reads
-use Rattle.section.proofs.Post.permitted.Reads as permitted-reads
-use Rattle.section.proofs.Post.sealed.Reads as sealed-reads
 
 enum-told : tie.Need-enum-told
 enum-told c = search needs

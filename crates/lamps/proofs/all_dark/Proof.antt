@@ -2,8 +2,6 @@ use mathlib.Core.Path.{refl}
 use Rattle.rules.specs.Indications.{dark}
 use Rattle.lamps.proofs.all_dark.Statement.{statement}
 use Rattle.lamps.proofs.all_dark.Tie as tie
-use Rattle.lamps.proofs.all_dark.Reads as reads
-use Rattle.lamps.proofs.all_dark.Lts as lts
 
 returns : tie.Need-returns
 unfolding dark

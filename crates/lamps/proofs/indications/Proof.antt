@@ -8,11 +8,6 @@ use borrow.Author.Tests.{eq-eqb, ne-eqb}
 use Rattle.lamps.proofs.Laws.{dark-out, dark-track, dark-post, shown-is}
 use Rattle.lamps.proofs.indications.Statement.{statement}
 use Rattle.lamps.proofs.indications.Tie as tie
-use Rattle.lamps.proofs.indications.Reads as reads
-use Rattle.lamps.proofs.indications.Lts as lts
-use Rattle.lamps.proofs.all_dark.Reads as all-dark-reads
-use Rattle.lamps.proofs.shown_on.Reads as shown-on-reads
-use Rattle.ranges.proofs.in_range.Reads as in-range-reads
 
 in-range-requires : tie.Need-in-range-requires
 in-range-requires c κs = search needs

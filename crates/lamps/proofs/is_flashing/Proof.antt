@@ -2,12 +2,6 @@ use borrow.Author.Needs.{needs}
 use Rattle.lamps.proofs.Laws.{not-materialised, is-materialised, flashing-is}
 use Rattle.lamps.proofs.is_flashing.Statement.{statement}
 use Rattle.lamps.proofs.is_flashing.Tie as tie
-use Rattle.lamps.proofs.is_flashing.Reads as reads
-use Rattle.lamps.proofs.is_flashing.Lts as lts
-use Rattle.lamps.proofs.is_next_to_set.Reads as is-next-to-set-reads
-use Rattle.lamps.proofs.set_count.Reads as set-count-reads
-use Rattle.occupancy.proofs.rank_at.Reads as rank-at-reads
-use Rattle.positions.proofs.is_upward.Reads as is-upward-reads
 
 returns : tie.Need-returns
 returns c = rw (not-materialised (c .before .before .args .c) (c .if1 .taken))

@@ -2,8 +2,6 @@ use native.Mathlib.Omega.{arith}
 use Rattle.lamps.proofs.Laws.{next-first, next-over, next-within}
 use Rattle.lamps.proofs.is_next_to_set.Statement.{statement}
 use Rattle.lamps.proofs.is_next_to_set.Tie as tie
-use Rattle.lamps.proofs.is_next_to_set.Reads as reads
-use Rattle.lamps.proofs.is_next_to_set.Lts as lts
 
 returns : tie.Need-returns
 returns c = next-first _ _ (c .if1 .taken)

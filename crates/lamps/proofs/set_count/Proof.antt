@@ -5,9 +5,6 @@ use Rattle.rules.specs.Indications.{setCount}
 use Rattle.lamps.proofs.Laws.{turn-below}
 use Rattle.lamps.proofs.set_count.Statement.{statement}
 use Rattle.lamps.proofs.set_count.Tie as tie
-use Rattle.lamps.proofs.set_count.Reads as reads
-use Rattle.lamps.proofs.set_count.Lts as lts
-use Rattle.positions.proofs.rank.Reads as rank-reads
 
 enum-told : tie.Need-enum-told
 enum-told c = search needs

@@ -3,14 +3,6 @@ use denote.Ref.{now}
 use Rattle.lamps.proofs.Laws.{shown-parts}
 use Rattle.lamps.proofs.shown_at.Statement.{statement}
 use Rattle.lamps.proofs.shown_at.Tie as tie
-use Rattle.lamps.proofs.shown_at.Reads as reads
-use Rattle.lamps.proofs.shown_at.Lts as lts
-use Rattle.lamps.proofs.circulation.Reads as circulation-reads
-use Rattle.lamps.proofs.is_flashing.Reads as is-flashing-reads
-use Rattle.lamps.proofs.number.Reads as number-reads
-use Rattle.lamps.proofs.troncon.Reads as troncon-reads
-use Rattle.occupancy.proofs.watched_occupied.Reads as watched-occupied-reads
-use Rattle.occupancy.proofs.at_receiving_end.Reads as at-receiving-end-reads
 
 is-flashing-requires : tie.Need-is-flashing-requires
 is-flashing-requires c κs = search needs

@@ -5,9 +5,6 @@ use Rattle.section.proofs.Laws.{posts-right}
 use Rattle.sites.proofs.Laws.{fit-on}
 use Rattle.lamps.proofs.shown_on.Statement.{statement}
 use Rattle.lamps.proofs.shown_on.Tie as tie
-use Rattle.lamps.proofs.shown_on.Reads as reads
-use Rattle.lamps.proofs.shown_on.Lts as lts
-use Rattle.lamps.proofs.shown_at.Reads as shown-at-reads
 
 mul-own : tie.Need-mul-own
 mul-own c = search needs

@@ -1,8 +1,6 @@
 use Rattle.lamps.proofs.Laws.{no-part, red-by-fault, red-by-train, white}
 use Rattle.lamps.proofs.troncon.Statement.{statement}
 use Rattle.lamps.proofs.troncon.Tie as tie
-use Rattle.lamps.proofs.troncon.Reads as reads
-use Rattle.lamps.proofs.troncon.Lts as lts
 
 returns : tie.Need-returns
 returns c = let a = c .before .args in no-part (a .commands) (a .fault1) (a .occupied) (c .if1 .taken)

@@ -6,11 +6,6 @@ use mathlib.Core.Path.{_≡_}
 use borrow.Author.Needs.{needs}
 use Rattle.movements.proofs.block_before.Statement.{statement}
 use Rattle.movements.proofs.block_before.Tie as tie
-use Rattle.movements.proofs.block_before.Reads as reads
-use Rattle.movements.proofs.block_before.Lts as lts
-use Rattle.occupancy.proofs.rank_at.Reads as rank-at-reads
-use Rattle.positions.proofs.block.Reads as block-reads
-use Rattle.positions.proofs.is_upward.Reads as is-upward-reads
 
 is-upward-requires : tie.Need-is-upward-requires
 is-upward-requires c κs = search needs

@@ -4,10 +4,6 @@ use Rattle.movements.specs.Blocks.{HasBlocks}
 use borrow.Author.Needs.{needs}
 use Rattle.movements.proofs.move_train.Statement.{statement}
 use Rattle.movements.proofs.move_train.Tie as tie
-use Rattle.movements.proofs.move_train.Reads as reads
-use Rattle.movements.proofs.move_train.Lts as lts
-use Rattle.movements.proofs.block_ahead.Reads as block-ahead-reads
-use Rattle.movements.proofs.block_before.Reads as block-before-reads
 
 enum-told : tie.Need-enum-told
 enum-told c = search needs

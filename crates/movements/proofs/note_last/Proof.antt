@@ -4,9 +4,6 @@ use Rattle.movements.specs.Blocks.{HasBlocks}
 use borrow.Author.Needs.{needs}
 use Rattle.movements.proofs.note_last.Statement.{statement}
 use Rattle.movements.proofs.note_last.Tie as tie
-use Rattle.movements.proofs.note_last.Reads as reads
-use Rattle.movements.proofs.note_last.Lts as lts
-use Rattle.movements.proofs.block_ahead.Reads as block-ahead-reads
 
 enum-told : tie.Need-enum-told
 enum-told c = search needs

@@ -2,9 +2,6 @@ use Rattle.rules.specs.Table.{effect}
 use borrow.Author.Needs.{needs}
 use Rattle.reversal_effects.proofs.acknowledging.Statement.{statement}
 use Rattle.reversal_effects.proofs.acknowledging.Tie as tie
-use Rattle.reversal_effects.proofs.acknowledging.Reads as reads
-use Rattle.reversal_effects.proofs.acknowledging.Lts as lts
-use Rattle.reversal_effects.proofs.walking.Reads as walking-reads
 
 walking-requires : tie.Need-walking-requires
 walking-requires c κs = search needs

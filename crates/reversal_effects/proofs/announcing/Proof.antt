@@ -2,10 +2,6 @@ use Rattle.rules.specs.Table.{effect}
 use borrow.Author.Needs.{needs}
 use Rattle.reversal_effects.proofs.announcing.Statement.{statement}
 use Rattle.reversal_effects.proofs.announcing.Tie as tie
-use Rattle.reversal_effects.proofs.announcing.Reads as reads
-use Rattle.reversal_effects.proofs.announcing.Lts as lts
-use Rattle.reversal_effects.proofs.next_post.Reads as next-post-reads
-use Rattle.reversal_effects.proofs.walking.Reads as walking-reads
 
 next-post-requires : tie.Need-next-post-requires
 next-post-requires c κs = search needs

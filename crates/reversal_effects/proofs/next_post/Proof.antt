@@ -5,9 +5,6 @@ use Rattle.reversal_effects.proofs.Laws.{above-zero}
 use borrow.Author.Needs.{needs}
 use Rattle.reversal_effects.proofs.next_post.Statement.{statement}
 use Rattle.reversal_effects.proofs.next_post.Tie as tie
-use Rattle.reversal_effects.proofs.next_post.Reads as reads
-use Rattle.reversal_effects.proofs.next_post.Lts as lts
-use Rattle.positions.proofs.is_upward.Reads as is-upward-reads
 
 is-upward-requires : tie.Need-is-upward-requires
 is-upward-requires c κs = search needs

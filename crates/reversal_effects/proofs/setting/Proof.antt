@@ -2,13 +2,6 @@ use mathlib.Core.Path.{_∙_, sym}
 use borrow.Author.Needs.{needs}
 use Rattle.reversal_effects.proofs.setting.Statement.{statement}
 use Rattle.reversal_effects.proofs.setting.Tie as tie
-use Rattle.reversal_effects.proofs.setting.Reads as reads
-use Rattle.reversal_effects.proofs.setting.Lts as lts
-use Rattle.occupancy.proofs.at_receiving_end.Reads as at-receiving-end-reads
-use Rattle.reversal_effects.proofs.walking.Reads as walking-reads
-use Rattle.section.proofs.Post.marked.Reads as marked-reads
-use Rattle.section.proofs.Post.permitted.Reads as permitted-reads
-use Rattle.section.proofs.Post.turned.Reads as turned-reads
 
 turned-requires : tie.Need-turned-requires
 turned-requires c κs = search needs

@@ -2,8 +2,6 @@ use borrow.Author.Needs.{needs}
 use Rattle.section.specs.Step.{postOf}
 use Rattle.sites.proofs.post_of.Statement.{statement}
 use Rattle.sites.proofs.post_of.Tie as tie
-use Rattle.sites.proofs.post_of.Reads as reads
-use Rattle.sites.proofs.post_of.Lts as lts
 
 enum-known-x : tie.Need-enum-known-x
 enum-known-x c = search needs

@@ -1,9 +1,6 @@
 use borrow.Author.Needs.{needs}
 use Rattle.sites.proofs.site.Statement.{statement}
 use Rattle.sites.proofs.site.Tie as tie
-use Rattle.sites.proofs.site.Reads as reads
-use Rattle.sites.proofs.site.Lts as lts
-use Rattle.sites.proofs.settled_on_vns.Reads as settled-on-vns-reads
 
 settled-on-vns-requires : tie.Need-settled-on-vns-requires
 settled-on-vns-requires c κs = search needs

@@ -11,9 +11,8 @@ use Rattle.section.specs.Step.{decoded, postOf}
 use Rattle.section.proofs.Laws.{posts-right}
 use Rattle.rules.specs.Judge.{siteOf}
 use Rattle.whole_day.specs.AcceptedCount.{offeredAt}
-use Rattle.whole_day.specs.Rows.{sectionIn}
 use Rattle.whole_day.proofs.Laws.{counts-at-most, part-offered}
-use Rattle.whole_day.proofs.Rows.{Two, two-after, site-at, fit-at, judged-at}
+use Rattle.whole_day.proofs.Rows.{sectionIn, two-after, site-at, fit-at, judged-at}
 use Rattle.whole_day.proofs.Walk.{Walked, begins, goes-on, passes-over, ends}
 use borrow.Author.Needs.{needs}
 use Rattle.whole_day.proofs.accepted_from.Statement.{statement}

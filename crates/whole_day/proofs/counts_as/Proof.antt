@@ -2,8 +2,6 @@ use borrow.Author.Needs.{needs}
 use Rattle.whole_day.specs.AcceptedCount.{countsAs}
 use Rattle.whole_day.proofs.counts_as.Statement.{statement}
 use Rattle.whole_day.proofs.counts_as.Tie as tie
-use Rattle.whole_day.proofs.counts_as.Reads as reads
-use Rattle.whole_day.proofs.counts_as.Lts as lts
 
 enum-told : tie.Need-enum-told
 enum-told c = search needs
