@@ -157,9 +157,11 @@ index-1-judge-at-2 c = search needs
 judge-at-requires : tie.Need-judge-at-requires Inv-loop μ-loop
 judge-at-requires c κs =
     let site = c .before .before in
-    let l = looped (well site) .loop in
-    fit-at (l .posts) (l .trains) (l .last) (l .running) _ _ (step (well site)) (says (well site)) (site .before .before .before .before .before .row-of .ensures .0)
-    (site .before .before .before .before .post-of .ensures) (l .inv .range) (site-is site)
+    let post = site .before .before .before .before in
+    let d = well site in
+    let l = looped d .loop in
+    fit-at (l .posts) (l .trains) (l .last) (l .running) _ _ (step d) (says d) (post .before .row-of .ensures .0) (post .post-of .ensures) (l .inv .range)
+    (site-is site)
 
 mul-own-after : tie.Need-mul-own-after Inv-loop μ-loop
 mul-own-after c = search needs
