@@ -2,6 +2,7 @@
 
 pub mod days;
 pub mod judging;
+pub mod notes;
 pub mod offers;
 pub mod sections;
 pub mod tally;

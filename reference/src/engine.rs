@@ -33,6 +33,14 @@ pub fn judge(section: &Section, step_bytes: &[u8]) -> Answer {
 
 /// The refusal (0 for none) and what is said; a refused step leaves the section as it was.
 pub fn judge_in_place(section: &mut Section, step_bytes: &[u8]) -> (u8, u8) {
+    if !section.in_range() {
+        return (6, SAID_NOTHING);
+    }
+    judge_in_range(section, step_bytes)
+}
+
+/// The same, for a section that is known to be in range, as every one that is reached from fresh.
+pub fn judge_in_range(section: &mut Section, step_bytes: &[u8]) -> (u8, u8) {
     match try_step(section, step_bytes) {
         Ok(said) => (0, said),
         Err(refusal) => (refusal, SAID_NOTHING),
@@ -40,7 +48,6 @@ pub fn judge_in_place(section: &mut Section, step_bytes: &[u8]) -> (u8, u8) {
 }
 
 fn try_step(section: &mut Section, step_bytes: &[u8]) -> Result<u8, u8> {
-    refuse_if(!section.in_range(), 6)?;
     let (track, step) = step::decode(step_bytes, section.settings.n).ok_or(4)?;
     JudgedTrack::of(section, usize::from(track)).take(step)
 }

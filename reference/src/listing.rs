@@ -101,7 +101,7 @@ fn said_text(said: u8) -> &'static [u8] {
 }
 
 /// Capital for a settled track; small for the direction a reversal leads to.
-fn direction_letter(track: &Track) -> u8 {
+pub fn direction_letter(track: &Track) -> u8 {
     match (track.reversal_under_way(), track.direction == VNS) {
         (false, true) => b'V',
         (false, false) => b'C',

@@ -1,10 +1,11 @@
 //! Times a judged step along a day of 4,096 steps.
 
+use comparison::engine::notes::{room_for, second_notes, NOTE_LENGTH};
 use comparison::proved;
-use comparison::report::{run, same, Outcome, Run};
-use comparison::timing::alternate;
+use comparison::report::{run, same_bytes, Outcome, Run};
+use comparison::timing::{alternate, Times};
 use reference::dayfile::MOST_STEPS;
-use reference::engine::judge_in_place;
+use reference::engine::{judge_in_place, judge_in_range};
 use reference::generate::{furthering_step, sensible_step, Rng};
 use reference::section::Section;
 use reference::settings::Settings;
@@ -35,39 +36,44 @@ fn benchmark_engine(run: &Run) -> Outcome {
 
 fn time_day(run: &Run, settings: &Settings) -> Outcome {
     let steps = busy_day(&mut run.rng(6), settings);
-    let accepted = accepted_by_second(settings, &steps);
-    same(
-        "how many steps are accepted",
-        proved::engine::accepted(settings, &steps),
-        accepted,
-        &|| format!("{settings:?}, a busy day"),
-    )?;
-    let times = alternate(
-        run.times,
-        CALLS,
-        || {
-            black_box(proved::engine::accepted(settings, black_box(&steps)));
-        },
-        || {
-            black_box(accepted_by_second(settings, black_box(&steps)));
-        },
-    );
-    let form = ["telephone", "materialised"][usize::from(settings.form)];
-    let what = format!(
-        "n = {}, {form}, {MOST_STEPS} steps, {accepted} accepted",
-        settings.n
-    );
+    let mut notes = vec![0; room_for(&steps)];
+    let mut expected = notes.clone();
+    proved::engine::day(settings, &steps, &mut notes);
+    second_notes(settings, &steps, &mut expected, judge_in_place);
+    let day = || format!("{settings:?}, a busy day");
+    same_bytes("the notes of a day", &notes, &expected, &day)?;
     println!("{}", kinds_accepted(settings, &steps));
-    times.print(&what, MOST_STEPS, "step");
+    let form = ["telephone", "materialised"][usize::from(settings.form)];
+    let accepted = notes.chunks_exact(NOTE_LENGTH).filter(|note| note[0] == 0);
+    let what = format!(
+        "n = {}, {form}, {MOST_STEPS} steps, {} accepted",
+        settings.n,
+        accepted.count()
+    );
+    time_against(run, settings, &steps, judge_in_range).print(&what, MOST_STEPS, "step");
+    let tested = format!("{what}, the second testing the ranges at each step");
+    time_against(run, settings, &steps, judge_in_place).print(&tested, MOST_STEPS, "step");
     Ok(())
 }
 
-fn accepted_by_second(settings: &Settings, steps: &[u8]) -> u64 {
-    let mut section = Section::fresh(*settings);
-    steps
-        .chunks_exact(STEP_LENGTH)
-        .filter(|step| judge_in_place(&mut section, step).0 == 0)
-        .count() as u64
+fn time_against(
+    run: &Run,
+    settings: &Settings,
+    steps: &[u8],
+    judge: impl Fn(&mut Section, &[u8]) -> (u8, u8) + Copy,
+) -> Times {
+    let mut notes = vec![0; room_for(steps)];
+    let mut of_second = notes.clone();
+    alternate(
+        run.times,
+        CALLS,
+        || {
+            proved::engine::day(settings, black_box(steps), black_box(&mut notes));
+        },
+        || {
+            second_notes(settings, black_box(steps), black_box(&mut of_second), judge);
+        },
+    )
 }
 
 /// Trains both ways, reversals and faults; few steps are refused.

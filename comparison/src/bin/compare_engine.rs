@@ -18,9 +18,10 @@ fn compare_engine(run: &Run) -> Outcome {
     days.tally.fits_table("days")?;
     println!("sections: {} steps compared", sections.tally.total());
     println!(
-        "days: {} steps compared, {} fresh sections",
+        "days: {} steps compared, {} fresh sections, {} days noted",
         days.tally.total(),
-        days.fresh_sections
+        days.fresh_sections,
+        days.days_noted
     );
     Ok(())
 }

@@ -1,6 +1,7 @@
 //! Days from the fresh section on.
 
 use super::judging::Both;
+use super::notes::{room_for, second_notes};
 use super::offers::offer;
 use super::tally::Tally;
 use crate::files::bounds::settings_at_bounds;
@@ -8,6 +9,7 @@ use crate::image::{image_of, IMAGE_LENGTH, PERMISSION_B_0};
 use crate::lent::{same_buffers, Lent};
 use crate::proved;
 use crate::report::{hex, same, Comparison, Failure, Outcome};
+use reference::engine::judge_in_place;
 use reference::generate::{random_settings, Rng};
 use reference::section::{Section, MOST_SEALS};
 use reference::settings::Settings;
@@ -21,6 +23,7 @@ pub struct DayComparison {
     rng: Rng,
     pub tally: Tally,
     pub fresh_sections: u64,
+    pub days_noted: u64,
 }
 
 struct Day {
@@ -28,7 +31,6 @@ struct Day {
     both: Both,
     /// The steps offered, but for those of a wrong length.
     steps: Vec<u8>,
-    accepted: u64,
 }
 
 impl Comparison for DayComparison {
@@ -37,6 +39,7 @@ impl Comparison for DayComparison {
             rng,
             tally: Tally::default(),
             fresh_sections: 0,
+            days_noted: 0,
         }
     }
 
@@ -58,7 +61,7 @@ impl DayComparison {
             }
             let mut day = self.begin(settings)?;
             self.take_any_step(&mut day)?;
-            same_count_accepted(&day)?;
+            self.same_notes(&day)?;
         }
         Ok(())
     }
@@ -71,7 +74,7 @@ impl DayComparison {
         }
         let rest = self.rng.below(STEP_LENGTH as u64) as usize;
         day.steps.extend(vec![0; rest]);
-        same_count_accepted(&day)
+        self.same_notes(&day)
     }
 
     /// Reversals there and back by the emergency button, until its seals are used up.
@@ -94,7 +97,23 @@ impl DayComparison {
                 self.take(&mut day, &encode(track, &step))?;
             }
         }
-        same_count_accepted(&day)
+        self.same_notes(&day)
+    }
+
+    /// The proved walk over the whole day against the steps judged one by one, in a buffer as long, longer and too short.
+    fn same_notes(&mut self, day: &Day) -> Outcome {
+        let exact = room_for(&day.steps);
+        for room in [exact, exact + 9, exact.saturating_sub(1)] {
+            let mut notes = Lent::patterned(room);
+            let mut expected = notes.clone();
+            let input = || format!("{:?}, room {room}\nsteps: {}", day.settings, hex(&day.steps));
+            let proved = proved::engine::day(&day.settings, &day.steps, notes.part());
+            let second = second_notes(&day.settings, &day.steps, expected.part(), judge_in_place);
+            same("the answer to a day's steps", proved, second, &input)?;
+            same_buffers("the notes of a day", &notes, &expected, &input)?;
+        }
+        self.days_noted += 1;
+        Ok(())
     }
 
     /// The fresh section in a buffer, compared.
@@ -122,7 +141,6 @@ impl DayComparison {
                 section: Some(Section::fresh(settings)),
             },
             steps: Vec::new(),
-            accepted: 0,
         })
     }
 
@@ -133,8 +151,7 @@ impl DayComparison {
     }
 
     fn take(&mut self, day: &mut Day, step: &[u8]) -> Outcome {
-        let refusal = day.both.judge(&mut self.rng, step, &mut self.tally)?;
-        day.accepted += u64::from(refusal == 0);
+        day.both.judge(&mut self.rng, step, &mut self.tally)?;
         if step.len() == STEP_LENGTH {
             day.steps.extend(step);
         }
@@ -160,16 +177,6 @@ fn leave_open_without_posts(proved: &mut Lent, second: &mut Lent) {
             *permission = 0;
         }
     }
-}
-
-/// The proved loop over the whole day against the steps judged one by one.
-fn same_count_accepted(day: &Day) -> Outcome {
-    same(
-        "how many steps are accepted",
-        proved::engine::accepted(&day.settings, &day.steps),
-        day.accepted,
-        &|| format!("{:?}\nsteps: {}", day.settings, hex(&day.steps)),
-    )
 }
 
 /// For two posts.

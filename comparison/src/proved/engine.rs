@@ -7,14 +7,16 @@ extern "C" {
     fn bsr_fresh(n: u8, form: u8, mask: u16, line: u16, image: *mut u8, image_length: usize) -> u8;
     fn bsr_judge(image: *mut u8, image_length: usize, step: *const u8, step_length: usize) -> u16;
     fn bsr_indications(image: *const u8, image_length: usize, track: u8, post: u8) -> u16;
-    fn bsr_accepted(
+    fn bsr_day(
         n: u8,
         form: u8,
         mask: u16,
         line: u16,
         steps: *const u8,
         steps_length: usize,
-    ) -> u64;
+        notes: *mut u8,
+        notes_length: usize,
+    ) -> u8;
 }
 
 /// 0, or 5 for a buffer too short.
@@ -35,8 +37,19 @@ pub fn indications(image: &[u8], track: u8, post: u8) -> (u16, u16, u16) {
     (answer & 7, answer >> 3 & 7, answer >> 6)
 }
 
-/// How many of the whole steps are accepted from fresh.
-pub fn accepted(settings: &Settings, steps: &[u8]) -> u64 {
+/// Notes the whole steps, offered one after another from fresh; 0 or a refusal.
+pub fn day(settings: &Settings, steps: &[u8], notes: &mut [u8]) -> u8 {
     let (n, form, mask, line) = arguments(settings);
-    unsafe { bsr_accepted(n, form, mask, line, steps.as_ptr(), steps.len()) }
+    unsafe {
+        bsr_day(
+            n,
+            form,
+            mask,
+            line,
+            steps.as_ptr(),
+            steps.len(),
+            notes.as_mut_ptr(),
+            notes.len(),
+        )
+    }
 }

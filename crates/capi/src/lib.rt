@@ -2,14 +2,18 @@
 // It is not stable: names, packed numbers and the image's layout may change with any delivery.
 ghost use mathlib.Core.Path.{_≡_};
 ghost use lib.ListN.{length};
-ghost use Rattle.whole_day.specs.AcceptedCount.{acceptedCount};
-ghost use Rattle.capi.specs.Engine.{freshAnswer, freshImage, judgeAnswer, judgeImage, shownOf};
+ghost use Rattle.capi.specs.Engine.{freshAnswer, freshImage, judgeAnswer, judgeImage, shownOf, dayAnswer, dayNotes};
 ghost use Rattle.packed.specs.Settings.{settingsGiven};
 use image::IMAGE_LENGTH;
+use notes::NOTE_LENGTH;
+use notes::said_number;
 use packed::packed_indications;
-use packed::said_number;
 use packed::settings_given;
+use section::STEP_LENGTH;
 use section::Verdict;
+
+// What bytes that are no section's image give, as a state out of range does.
+const NO_IMAGE: u16 = 6;
 
 // The fresh section's image, at the front of the buffer.
 #[no_mangle]
@@ -31,7 +35,7 @@ pub extern "C" fn bsr_judge(bytes: &mut [u8], step: &[u8]) -> u16
     ensures { λ _. ⌜ now (bytes .exit) ≡ judgeImage (now (bytes .entry)) (now (step .entry)) ⌝ }
 {
     if !image::image_right(bytes) {
-        return 6;
+        return NO_IMAGE;
     }
     let answer = engine::judge(image_reader::section_of(bytes), step);
     let verdict = answer.verdict;
@@ -39,7 +43,7 @@ pub extern "C" fn bsr_judge(bytes: &mut [u8], step: &[u8]) -> u16
         Verdict::Accepted(said) => {
             let after = answer.section;
             image_writer::put_image(bytes, after);
-            said_number(said) * 256
+            (said_number(said) as u16) * 256
         }
         Verdict::Refused(number) => number as u16,
     }
@@ -56,10 +60,27 @@ pub extern "C" fn bsr_indications(bytes: &[u8], track: u8, post: u8) -> u16
     packed_indications(engine::indications(image_reader::section_of(bytes), track, post))
 }
 
-// How many of the whole steps are accepted when they are offered one after another from fresh.
+// Judges the whole steps, offered one after another from fresh, and writes the note of each, from the buffer's front on.
 #[no_mangle]
-pub extern "C" fn bsr_accepted(n: u8, form: u8, mask: u16, line: u16, steps: &[u8]) -> u64
-    ensures { λ r. ⌜ r ≡ acceptedCount (settingsGiven n form mask line) (now (steps .entry)) ⌝ }
+pub extern "C" fn bsr_day(
+    n: u8,
+    form: u8,
+    mask: u16,
+    line: u16,
+    steps: &[u8],
+    buffer: &mut [u8],
+) -> u8
+    ensures { λ r. ⌜ r ≡ dayAnswer (settingsGiven n form mask line) (now (steps .entry)) (length (now (buffer .entry))) ⌝ }
+    ensures { λ _. ⌜ now (buffer .exit) ≡ dayNotes (settingsGiven n form mask line) (now (steps .entry)) (now (buffer .entry)) ⌝ }
 {
-    whole_day::accepted_count(settings_given(n, form, mask, line), steps) as u64
+    let c = settings_given(n, form, mask, line);
+    if !settings_range::settings_right(c) {
+        return 6;
+    }
+    let count = steps.len() / STEP_LENGTH;
+    if buffer.len() < NOTE_LENGTH * count {
+        return 5;
+    }
+    whole_day::note_day(c, steps, count, buffer);
+    0
 }

@@ -1,20 +1,17 @@
 -- Texts put one after another into a buffer.
-use mathlib.Core.Path.{_≡_, sym, _∙_, ap}
+use mathlib.Core.Path.{_≡_, refl, sym, _∙_, ap}
 use mathlib.Core.List.{List, [], _∷_, _++_, append-assoc}
-use Prim.Native.Nat.{ℕ, zero, suc, _+_, _*_, _≤_}
+use Prim.Native.Nat.{ℕ, zero, suc, _+_, _*_, _≤_, _<_}
 use native.Mathlib.Omega.{arith}
 use native.Mathlib.Nat.{add-zero, mul-suc}
 use native.Mathlib.Numerals.{add-one}
 use lib.ListN.{length, take, drop, take-append-drop, length-append}
-use Rattle.section.specs.declared.Answer.{Answer}
 use Rattle.section.specs.declared.Said.{Said}
 use Rattle.section.specs.declared.Said.the-variants.{Nothing, Cvt, Cvtz, Vns, Vnsz}
-use Rattle.section.specs.declared.Verdict.{Verdict}
-use Rattle.section.specs.Words.{refusalOf, saidBy}
 use Rattle.text.specs.Text.{decimal, written}
 use Rattle.text.proofs.Laws.{put-then, decimal-length}
 use Rattle.lines.specs.Text.{word, inTurn}
-use Rattle.lines.specs.Lines.{header, verdictFields, fields, stepLine}
+use Rattle.lines.specs.Lines.{header, verdictFields, fields, headerRoom, stepLineRoom}
 
 -- what a function that puts a text ensures
 abbrev pub Putting : List ℕ → ℕ → List ℕ → ℕ → List ℕ → Type 0
@@ -59,20 +56,19 @@ named-then l m k at r q name x end t room a b =
     rw (append-assoc name (decimal x ++ (end ∷ [])) t, append-assoc (decimal x) (end ∷ []) t)
     at (then l m k at r q (name ++ (decimal x ++ (end ∷ []))) t (omega arith) a b)
 
-pub verdict-length : (verdict : Verdict) → length (verdictFields verdict) ≤ 10
+pub verdict-length : (refusal : ℕ) (said : Said) → length (verdictFields refusal said) ≤ 10
 unfolding verdictFields
-verdict-length v = simp length-append (omega (arith, decimal-length (refusalOf v), word-length (saidBy v)))
+verdict-length refusal said = simp length-append (omega (arith, decimal-length refusal, word-length said))
 
 -- ## How long a line is
 
-pub header-length : (n count : ℕ) → length (header n count) ≤ 24
+pub header-length : (n count : ℕ) → length (header n count) ≤ headerRoom
 unfolding header
 header-length n count = simp length-append (omega (arith, decimal-length n, decimal-length count))
 
-pub step-line-length : (index : ℕ) (answer : Answer) → length (stepLine index answer) ≤ 21
-unfolding stepLine fields
-step-line-length index answer =
-    simp length-append (omega (arith, decimal-length index, verdict-length (answer .verdict)))
+pub fields-length : (index refusal : ℕ) (said : Said) (a b : ℕ) → length (fields index refusal said a b) ≤ stepLineRoom
+unfolding fields
+fields-length index refusal said a b = simp length-append (omega (arith, decimal-length index, verdict-length refusal said))
 
 -- ## Texts in turn
 
@@ -93,3 +89,9 @@ pub one-more-put :
     → Putting m r (f i) q k → Putting l at (inTurn f (i + 1)) q k
 unfolding inTurn
 one-more-put f l m k at i r q room a b = rw (add-one i) (then l m k at r q (inTurn f i) (f i) room a b)
+
+-- the same texts
+pub same-texts : (f g : ℕ → List ℕ) (m : ℕ) → ((i : ℕ) → i < m → f i ≡ g i) → inTurn f m ≡ inTurn g m
+unfolding inTurn
+same-texts f g zero same = refl
+same-texts f g (suc m) same = rw (same-texts f g m (λ i. λ h. same i (omega arith)), same m (omega arith)) refl

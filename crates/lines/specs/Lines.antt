@@ -2,7 +2,7 @@
 use Prim.Native.Nat.{ℕ}
 use mathlib.Core.List.{List, [], _∷_, _++_}
 use Rattle.section.specs.declared.Answer.{Answer}
-use Rattle.section.specs.declared.Verdict.{Verdict}
+use Rattle.section.specs.declared.Said.{Said}
 use Rattle.section.specs.Words.{refusalOf, saidBy}
 use Rattle.text.specs.Text.{ascii, decimal}
 use Rattle.lines.specs.Text.{word, trackLetter}
@@ -16,17 +16,28 @@ unfoldable pub header : ℕ → ℕ → List ℕ
 header n count = ascii "posts " ++ (decimal n ++ (ascii " steps " ++ (decimal count ++ ascii "\n")))
 
 -- "0 or refusal, what is said or `-`"
-unfoldable pub verdictFields : Verdict → List ℕ
-verdictFields verdict = decimal (refusalOf verdict) ++ (ascii " " ++ word (saidBy verdict))
+unfoldable pub verdictFields : ℕ → Said → List ℕ
+verdictFields refusal said = decimal refusal ++ (ascii " " ++ word said)
 
 -- a track's letter, after a space
 abbrev pub letterField : ℕ → List ℕ
 letterField letter = ascii " " ++ (letter ∷ [])
 
 -- "index, 0 or refusal, what is said or `-`, tracks A and B after the step", "fields one space apart"
-unfoldable pub fields : ℕ → Verdict → ℕ → ℕ → List ℕ
-fields index verdict a b =
-    decimal index ++ (ascii " " ++ (verdictFields verdict ++ (letterField a ++ (letterField b ++ ascii "\n"))))
+unfoldable pub fields : ℕ → ℕ → Said → ℕ → ℕ → List ℕ
+fields index refusal said a b =
+    decimal index ++ (ascii " " ++ (verdictFields refusal said ++ (letterField a ++ (letterField b ++ ascii "\n"))))
 
 unfoldable pub stepLine : ℕ → Answer → List ℕ
-stepLine index answer = fields index (answer .verdict) (trackLetter (answer .section .a)) (trackLetter (answer .section .b))
+stepLine index answer =
+    fields index (refusalOf (answer .verdict)) (saidBy (answer .verdict)) (trackLetter (answer .section .a)) (trackLetter (answer .section .b))
+
+-- room for the longest of each
+abbrev pub refusedRoom : ℕ
+refusedRoom = 20
+
+abbrev pub headerRoom : ℕ
+headerRoom = 24
+
+abbrev pub stepLineRoom : ℕ
+stepLineRoom = 21

@@ -4,7 +4,7 @@ ghost use mathlib.Core.List.{[], _∷_, _++_};
 ghost use Prim.Native.Nat.{_+_, _≤_};
 ghost use lib.ListN.{length};
 ghost use Rattle.text.specs.Text.{decimal, written};
-ghost use Rattle.lines.specs.Lines.{refusedLine, header};
+ghost use Rattle.lines.specs.Lines.{refusedLine, header, refusedRoom, headerRoom};
 
 // Writes a number and the byte that follows it, and returns the next place.
 pub fn put_number(buffer: &mut [u8], at: usize, x: usize, end: u8) -> usize
@@ -28,7 +28,7 @@ fn put_named(buffer: &mut [u8], at: usize, name: &[u8], x: usize, end: u8) -> us
 
 // Writes the line of a refused file, and returns the next place.
 pub fn put_refused(buffer: &mut [u8], at: usize, number: u8, index: usize) -> usize
-    requires { ⌜ at + 20 ≤ length (now buffer) ⌝ }
+    requires { ⌜ at + refusedRoom ≤ length (now buffer) ⌝ }
     ensures { λ r. ⌜ r ≡ at + length (refusedLine number index) ⌝ }
     ensures { λ _. ⌜ now (buffer .exit) ≡ written (now (buffer .entry)) at (refusedLine number index) ⌝ }
 {
@@ -38,7 +38,7 @@ pub fn put_refused(buffer: &mut [u8], at: usize, number: u8, index: usize) -> us
 
 // Writes the header of a day, and returns the next place.
 pub fn put_header(buffer: &mut [u8], at: usize, n: u8, count: usize) -> usize
-    requires { ⌜ at + 24 ≤ length (now buffer) ⌝ }
+    requires { ⌜ at + headerRoom ≤ length (now buffer) ⌝ }
     ensures { λ r. ⌜ r ≡ at + length (header n count) ⌝ }
     ensures { λ _. ⌜ now (buffer .exit) ≡ written (now (buffer .entry)) at (header n count) ⌝ }
 {

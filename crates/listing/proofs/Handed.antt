@@ -4,21 +4,17 @@ use mathlib.Core.Bool.{Bool, true, false, cond}
 use mathlib.Core.Path.{_≡_, refl, sym, _∙_, ap}
 use mathlib.Core.List.{List, _++_}
 use native.Mathlib.Omega.{arith}
-use native.Mathlib.Nat.{zero-add}
 use borrow.Author.Tests.{leb-true, le-leb}
 use lib.Dec.{leb}
 use lib.ListN.{length, take, drop, length-append}
 use lib.Seq.{length-take-le, take-at}
 use Rattle.text.specs.Text.{written}
+use Rattle.text.proofs.Laws.{at-front}
 use Rattle.listing.specs.declared.Listed.{Listed}
 use Rattle.listing.specs.declared.Listed.the-variants.{Bytes, TooShort}
 use Rattle.listing.specs.Text.{listed, handedOver}
 
 -- ## At the front of a buffer
-
-pub at-front : (l s : List ℕ) → written l 0 s ≡ s ++ drop (length s) l
-unfolding written
-at-front l s = ap (λ (k : ℕ). s ++ drop k l) (zero-add (length s))
 
 -- what was put at the front of a buffer that kept its length: it fits, and is the buffer's front
 module _ (l m s : List ℕ) (r : ℕ) (put : (r ≡ length s) × (m ≡ written l 0 s)) where

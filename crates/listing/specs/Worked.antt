@@ -21,7 +21,8 @@ use Rattle.text.specs.Text.{ascii, digits, decimal}
 use Rattle.lines.specs.Text.{word, letter, trackLetter, inTurn}
 use Rattle.lines.specs.Lines.{refusedLine, header, verdictFields, fields, stepLine}
 use Rattle.panel_lines.specs.Lamps.{lamps, lampsOf, trackName, panelFields, panelLine}
-use Rattle.sheets.specs.Printed.{sectionBefore, answerTo, lines, printedRead, printed}
+use Rattle.whole_day.specs.Day.{sectionBefore, answerTo}
+use Rattle.sheets.specs.Printed.{lines, printedRead, printed}
 use Rattle.listing.specs.Listing.{listing}
 use Rattle.listing.specs.Panel.{panel}
 

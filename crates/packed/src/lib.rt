@@ -1,13 +1,11 @@
 // What the C interface takes and returns: settings field by field, and answers packed into one number.
 ghost use mathlib.Core.Path.{_≡_};
 ghost use Prim.Native.Nat.{_<_, _^_};
-ghost use Rattle.section.specs.Words.{saidNumber};
 ghost use Rattle.packed.specs.Packed.{packedReading, packedSettings, packedWritten, packedIndications};
 ghost use Rattle.packed.specs.Settings.{settingsGiven};
 use dayfile::Reading;
 use dayfile::Written;
 use section::Indications;
-use section::Said;
 use section::Settings;
 
 // The settings that a call hands in, field by field.
@@ -50,19 +48,6 @@ pub fn packed_written(done: Written) -> u64
     match done {
         Written::Bytes(length) => ((length % 4294967296) as u64) * 256,
         Written::Refused(number, index) => (number as u64) + ((index % 4294967296) as u64) * 256,
-    }
-}
-
-// What is said.
-pub fn said_number(said: Said) -> u16
-    ensures { λ r. ⌜ r ≡ saidNumber said ⌝ }
-{
-    match said {
-        Said::Nothing => 0,
-        Said::Cvt => 1,
-        Said::Cvtz => 2,
-        Said::Vns => 3,
-        Said::Vnsz => 4,
     }
 }
 

@@ -17,7 +17,7 @@ use Rattle.rules.specs.Indications.{Lamps, lampsAt, circulation, troncon, shown
 use Rattle.text.proofs.Laws.{decimal-length}
 use Rattle.lines.specs.Text.{inTurn}
 use Rattle.lines.proofs.Puts.{in-turn-length}
-use Rattle.panel_lines.specs.Lamps.{lamps, lampsOf, panelFields, panelLine}
+use Rattle.panel_lines.specs.Lamps.{lamps, lampsOf, panelFields, panelLine, panelLineRoom}
 
 abbrev pub OneDigit : Indications → Type 0
 OneDigit l = (l .circulation < 10) × ((l .troncon < 10) × (l .permission < 10))
@@ -64,7 +64,7 @@ lamps-length s track = six-each s track (s .settings .posts)
 
 pub panel-line-length :
     (index : ℕ) (bytes : List ℕ) (answer : Answer) → answer .section .settings .posts ≤ mostPosts
-    → length (panelLine index bytes answer) ≤ 104
+    → length (panelLine index bytes answer) ≤ panelLineRoom
 unfolding panelLine panelFields
 panel-line-length index bytes answer h =
     simp length-append (omega (arith, decimal-length index, lamps-length (answer .section) (byte bytes 1)))

@@ -31,3 +31,7 @@ panelFields index track s = decimal index ++ (ascii " " ++ (trackName track ∷ 
 
 unfoldable pub panelLine : ℕ → List ℕ → Answer → List ℕ
 panelLine index bytes answer = panelFields index (byte bytes 1) (answer .section)
+
+-- room for the longest
+abbrev pub panelLineRoom : ℕ
+panelLineRoom = 104

@@ -4,7 +4,7 @@ ghost use Prim.Native.Nat.{_+_, _*_, _≤_, _<_};
 ghost use lib.ListN.{length};
 ghost use Rattle.section.specs.Numbers.{mostPosts};
 ghost use Rattle.text.specs.Text.{written};
-ghost use Rattle.panel_lines.specs.Lamps.{trackName, lamps, lampsOf, panelFields};
+ghost use Rattle.panel_lines.specs.Lamps.{trackName, lamps, lampsOf, panelFields, panelLineRoom};
 use section::Indications;
 use section::Section;
 
@@ -54,7 +54,7 @@ fn track_name(track: u8) -> u8
 
 // Writes the line of a step, and returns the next place.
 pub fn put_panel(buffer: &mut [u8], at: usize, index: usize, track: u8, s: Section) -> usize
-    requires { ⌜ (at + 104 ≤ length (now buffer)) × (s .settings .posts ≤ mostPosts) ⌝ }
+    requires { ⌜ (at + panelLineRoom ≤ length (now buffer)) × (s .settings .posts ≤ mostPosts) ⌝ }
     ensures { λ r. ⌜ r ≡ at + length (panelFields index track s) ⌝ }
     ensures { λ _. ⌜ now (buffer .exit) ≡ written (now (buffer .entry)) at (panelFields index track s) ⌝ }
 {

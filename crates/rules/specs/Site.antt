@@ -40,14 +40,21 @@ abbrev pub isTurn : Walk → ℕ → Act → Bool
 isTurn Settled p act = false
 isTurn (Turn q turnAct) p act = eqb q p && sameAct turnAct act
 
--- "A track is settled on its running direction if no reversal is under way."
+-- "A track is settled on its running direction if no reversal is under way.": on VNS, with that walk and running direction
+abbrev pub settledVns : Walk → Bool → Bool
+settledVns walk cvt = isSettled walk && not cvt
+
 abbrev pub settledOnVns : Track → Bool
-settledOnVns t = isSettled (t .walk) && not (t .cvt)
+settledOnVns t = settledVns (t .walk) (t .cvt)
 
 -- ## The site
 
+-- at a post with that record, on a track with that running direction and walk; `vns`: the other track is settled on VNS
+abbrev pub siteAt : Bool → Bool → ℕ → Post → Bool → Walk → Site
+siteAt vns track p own cvt walk = record { track = track; post = p; cvt = cvt; walk = walk; vns = vns; own = own }
+
 abbrev pub siteOn : Bool → Bool → ℕ → Track → Site
-siteOn vns track p t = record { track = track; post = p; cvt = t .cvt; walk = t .walk; vns = vns; own = postOn t p }
+siteOn vns track p t = siteAt vns track p (postOn t p) (t .cvt) (t .walk)
 
 abbrev pub otherSettledOnVns : Section → Bool → Bool
 otherSettledOnVns s track = settledOnVns (trackOf s (not track))

@@ -1,11 +1,10 @@
 -- The lines of a day: how long they are, and what the loop over the steps keeps.
-use Prim.Native.Nat.{ℕ, zero, suc, _+_, _-_, _*_, _<_, _≤_}
+use Prim.Native.Nat.{ℕ, _+_, _*_, _<_, _≤_}
 use mathlib.Core.Bool.{true, _&&_}
 use mathlib.Core.Path.{_≡_, _∙_, ap}
 use mathlib.Core.List.{List}
 use native.Mathlib.Omega.{arith}
-use native.Mathlib.Nat.{mul-suc, mul-le-mul-left, add-sub-cancel-left}
-use native.Mathlib.Numerals.{add-one}
+use native.Mathlib.Nat.{mul-suc, mul-le-mul-left}
 use borrow.Author.Tests.{leb-true}
 use lib.Dec.{leb}
 use lib.ListN.{length, take, drop, length-drop}
@@ -13,7 +12,7 @@ use lib.Seq.{length-take-le}
 use Rattle.section.specs.declared.Answer.{Answer}
 use Rattle.section.specs.declared.Section.{Section}
 use Rattle.section.specs.declared.Settings.{Settings}
-use Rattle.section.specs.Bytes.{within}
+use Rattle.section.specs.Bytes.{byte, within}
 use Rattle.section.specs.Fresh.{freshSection}
 use Rattle.section.specs.Numbers.{leastPosts, mostPosts, stepLength}
 use Rattle.section.specs.Range.{inRange}
@@ -31,12 +30,18 @@ use Rattle.dayfile.proofs.Reader.{day-read, few-steps}
 use Rattle.dayfile.proofs.RoundTrip.{gives-its-steps}
 use Rattle.text.specs.Text.{written}
 use Rattle.lines.specs.Text.{inTurn}
-use Rattle.lines.specs.Lines.{refusedLine}
-use Rattle.lines.proofs.Puts.{Putting, step-line-length, in-turn-length}
+use Rattle.lines.specs.Lines.{refusedLine, stepLine}
+use Rattle.lines.proofs.Puts.{Putting, in-turn-length, same-texts}
+use Rattle.whole_day.specs.Day.{sectionBefore, answerTo}
+use Rattle.whole_day.specs.Notes.{noteOn, notesOf}
+use Rattle.whole_day.proofs.Laws.{in-range-before, note-written}
+use Rattle.step_lines.specs.Noted.{notedLine, noteAt, notedLines}
+use Rattle.step_lines.proofs.Laws.{line-noted}
+use Rattle.panel_lines.specs.Lamps.{panelFields, panelLine, panelLineRoom}
 use Rattle.panel_lines.proofs.Shown.{panel-line-length}
 use Rattle.sheets.specs.declared.Sheet.{Sheet}
 use Rattle.sheets.specs.declared.Sheet.the-variants.{OfSteps, OfPosts}
-use Rattle.sheets.specs.Printed.{sectionBefore, answerTo, printedRead, printed}
+use Rattle.sheets.specs.Printed.{lines, printedRead, printed}
 use Rattle.sheets.specs.Sheet.{lineOn, lineRoom, room}
 
 -- ## The ranges along a day
@@ -51,13 +56,6 @@ few-posts s e =
 
 -- ## How long a line and a sheet are
 
-line-length :
-    (sheet : Sheet) (index : ℕ) (bytes : List ℕ) (answer : Answer) → answer .section .settings .posts ≤ mostPosts
-    → length (lineOn sheet index bytes answer) ≤ lineRoom sheet
-unfolding lineOn lineRoom
-line-length OfSteps index bytes answer h = step-line-length index answer
-line-length OfPosts index bytes answer h = panel-line-length index bytes answer h
-
 -- fewer steps need no more room
 pub fewer-fit : (sheet : Sheet) (count : ℕ) → count ≤ mostSteps → room sheet count ≤ room sheet mostSteps
 unfolding room
@@ -68,52 +66,48 @@ unfolding room lineRoom
 most-room OfSteps = omega arith
 most-room OfPosts = omega arith
 
--- ## The loop over the steps
+-- ## The listing's lines
 
-abbrev pub lineAt : Sheet → Section → List ℕ → ℕ → List ℕ
-lineAt sheet first steps i = lineOn sheet i (stepAt steps i) (answerTo first steps i)
+module _ (c : Settings) (steps lent : List ℕ) (count : ℕ) where
+  line-noted-at :
+      (i : ℕ) → i < count → notedLine i (noteAt (written lent 0 (notesOf c steps count)) i) ≡ stepLine i (answerTo (freshSection c) steps i)
+  unfolding noteAt noteOn
+  line-noted-at i h = ap (notedLine i) (note-written c steps i count lent h) ∙ line-noted i (answerTo (freshSection c) steps i)
 
-module _ (sheet : Sheet) (first : Section) (steps : List ℕ) (r : inRange first ≡ true) where
-  pub in-range-before : (i : ℕ) → inRange (sectionBefore first steps i) ≡ true
-  unfolding sectionBefore
-  in-range-before zero = r
-  in-range-before (suc i) = ranges-kept (sectionBefore first steps i) (stepAt steps i) (in-range-before i)
+  pub lines-noted : notedLines (written lent 0 (notesOf c steps count)) count ≡ lines (lineOn OfSteps) (freshSection c) steps count
+  unfolding notedLines lines lineOn
+  lines-noted = same-texts _ _ count line-noted-at
 
+-- ## The loop over the panel's lines
+
+abbrev pub lineAt : Section → List ℕ → ℕ → List ℕ
+lineAt first steps i = panelLine i (stepAt steps i) (answerTo first steps i)
+
+module _ (first : Section) (steps : List ℕ) (r : inRange first ≡ true) where
   pub few-posts-after : (i : ℕ) → answerTo first steps i .section .settings .posts ≤ mostPosts
   unfolding answerTo
   few-posts-after i =
       few-posts (judge (sectionBefore first steps i) (stepAt steps i) .section)
-      (ranges-kept (sectionBefore first steps i) (stepAt steps i) (in-range-before i))
+      (ranges-kept (sectionBefore first steps i) (stepAt steps i) (in-range-before first steps r i))
 
-  pub lines-length : (m : ℕ) → length (inTurn (lineAt sheet first steps) m) ≤ lineRoom sheet * m
+  lines-length : (m : ℕ) → length (inTurn (lineAt first steps) m) ≤ panelLineRoom * m
   lines-length m =
-      in-turn-length (lineAt sheet first steps) (lineRoom sheet) m
-      (λ i. line-length sheet i (stepAt steps i) (answerTo first steps i) (few-posts-after i))
+      in-turn-length (lineAt first steps) panelLineRoom m
+      (λ i. panel-line-length i (stepAt steps i) (answerTo first steps i) (few-posts-after i))
 
   -- a buffer with room for all lines has room for one more
   pub one-more-fits :
-      (i count at room : ℕ) → i < count → at + lineRoom sheet * count ≤ room
-      → at + length (inTurn (lineAt sheet first steps) i) + lineRoom sheet ≤ room
+      (i count at room : ℕ) → i < count → at + panelLineRoom * count ≤ room → at + length (inTurn (lineAt first steps) i) + panelLineRoom ≤ room
   one-more-fits i count at room h all =
-      omega (arith, lines-length i, rw (mul-suc (lineRoom sheet) i) at (mul-le-mul-left (lineRoom sheet) h))
+      omega (arith, lines-length i, rw (mul-suc panelLineRoom i) at (mul-le-mul-left panelLineRoom h))
 
--- the code judges on the same section and the same bytes
-pub answered :
-    (first : Section) (steps : List ℕ) (i : ℕ) (s : Section) (part : List ℕ) (answer : Answer) → s ≡ sectionBefore first steps i
-    → part ≡ stepAt steps i → answer ≡ judge s part → answer ≡ answerTo first steps i
-unfolding answerTo
-answered first steps i s part answer e f g = g ∙ (rw (e, f))
-
+-- the code puts the line of the same answer
 pub line-put :
-    (sheet : Sheet) (first : Section) (steps : List ℕ) (i : ℕ) (part : List ℕ) (answer : Answer) (m k : List ℕ) (r q : ℕ)
-    → part ≡ stepAt steps i → answer ≡ answerTo first steps i → Putting m r (lineOn sheet i part answer) q k
-    → Putting m r (lineAt sheet first steps i) q k
-line-put sheet first steps i part answer m k r q e f p = rw (e, f) at p
-
--- the step's bytes, as the code takes them
-pub step-part : (steps : List ℕ) (i : ℕ) → take (i * stepLength + stepLength - i * stepLength) (drop (i * stepLength) steps) ≡ stepAt steps i
-unfolding stepAt
-step-part steps i = ap (λ (k : ℕ). take k (drop (i * 8) steps)) (add-sub-cancel-left (i * 8) 8)
+    (first : Section) (steps : List ℕ) (i : ℕ) (part : List ℕ) (answer : Answer) (m k : List ℕ) (r q : ℕ)
+    → part ≡ stepAt steps i → answer ≡ answerTo first steps i → Putting m r (panelFields i (byte part 1) (answer .section)) q k
+    → Putting m r (lineAt first steps i) q k
+unfolding panelLine
+line-put first steps i part answer m k r q e f p = rw (e, f) at p
 
 pub step-length : (steps : List ℕ) (i count : ℕ) → i < count → stepLength * count ≤ length steps → length (stepAt steps i) ≡ stepLength
 unfolding stepAt
@@ -121,10 +115,6 @@ step-length steps i count h l = length-take-le 8 (drop (i * 8) steps) (simp leng
 
 pub started : (s : Section) (c : Settings) → s ≡ freshSection c → settingsRight c ≡ true → inRange s ≡ true
 started s c e h = ap inRange e ∙ fresh-in-range c h
-
-pub step-after : (first : Section) (steps : List ℕ) (i : ℕ) → answerTo first steps i .section ≡ sectionBefore first steps (i + 1)
-unfolding answerTo sectionBefore
-step-after first steps i = rw (add-one i)
 
 -- ## A file that is read
 

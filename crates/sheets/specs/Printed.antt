@@ -1,25 +1,17 @@
 -- What is printed of a file (document 01, "The bench listing"): from the file's bytes to bytes, for any line of a step.
-use Prim.Native.Nat.{ℕ, zero, suc}
+use Prim.Native.Nat.{ℕ}
 use mathlib.Core.List.{List, _++_}
 use Rattle.section.specs.declared.Answer.{Answer}
 use Rattle.section.specs.declared.Section.{Section}
 use Rattle.section.specs.declared.Settings.{Settings}
 use Rattle.section.specs.Fresh.{freshSection}
-use Rattle.rules.specs.Judge.{judge}
 use Rattle.layout.specs.Layout.{stepAt, stepsIn}
 use Rattle.dayfile.specs.Answers.{readOf}
 use Rattle.dayfile.specs.declared.Reading.{Reading}
 use Rattle.dayfile.specs.declared.Reading.the-variants.{Day, Refused}
 use Rattle.lines.specs.Text.{inTurn}
 use Rattle.lines.specs.Lines.{refusedLine, header}
-
--- the section that step i is judged on: the first, then the one that the step before left
-unfoldable pub sectionBefore : Section → List ℕ → ℕ → Section
-sectionBefore first steps zero = first
-sectionBefore first steps (suc i) = judge (sectionBefore first steps i) (stepAt steps i) .section
-
-unfoldable pub answerTo : Section → List ℕ → ℕ → Answer
-answerTo first steps i = judge (sectionBefore first steps i) (stepAt steps i)
+use Rattle.whole_day.specs.Day.{answerTo}
 
 -- a line per step: `line` gives it from the step's index, its bytes and the answer to it
 unfoldable pub lines : (ℕ → List ℕ → Answer → List ℕ) → Section → List ℕ → ℕ → List ℕ

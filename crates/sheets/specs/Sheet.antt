@@ -4,21 +4,18 @@ use mathlib.Core.List.{List}
 use Rattle.section.specs.declared.Answer.{Answer}
 use Rattle.sheets.specs.declared.Sheet.{Sheet}
 use Rattle.sheets.specs.declared.Sheet.the-variants.{OfSteps, OfPosts}
-use Rattle.lines.specs.Lines.{stepLine}
-use Rattle.panel_lines.specs.Lamps.{panelLine}
+use Rattle.lines.specs.Lines.{stepLine, headerRoom, stepLineRoom}
+use Rattle.panel_lines.specs.Lamps.{panelLine, panelLineRoom}
 
 -- a step's line
 unfoldable pub lineOn : Sheet → ℕ → List ℕ → Answer → List ℕ
 lineOn OfSteps index bytes answer = stepLine index answer
 lineOn OfPosts index bytes answer = panelLine index bytes answer
 
--- room for the longest header, for the longest line of a step, and for a whole day
-abbrev pub headerRoom : ℕ
-headerRoom = 24
-
+-- room for the longest line of a step, and for a whole day
 unfoldable pub lineRoom : Sheet → ℕ
-lineRoom OfSteps = 21
-lineRoom OfPosts = 104
+lineRoom OfSteps = stepLineRoom
+lineRoom OfPosts = panelLineRoom
 
 unfoldable pub room : Sheet → ℕ → ℕ
 room sheet count = headerRoom + lineRoom sheet * count

@@ -1,25 +1,28 @@
 // What is printed of a file, a line a step: the listing or the panel.
 ghost use mathlib.Core.Bool.{true};
 ghost use mathlib.Core.Path.{_≡_};
-ghost use Prim.Native.Nat.{_+_, _*_, _≤_, _<_};
+ghost use Prim.Native.Nat.{_+_, _*_, _≤_};
 ghost use lib.ListN.{length};
 ghost use Rattle.section.specs.Fresh.{freshSection};
-ghost use Rattle.section.specs.Numbers.{mostPosts, stepLength};
+ghost use Rattle.section.specs.Numbers.{stepLength};
 ghost use Rattle.section.specs.Settings.{settingsRight};
 ghost use Rattle.layout.specs.Layout.{mostSteps};
 ghost use Rattle.dayfile.specs.declared.Reading.{Reading};
 ghost use Rattle.text.specs.Text.{written};
+ghost use Rattle.lines.specs.Lines.{stepLineRoom};
+ghost use Rattle.notes.specs.Note.{noteLength};
+ghost use Rattle.panel_lines.specs.Lamps.{panelLineRoom};
+ghost use Rattle.sheets.specs.declared.Sheet.{Sheet};
 ghost use Rattle.sheets.specs.Printed.{lines, printedRead, printed};
 ghost use Rattle.sheets.specs.Sheet.{lineOn, lineRoom, room};
 use dayfile::Reading;
 use lines::put_header;
 use lines::put_refused;
 use panel_lines::put_panel;
-use section::Answer;
 use section::STEP_LENGTH;
 use section::Settings;
-use step_lines::put_fields;
-use step_lines::track_letter;
+use step_lines::put_noted_lines;
+use whole_day::note_day;
 
 // What is printed of each step: what it did, or what the posts show after it.
 pub enum Sheet {
@@ -27,48 +30,31 @@ pub enum Sheet {
     OfPosts,
 }
 
-// Writes the line of a step, and returns the next place.
-fn put_line(
-    sheet: Sheet,
-    buffer: &mut [u8],
-    at: usize,
-    index: usize,
-    bytes: &[u8],
-    answer: Answer,
-) -> usize
-    requires { ⌜ at + lineRoom sheet ≤ length (now buffer) ⌝ }
-    requires { ⌜ (1 < length (now bytes)) × (answer .section .settings .posts ≤ mostPosts) ⌝ }
-    ensures { λ r. ⌜ r ≡ at + length (lineOn sheet index (now (bytes .entry)) answer) ⌝ }
-    ensures { λ _. ⌜ now (buffer .exit) ≡ written (now (buffer .entry)) at (lineOn sheet index (now (bytes .entry)) answer) ⌝ }
+// Room for the notes of the longest day.
+fn room_for_notes() -> [u8; 16384]
+    ensures { λ r. ⌜ noteLength * mostSteps ≡ length r ⌝ }
 {
-    let verdict = answer.verdict;
-    let s = answer.section;
-    match sheet {
-        Sheet::OfSteps => put_fields(
-            buffer,
-            at,
-            index,
-            verdict,
-            track_letter(s.a),
-            track_letter(s.b),
-        ),
-        Sheet::OfPosts => put_panel(buffer, at, index, bytes[1], s),
-    }
+    [0; 16384]
 }
 
-// Writes the lines of all steps, each judged on the section that the one before left, and returns the next place.
-fn put_lines(
-    sheet: Sheet,
-    buffer: &mut [u8],
-    at: usize,
-    c: Settings,
-    steps: &[u8],
-    count: usize,
-) -> usize
-    requires { ⌜ at + lineRoom sheet * count ≤ length (now buffer) ⌝ }
+// Writes the listing's lines of all steps, from the notes taken of them, and returns the next place.
+fn put_step_lines(buffer: &mut [u8], at: usize, c: Settings, steps: &[u8], count: usize) -> usize
+    requires { ⌜ (at + stepLineRoom * count ≤ length (now buffer)) × (count ≤ mostSteps) ⌝ }
     requires { ⌜ (stepLength * count ≤ length (now steps)) × (settingsRight c ≡ true) ⌝ }
-    ensures { λ r. ⌜ r ≡ at + length (lines (lineOn sheet) (freshSection c) (now (steps .entry)) count) ⌝ }
-    ensures { λ _. ⌜ now (buffer .exit) ≡ written (now (buffer .entry)) at (lines (lineOn sheet) (freshSection c) (now (steps .entry)) count) ⌝ }
+    ensures { λ r. ⌜ r ≡ at + length (lines (lineOn Sheet.OfSteps) (freshSection c) (now (steps .entry)) count) ⌝ }
+    ensures { λ _. ⌜ now (buffer .exit) ≡ written (now (buffer .entry)) at (lines (lineOn Sheet.OfSteps) (freshSection c) (now (steps .entry)) count) ⌝ }
+{
+    let mut notes = room_for_notes();
+    note_day(c, steps, count, &mut notes);
+    put_noted_lines(buffer, at, &notes, count)
+}
+
+// Writes the panel's lines of all steps, each judged on the section that the one before left, and returns the next place.
+fn put_post_lines(buffer: &mut [u8], at: usize, c: Settings, steps: &[u8], count: usize) -> usize
+    requires { ⌜ at + panelLineRoom * count ≤ length (now buffer) ⌝ }
+    requires { ⌜ (stepLength * count ≤ length (now steps)) × (settingsRight c ≡ true) ⌝ }
+    ensures { λ r. ⌜ r ≡ at + length (lines (lineOn Sheet.OfPosts) (freshSection c) (now (steps .entry)) count) ⌝ }
+    ensures { λ _. ⌜ now (buffer .exit) ≡ written (now (buffer .entry)) at (lines (lineOn Sheet.OfPosts) (freshSection c) (now (steps .entry)) count) ⌝ }
 {
     let mut state = section::fresh(c);
     let mut next = at;
@@ -77,16 +63,36 @@ fn put_lines(
         let start = i * STEP_LENGTH;
         let bytes = &steps[start..start + STEP_LENGTH];
         let answer = engine::judge(state, bytes);
-        next = put_line(sheet, buffer, next, i, bytes, answer);
         state = answer.section;
+        next = put_panel(buffer, next, i, bytes[1], state);
         i += 1;
     }
     next
 }
 
+// Writes the lines of all steps, and returns the next place.
+fn put_lines(
+    sheet: Sheet,
+    buffer: &mut [u8],
+    at: usize,
+    c: Settings,
+    steps: &[u8],
+    count: usize,
+) -> usize
+    requires { ⌜ (at + lineRoom sheet * count ≤ length (now buffer)) × (count ≤ mostSteps) ⌝ }
+    requires { ⌜ (stepLength * count ≤ length (now steps)) × (settingsRight c ≡ true) ⌝ }
+    ensures { λ r. ⌜ r ≡ at + length (lines (lineOn sheet) (freshSection c) (now (steps .entry)) count) ⌝ }
+    ensures { λ _. ⌜ now (buffer .exit) ≡ written (now (buffer .entry)) at (lines (lineOn sheet) (freshSection c) (now (steps .entry)) count) ⌝ }
+{
+    match sheet {
+        Sheet::OfSteps => put_step_lines(buffer, at, c, steps, count),
+        Sheet::OfPosts => put_post_lines(buffer, at, c, steps, count),
+    }
+}
+
 // Writes what is printed of a day, and returns its length.
 fn put_day(sheet: Sheet, buffer: &mut [u8], c: Settings, steps: &[u8], count: usize) -> usize
-    requires { ⌜ room sheet count ≤ length (now buffer) ⌝ }
+    requires { ⌜ (room sheet count ≤ length (now buffer)) × (count ≤ mostSteps) ⌝ }
     requires { ⌜ (stepLength * count ≤ length (now steps)) × (settingsRight c ≡ true) ⌝ }
     ensures { λ r. ⌜ r ≡ length (printedRead (lineOn sheet) (Reading.Day count) c (now (steps .entry))) ⌝ }
     ensures { λ _. ⌜ now (buffer .exit) ≡ written (now (buffer .entry)) 0 (printedRead (lineOn sheet) (Reading.Day count) c (now (steps .entry))) ⌝ }

@@ -1,7 +1,8 @@
 // Where a step is taken: its post, and what the two tracks do.
 ghost use mathlib.Core.Path.{_≡_};
 ghost use Rattle.section.specs.Step.{postOf};
-ghost use Rattle.sites.specs.Running.{settledVns, siteWith};
+ghost use Rattle.rules.specs.Site.{settledVns};
+ghost use Rattle.sites.specs.Running.{siteWith};
 use rules::Site;
 use section::Post;
 use section::Step;
@@ -35,7 +36,7 @@ pub fn post_of(x: Step) -> u8
 
 // A track with that running direction and walk is settled on VNS.
 pub fn settled_on_vns(running: Running) -> bool
-    ensures { λ r. ⌜ r ≡ settledVns running ⌝ }
+    ensures { λ r. ⌜ r ≡ settledVns (running .walk) (running .cvt) ⌝ }
 {
     let cvt = running.cvt;
     let walk = running.walk;

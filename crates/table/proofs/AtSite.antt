@@ -11,7 +11,7 @@ use Rattle.rules.specs.declared.Effect.{Effect}
 use Rattle.rules.specs.declared.Site.{Site}
 use Rattle.rules.specs.Table.{effect, trainsAfter, lastAfter}
 use Rattle.conditions.specs.VerdictAt.{verdictAt}
-use Rattle.table.specs.Judged.{judgedOf, cellsOf, judgedAt, trainsAt, lastAt}
+use Rattle.table.specs.Judged.{asBefore, judgedOf, cellsOf, judgedAt, trainsAt, lastAt}
 
 module _ (c : Settings) (x : Step) (e : Site) (trains last : List ℕ) {v : Verdict} (told : v ≡ verdictAt c x e trains last) where
   told-judged : {w : Verdict} → v ≡ w → judgedOf w (effect c x e) e ≡ judgedAt c x e trains last
@@ -40,7 +40,7 @@ module _ (c : Settings) (x : Step) (e : Site) (trains last : List ℕ) {v : Verd
     accepted-last noted = noted ∙ ap (λ (g : Effect). lastAfter c (g .train) e last) does ∙ told-last a
 
   module _ {k : ℕ} (r : v ≡ Refused k) where
-    pub refused : record { verdict = v; own = e .own; running = record { cvt = e .cvt; walk = e .walk } } ≡ judgedAt c x e trains last
+    pub refused : asBefore v e ≡ judgedAt c x e trains last
     unfolding judgedOf
     refused = rw r (told-judged r)
 

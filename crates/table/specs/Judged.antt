@@ -11,16 +11,19 @@ use Rattle.section.specs.declared.Verdict.the-variants.{Accepted, Refused}
 use Rattle.section.specs.Step.{postOf}
 use Rattle.rules.specs.declared.Effect.{Effect}
 use Rattle.rules.specs.declared.Site.{Site}
-use Rattle.rules.specs.Site.{siteOn}
+use Rattle.rules.specs.Site.{settledVns, siteOn}
 use Rattle.rules.specs.Table.{effect, trainsAfter, lastAfter}
 use Rattle.sites.specs.declared.Running.{Running}
-use Rattle.sites.specs.Running.{settledVns}
 use Rattle.conditions.specs.VerdictAt.{verdictAt}
 use Rattle.table.specs.declared.Judged.{Judged}
 
+-- a refused step leaves what it found
+abbrev pub asBefore : Verdict → Site → Judged
+asBefore verdict e = record { verdict = verdict; own = e .own; running = record { cvt = e .cvt; walk = e .walk } }
+
 unfoldable pub judgedOf : Verdict → Effect → Site → Judged
 judgedOf (Accepted said) f e = record { verdict = Accepted said; own = f .own; running = record { cvt = f .cvt; walk = f .walk } }
-judgedOf (Refused k) f e = record { verdict = Refused k; own = e .own; running = record { cvt = e .cvt; walk = e .walk } }
+judgedOf (Refused k) f e = asBefore (Refused k) e
 
 -- the cells of block sections after the step
 unfoldable pub cellsOf : Verdict → List ℕ → List ℕ → List ℕ
@@ -49,4 +52,4 @@ trackAt c x e t = record {
 
 -- the site of a step on its own track; of the other track the running direction and the walk count
 abbrev pub siteIn : TrackStep → Track → Running → Site
-siteIn x t other = siteOn (settledVns other) (x .track) (postOf (x .step)) t
+siteIn x t other = siteOn (settledVns (other .walk) (other .cvt)) (x .track) (postOf (x .step)) t

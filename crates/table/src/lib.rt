@@ -1,7 +1,7 @@
 // A step judged by the table at its site: the checks, then what an accepted step does.
 ghost use mathlib.Core.Path.{_≡_};
 ghost use Rattle.sites.specs.Fit.{Fit};
-ghost use Rattle.table.specs.Judged.{judgedAt, trainsAt, lastAt};
+ghost use Rattle.table.specs.Judged.{asBefore, judgedAt, trainsAt, lastAt};
 use rules::Site;
 use section::Post;
 use section::Settings;
@@ -14,6 +14,22 @@ pub struct Judged {
     pub verdict: Verdict,
     pub own: Post,
     pub running: Running,
+}
+
+// A refused step leaves what it found.
+fn as_before(verdict: Verdict, e: Site) -> Judged
+    ensures { λ r. ⌜ r ≡ asBefore verdict e ⌝ }
+{
+    let own = e.own;
+    let walk = e.walk;
+    Judged {
+        verdict: verdict,
+        own: own,
+        running: Running {
+            cvt: e.cvt,
+            walk: walk,
+        },
+    }
 }
 
 // Judges a step at its site, and moves its train where it is accepted.
@@ -47,17 +63,6 @@ pub fn judge_at(
                 },
             }
         }
-        Verdict::Refused(_) => {
-            let own = e.own;
-            let walk = e.walk;
-            Judged {
-                verdict: verdict,
-                own: own,
-                running: Running {
-                    cvt: e.cvt,
-                    walk: walk,
-                },
-            }
-        }
+        Verdict::Refused(_) => as_before(verdict, e),
     }
 }

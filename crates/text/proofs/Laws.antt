@@ -4,12 +4,17 @@ use mathlib.Core.List.{List, [], _∷_, _++_, append-assoc, append-nil}
 use Prim.Native.Nat.{ℕ, zero, suc, _+_, _-_, _/_, _%_, _≤_, _<_}
 use mathlib.Core.Bool.{Bool, true, false, cond}
 use native.Mathlib.Omega.{arith}
-use native.Mathlib.Nat.{add-assoc, add-zero, add-sub-cancel-left, mod-eq-of-lt}
+use native.Mathlib.Nat.{zero-add, add-assoc, add-zero, add-sub-cancel-left, mod-eq-of-lt}
 use lib.ListN.{length, take, drop, set, take-append-drop, length-append, length-drop}
 use lib.Seq.{length-take-le, take-length, drop-length, take-at, drop-drop, set-split, drop-append-add}
 use lib.Dec.{ltb}
 use borrow.Author.Tests.{lt-ltb, le-ltb}
 use Rattle.text.specs.Text.{digit, digits, mostDigits, decimal, written}
+
+-- a text at the front
+pub at-front : (l s : List ℕ) → written l 0 s ≡ s ++ drop (length s) l
+unfolding written
+at-front l s = ap (λ (k : ℕ). s ++ drop k l) (zero-add (length s))
 
 -- a byte is a text of one
 pub one-byte : (l : List ℕ) (at b : ℕ) → at < length l → set l at b ≡ written l at (b ∷ [])

@@ -1,59 +1,99 @@
--- The accepted steps of a day.
-use Prim.Native.Nat.{ℕ, zero, suc, _+_, _-_, _*_, _/_, _≤_}
-use mathlib.Core.Bool.{true, false}
+-- The steps of a day and their notes.
+use Prim.Native.Nat.{ℕ, zero, suc, _+_, _-_, _*_, _<_}
+use mathlib.Core.Bool.{Bool, true, false}
+use mathlib.Core.List.{List, _++_, append-assoc}
+use mathlib.Core.Path.{_≡_, refl, _∙_, ap}
 use native.Mathlib.Omega.{arith}
-use native.Mathlib.Nat.{add-assoc, add-sub-cancel-left}
-use lib.ListN.{length, take, drop}
+use native.Mathlib.Nat.{add-sub-cancel-left}
 use native.Mathlib.Numerals.{add-one}
-use mathlib.Core.List.{List}
-use mathlib.Core.Path.{_≡_, refl, sym, _∙_, ap}
-use Rattle.section.specs.declared.Settings.{Settings}
-use Rattle.section.specs.declared.Verdict.{Verdict}
-use Rattle.section.specs.declared.Verdict.the-variants.{Accepted, Refused}
-use Rattle.section.specs.declared.Section.{Section}
+use borrow.Author.Tests.{ltb-true, ltb-false}
+use lib.Dec.{ltb}
+use lib.ListN.{length, take, drop, length-append}
+use lib.Seq.{take-at, drop-at}
 use Rattle.section.specs.declared.Answer.{Answer}
-use Rattle.section.specs.Fresh.{freshSection}
+use Rattle.section.specs.declared.Section.{Section}
+use Rattle.section.specs.declared.Settings.{Settings}
+use Rattle.section.specs.Numbers.{stepLength}
 use Rattle.section.specs.Range.{inRange}
-use Rattle.section.specs.Settings.{settingsRight}
 use Rattle.rules.specs.Judge.{judgeInRange, judge}
 use Rattle.rules.proofs.RangeLaw.{ranges-kept}
-use Rattle.whole_day.specs.AcceptedCount.{countsAs, offeredAt, acceptedFrom, acceptedCount}
+use Rattle.layout.specs.Layout.{stepAt}
+use Rattle.text.specs.Text.{written}
+use Rattle.text.proofs.Laws.{at-front}
+use Rattle.lines.specs.Text.{inTurn}
+use Rattle.notes.specs.Note.{noteLength}
+use Rattle.notes.proofs.Laws.{note-length}
+use Rattle.whole_day.specs.Day.{sectionBefore, answerTo}
+use Rattle.whole_day.specs.Notes.{noteOn, notesOf}
 
-pub counts-at-most : (v : Verdict) (r : ℕ) → r ≡ countsAs v → r ≤ 1
-unfolding countsAs
-counts-at-most (Accepted w) r e = omega arith
-counts-at-most (Refused k) r e = omega arith
+-- the step's bytes, as the code takes them
+pub step-part : (steps : List ℕ) (i : ℕ) → take (i * stepLength + stepLength - i * stepLength) (drop (i * stepLength) steps) ≡ stepAt steps i
+unfolding stepAt
+step-part steps i = ap (λ (k : ℕ). take k (drop (i * 8) steps)) (add-sub-cancel-left (i * 8) 8)
 
--- the part that is lent is the step's bytes
-pub part-offered : (steps : List ℕ) (i : ℕ) → take (i * 8 + 8 - i * 8) (drop (i * 8) steps) ≡ offeredAt steps i
-part-offered steps i = ap (λ (k : ℕ). take k (drop (i * 8) steps)) (add-sub-cancel-left (i * 8) 8)
+-- ## The sections along a day
 
--- one step more is counted
-pub one-more :
-    (s : Section) (steps : List ℕ) (i k k′ total done r : ℕ) (bytes : List ℕ) (after : Answer) → k ≡ suc k′
-    → total ≡ done + acceptedFrom s steps i k → bytes ≡ offeredAt steps i → after ≡ judge s bytes → r ≡ countsAs (after .verdict)
-    → total ≡ (done + r) + acceptedFrom (after .section) steps (i + 1) k′
-unfolding acceptedFrom
-one-more s steps i k k′ total done r bytes after q t is told counts =
-    let e : after ≡ judge s (offeredAt steps i) = told ∙ ap (judge s) is in
-    let n : i + 1 ≡ suc i = add-one i in
-    let u : total ≡ done + acceptedFrom s steps i (suc k′) = t ∙ ap (λ (j : ℕ). done + acceptedFrom s steps i j) q in
-    rw (counts, e, n, add-assoc) u
+module _ (first : Section) (steps : List ℕ) where
+  pub in-range-before : inRange first ≡ true → (i : ℕ) → inRange (sectionBefore first steps i) ≡ true
+  unfolding sectionBefore
+  in-range-before r zero = r
+  in-range-before r (suc i) = ranges-kept (sectionBefore first steps i) (stepAt steps i) (in-range-before r i)
 
--- a section out of its ranges accepts nothing
-none-accepted : (s : Section) (steps : List ℕ) (i m : ℕ) → inRange s ≡ false → acceptedFrom s steps i m ≡ 0
-unfolding acceptedFrom countsAs judge
-none-accepted s steps i zero h = refl
-none-accepted s steps i (suc m) h = rw h (omega (arith, none-accepted s steps (suc i) m h))
+  pub step-after : (i : ℕ) → answerTo first steps i .section ≡ sectionBefore first steps (i + 1)
+  unfolding answerTo sectionBefore
+  step-after i = rw (add-one i)
 
-pub settings-wrong : (c : Settings) (steps : List ℕ) → settingsRight c ≡ false → 0 ≡ acceptedCount c steps
-unfolding acceptedCount inRange freshSection
-settings-wrong c steps h = sym (none-accepted (freshSection c) steps 0 (length steps / 8) (rw h refl))
+  -- the code judges on the same section and the same bytes
+  pub answered :
+      (i : ℕ) (s : Section) (part : List ℕ) (answer : Answer) → s ≡ sectionBefore first steps i → part ≡ stepAt steps i → answer ≡ judge s part
+      → answer ≡ answerTo first steps i
+  unfolding answerTo
+  answered i s part answer e f g = g ∙ (rw (e, f))
 
--- judging a section in its ranges, and what it leaves
 pub judged-in-range : (s : Section) (bytes : List ℕ) (after : Answer) → inRange s ≡ true → after ≡ judgeInRange s bytes → after ≡ judge s bytes
 unfolding judge
 judged-in-range s bytes after h e = rw h e
 
 pub range-kept : (s : Section) (bytes : List ℕ) (after : Answer) → inRange s ≡ true → after ≡ judgeInRange s bytes → inRange (after .section) ≡ true
 range-kept s bytes after h e = rw (judged-in-range s bytes after h e) (ranges-kept s bytes h)
+
+-- ## How long the notes are
+
+in-turn-whole : (f : ℕ → List ℕ) (w m : ℕ) → ((k : ℕ) → length (f k) ≡ w) → length (inTurn f m) ≡ m * w
+unfolding inTurn
+in-turn-whole f w zero h = omega arith
+in-turn-whole f w (suc m) h = simp length-append (omega (arith, in-turn-whole f w m h, h m))
+
+note-on-length : (c : Settings) (steps : List ℕ) (i : ℕ) → length (noteOn c steps i) ≡ noteLength
+unfolding noteOn
+note-on-length c steps i = note-length (answerTo _ steps i)
+
+pub notes-length : (c : Settings) (steps : List ℕ) (m : ℕ) → length (inTurn (noteOn c steps) m) ≡ m * noteLength
+notes-length c steps m = in-turn-whole (noteOn c steps) noteLength m (note-on-length c steps)
+
+-- ## The note of a step, among those of the day
+
+module _ (c : Settings) (steps : List ℕ) (i : ℕ) where
+  -- it stands at its place
+  abbrev Stands : List ℕ → Type 0
+  Stands notes = take noteLength (drop (i * noteLength) notes) ≡ noteOn c steps i
+
+  note-among : (m : ℕ) (rest : List ℕ) → i < m → Stands (inTurn (noteOn c steps) m ++ rest)
+  unfolding inTurn
+  note-among zero rest h = absurd (omega arith)
+  note-among (suc m) rest h =
+      rw (append-assoc (inTurn (noteOn c steps) m) (noteOn c steps m) rest)
+      (go (ltb i m) refl (note-among m (noteOn c steps m ++ rest)))
+    where
+      go : (b : Bool) → ltb i m ≡ b → (i < m → Stands (inTurn (noteOn c steps) m ++ (noteOn c steps m ++ rest)))
+          → Stands (inTurn (noteOn c steps) m ++ (noteOn c steps m ++ rest))
+      go true t earlier = earlier (ltb-true i m t)
+      go false t earlier =
+          let e : m ≡ i = omega (arith, ltb-false i m t) in
+          let skipped : length (inTurn (noteOn c steps) m) ≡ i * noteLength = notes-length c steps m ∙ ap (λ (k : ℕ). k * noteLength) e in
+          rw (drop-at (inTurn (noteOn c steps) m) (noteOn c steps m ++ rest) (i * noteLength) skipped, ← e)
+          (take-at (noteOn c steps m) rest noteLength (note-on-length c steps m))
+
+  pub note-written : (count : ℕ) (lent : List ℕ) → i < count → Stands (written lent 0 (notesOf c steps count))
+  unfolding notesOf
+  note-written count lent h = rw (at-front lent (inTurn (noteOn c steps) count)) (note-among count _ h)

@@ -12,7 +12,6 @@ use Rattle.section.specs.declared.Track.{Track}
 use Rattle.section.specs.declared.Section.{Section}
 use Rattle.section.specs.declared.TrackStep.{TrackStep}
 use Rattle.section.specs.declared.Decoded.the-variants.{Well}
-use Rattle.section.specs.declared.Walk.the-variants.{Settled}
 use Rattle.section.specs.Post.{blank}
 use Rattle.section.specs.Range.{inRange}
 use Rattle.section.specs.Step.{decoded, postOf}
@@ -25,11 +24,7 @@ use Rattle.sites.specs.Fit.{Fit}
 use Rattle.table.specs.declared.Judged.{Judged}
 use Rattle.table.specs.Judged.{judgedAt, trainsAt, lastAt, trackAt}
 use Rattle.table.proofs.OnTrack.{site-in, step-judged, fit, judged}
-use Rattle.whole_day.specs.Rows.{row}
-
--- what a track past the two would have
-abbrev pub settled : Running
-settled = record { cvt = false; walk = Settled }
+use Rattle.whole_day.specs.Rows.{row, settled}
 
 -- the section whose cells they are
 module _ (posts : List (List Post)) (trains last : List (List ℕ)) (running : List Running) where

@@ -1,15 +1,16 @@
--- The walk over a day: the rows are the cells of the section that the steps so far have left.
-use Prim.Native.Nat.{ℕ, _+_, _-_, _/_, _≤_, _<_}
+-- The walk over a day: the rows are the cells of the section that the steps so far have left, and their notes are written.
+use Prim.Native.Nat.{ℕ, _+_, _*_, _≤_, _<_}
 use mathlib.Core.Bool.{true}
 use mathlib.Core.List.{List}
 use mathlib.Core.Path.{_≡_, refl, sym, _∙_, ap, subst}
 use native.Mathlib.Omega.{arith}
-use native.Mathlib.Nat.{add-zero}
 use lib.ListN.{length, replicate}
+use Rattle.section.specs.declared.Answer.{Answer}
 use Rattle.section.specs.declared.Settings.{Settings}
 use Rattle.section.specs.declared.Post.{Post}
 use Rattle.section.specs.declared.Section.{Section}
 use Rattle.section.specs.declared.Verdict.{Verdict}
+use Rattle.section.specs.declared.Verdict.the-variants.{Refused}
 use Rattle.section.specs.declared.Decoded.the-variants.{Malformed}
 use Rattle.section.specs.Fresh.{freshTrack, freshSection}
 use Rattle.section.specs.Numbers.{mostBlocks}
@@ -18,26 +19,35 @@ use Rattle.section.specs.Settings.{settingsRight}
 use Rattle.section.specs.Step.{decoded}
 use Rattle.section.proofs.Laws.{fresh-in-range}
 use Rattle.rules.specs.Judge.{judgeInRange}
+use Rattle.layout.specs.Layout.{stepAt}
+use Rattle.text.specs.Text.{written}
+use Rattle.lines.specs.Text.{trackLetter, inTurn}
+use Rattle.lines.proofs.Puts.{Putting, none-put, one-more-put}
+use Rattle.notes.specs.Note.{noteLength, noteWith, note}
 use Rattle.sites.specs.declared.Running.{Running}
 use Rattle.table.proofs.OnTrack.{malformed}
-use Rattle.whole_day.specs.AcceptedCount.{countsAs, offeredAt, acceptedFrom, acceptedCount}
-use Rattle.whole_day.specs.Rows.{freshPosts}
-use Rattle.whole_day.proofs.Laws.{counts-at-most, one-more, judged-in-range, range-kept}
-use Rattle.whole_day.proofs.Rows.{settled, sectionIn, Two}
+use Rattle.whole_day.specs.Day.{sectionBefore, answerTo}
+use Rattle.whole_day.specs.Notes.{noteOn, notesOf}
+use Rattle.whole_day.specs.Rows.{freshPosts, settled, letterAt}
+use Rattle.whole_day.proofs.Laws.{step-after, answered, judged-in-range, range-kept, notes-length}
+use Rattle.whole_day.proofs.Rows.{sectionIn, Two}
 
--- after the first i steps: so many are accepted, and the rest of the day goes on from the rows
+-- after the first i steps
 pub record Walked
     (c : Settings)
     (steps : List ℕ)
     (count : ℕ)
+    (lent : List ℕ)
     (posts : List (List Post))
     (trains last : List (List ℕ))
     (running : List Running)
-    (accepted i : ℕ) : Type 0 where
-  pub all : count ≡ length steps / 8
+    (notes : List ℕ)
+    (i : ℕ) : Type 0 where
   pub within : i ≤ count
-  pub few : accepted ≤ i
-  pub rest : acceptedCount c steps ≡ accepted + acceptedFrom (sectionIn posts trains last running c) steps i (count - i)
+  pub room : noteLength * count ≤ length lent
+  pub same-length : length notes ≡ length lent
+  pub noted : notes ≡ written lent 0 (inTurn (noteOn c steps) i)
+  pub before : sectionIn posts trains last running c ≡ sectionBefore (freshSection c) steps i
   pub range : inRange (sectionIn posts trains last running c) ≡ true
   pub two : Two posts trains last running c
 
@@ -49,18 +59,17 @@ module _ (c : Settings) (steps : List ℕ) where
   fresh-rows posts e = rw e refl
 
   pub begins :
-      (posts : List (List Post)) → settingsRight c ≡ true → posts ≡ freshPosts c
-      → Walked c steps (length steps / 8) posts (replicate 2 (replicate mostBlocks 0)) (replicate 2 (replicate mostBlocks 0)) (replicate 2 settled) 0 0
-  unfolding acceptedCount
-  begins posts right e =
+      (posts : List (List Post)) (count : ℕ) (lent : List ℕ) → settingsRight c ≡ true → posts ≡ freshPosts c → noteLength * count ≤ length lent
+      → Walked c steps count lent posts (replicate 2 (replicate mostBlocks 0)) (replicate 2 (replicate mostBlocks 0)) (replicate 2 settled) lent 0
+  unfolding sectionBefore
+  begins posts count lent right e room =
       let fresh = fresh-rows posts e in
-      let z : length steps / 8 - 0 ≡ length steps / 8 = omega arith in
-      let none : acceptedFrom (freshSection c) steps 0 (length steps / 8) ≡ 0 + acceptedFrom (freshSection c) steps 0 (length steps / 8) = omega arith in
       record {
-        all = refl;
         within = omega arith;
-        few = omega arith;
-        rest = rw (fresh, z) none;
+        room = room;
+        same-length = refl;
+        noted = none-put (noteOn c steps) lent 0 .1;
+        before = fresh;
         range = rw fresh (fresh-in-range c right);
         two = record { two-posts = rw e refl; two-trains = refl; two-last = refl; two-running = refl };
       }
@@ -69,42 +78,56 @@ module _
     {c : Settings}
     {steps : List ℕ}
     {count : ℕ}
+    {lent : List ℕ}
     {posts : List (List Post)}
     {trains last : List (List ℕ)}
     {running : List Running}
-    {accepted i : ℕ}
-    (w : Walked c steps count posts trains last running accepted i) where
+    {notes : List ℕ}
+    {i : ℕ}
+    (w : Walked c steps count lent posts trains last running notes i) where
+  pub note-fits : i < count → i * noteLength + noteLength ≤ length notes
+  note-fits more = omega (arith, w .room, w .same-length)
+
   -- one step more
   pub goes-on :
-      (posts′ : List (List Post)) (trains′ last′ : List (List ℕ)) (running′ : List Running) (v : Verdict) (r : ℕ) → i < count
+      (posts′ : List (List Post)) (trains′ last′ : List (List ℕ)) (running′ : List Running) (v : Verdict) (notes′ : List ℕ) → i < count
       → record { verdict = v; section = sectionIn posts′ trains′ last′ running′ c }
-      ≡ judgeInRange (sectionIn posts trains last running c) (offeredAt steps i)
-      → r ≡ countsAs v → Two posts′ trains′ last′ running′ c → Walked c steps count posts′ trains′ last′ running′ (accepted + r) (i + 1)
-  goes-on posts′ trains′ last′ running′ v r more told counts two =
+      ≡ judgeInRange (sectionIn posts trains last running c) (stepAt steps i)
+      → notes′ ≡ written notes (i * noteLength) (noteWith v (letterAt running′ 0) (letterAt running′ 1)) → length notes′ ≡ length notes
+      → Two posts′ trains′ last′ running′ c → Walked c steps count lent posts′ trains′ last′ running′ notes′ (i + 1)
+  unfolding noteOn note trackLetter
+  goes-on posts′ trains′ last′ running′ v notes′ more told put kept two =
       let s = sectionIn posts trains last running c in
+      let after : Answer = record { verdict = v; section = sectionIn posts′ trains′ last′ running′ c } in
+      let answer : after ≡ answerTo (freshSection c) steps i =
+      answered (freshSection c) steps i s (stepAt steps i) after (w .before) refl (judged-in-range s (stepAt steps i) after (w .range) told) in
+      let leaves : after .section ≡ sectionBefore (freshSection c) steps (i + 1) =
+      ap (λ (a : Answer). a .section) answer ∙ step-after (freshSection c) steps i in
+      let so-far : i * noteLength ≡ 0 + length (inTurn (noteOn c steps) i) = omega (arith, notes-length c steps i) in
+      let one : Putting notes (i * noteLength) (noteOn c steps i) _ notes′ =
+      (refl, put ∙ ap (λ (a : Answer). written notes (i * noteLength) (note a)) answer) in
       record {
-        all = w .all;
         within = omega arith;
-        few = omega (arith, w .few, counts-at-most v r counts);
-        rest =
-            one-more s steps i (count - i) (count - (i + 1)) _ accepted r (offeredAt steps i) _ (omega arith) (w .rest) refl
-            (judged-in-range s (offeredAt steps i) _ (w .range) told) counts;
-        range = range-kept s (offeredAt steps i) _ (w .range) told;
+        room = w .room;
+        same-length = kept ∙ w .same-length;
+        noted =
+            one-more-put (noteOn c steps) lent notes notes′ 0 i (i * noteLength) _ (omega (arith, notes-length c steps i, w .room)) (so-far, w .noted) one
+            .1;
+        before = leaves;
+        range = range-kept s (stepAt steps i) after (w .range) told;
         two = two;
       }
 
-  pub passes-over : i < count → decoded (c .posts) (offeredAt steps i) ≡ Malformed → Walked c steps count posts trains last running accepted (i + 1)
-  unfolding countsAs
-  passes-over more bad =
+  pub passes-over :
+      i < count → decoded (c .posts) (stepAt steps i) ≡ Malformed → {notes′ : List ℕ}
+      → notes′ ≡ written notes (i * noteLength) (noteWith (Refused 4) (letterAt running 0) (letterAt running 1)) → length notes′ ≡ length notes
+      → Walked c steps count lent posts trains last running notes′ (i + 1)
+  passes-over more bad put kept =
       let s = sectionIn posts trains last running c in
-      let z : accepted + 0 ≡ accepted = add-zero accepted in
-      subst
-      (λ (a : ℕ). Walked c steps count posts trains last running a (i + 1))
-      z
-      (goes-on posts trains last running _ 0 more (malformed s (offeredAt steps i) bad) refl (w .two))
+      goes-on posts trains last running (Refused 4) _ more (malformed s (stepAt steps i) bad) put kept (w .two)
 
-  pub ends : count ≤ i → accepted ≡ acceptedCount c steps
-  unfolding acceptedFrom
+  pub ends : count ≤ i → notes ≡ written lent 0 (notesOf c steps count)
+  unfolding notesOf
   ends done =
-      let z : count - i ≡ 0 = omega arith in
-      sym (w .rest ∙ (ap (λ (k : ℕ). accepted + acceptedFrom (sectionIn posts trains last running c) steps i k) z ∙ add-zero accepted))
+      let e : i ≡ count = omega (arith, w .within) in
+      rw e at (w .noted)

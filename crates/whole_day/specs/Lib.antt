@@ -1,2 +1,3 @@
-pub mod AcceptedCount
+pub mod Day
+pub mod Notes
 pub mod Rows

@@ -2,10 +2,17 @@
 // in their places.
 ghost use mathlib.Core.Bool.{true};
 ghost use mathlib.Core.Path.{_≡_};
-ghost use Prim.Native.Nat.{_<_};
+ghost use Prim.Native.Nat.{_+_, _*_, _<_, _≤_};
+ghost use lib.ListN.{length};
+ghost use Rattle.section.specs.Numbers.{stepLength};
 ghost use Rattle.section.specs.Settings.{settingsRight};
-ghost use Rattle.whole_day.specs.AcceptedCount.{countsAs, acceptedCount};
-ghost use Rattle.whole_day.specs.Rows.{row, freshPosts};
+ghost use Rattle.text.specs.Text.{written};
+ghost use Rattle.notes.specs.Note.{noteLength, noteWith};
+ghost use Rattle.whole_day.specs.Notes.{notesOf};
+ghost use Rattle.whole_day.specs.Rows.{row, freshPosts, letterAt};
+use notes::NOTE_LENGTH;
+use notes::letter;
+use notes::put_note;
 use section::Decoded;
 use section::Post;
 use section::STEP_LENGTH;
@@ -13,15 +20,6 @@ use section::Settings;
 use section::Verdict;
 use section::Walk;
 use sites::Running;
-
-fn counts_as(verdict: Verdict) -> usize
-    ensures { λ r. ⌜ r ≡ countsAs verdict ⌝ }
-{
-    match verdict {
-        Verdict::Accepted(_) => 1,
-        Verdict::Refused(_) => 0,
-    }
-}
 
 // The place of a track among the two.
 fn row_of(track: bool) -> usize
@@ -42,10 +40,29 @@ fn fresh_posts(c: Settings) -> [[Post; 16]; 2]
     [posts_a, posts_b]
 }
 
-// The accepted steps of a day, which begins with those records, free block sections and both tracks settled on VNS.
-fn accepted_from(c: Settings, steps: &[u8], fresh: [[Post; 16]; 2]) -> usize
+// Writes the note of a step after which the two tracks run so.
+fn note_step(notes: &mut [u8], at: usize, verdict: Verdict, running: [Running; 2])
+    requires { ⌜ at + noteLength ≤ length (now notes) ⌝ }
+    ensures { λ _. ⌜ now (notes .exit) ≡ written (now (notes .entry)) at (noteWith verdict (letterAt running 0) (letterAt running 1)) ⌝ }
+{
+    let a = running[0];
+    let b = running[1];
+    let walk_a = a.walk;
+    let walk_b = b.walk;
+    put_note(
+        notes,
+        at,
+        verdict,
+        letter(walk_a, a.cvt),
+        letter(walk_b, b.cvt),
+    );
+}
+
+// Notes the steps of a day, which begins with those records, free block sections and both tracks settled on VNS.
+fn note_from(c: Settings, fresh: [[Post; 16]; 2], steps: &[u8], count: usize, notes: &mut [u8])
     requires { ⌜ (settingsRight c ≡ true) × (fresh ≡ freshPosts c) ⌝ }
-    ensures { λ r. ⌜ r ≡ acceptedCount c (now (steps .entry)) ⌝ }
+    requires { ⌜ (stepLength * count ≤ length (now steps)) × (noteLength * count ≤ length (now notes)) ⌝ }
+    ensures { λ _. ⌜ now (notes .exit) ≡ written (now (notes .entry)) 0 (notesOf c (now (steps .entry)) count) ⌝ }
 {
     let mut posts = fresh;
     let mut trains: [[u16; 15]; 2] = [[0; 15]; 2];
@@ -54,14 +71,14 @@ fn accepted_from(c: Settings, steps: &[u8], fresh: [[Post; 16]; 2]) -> usize
         cvt: false,
         walk: Walk::Settled,
     }; 2];
-    let count = steps.len() / STEP_LENGTH;
-    let mut accepted: usize = 0;
     let mut i: usize = 0;
     while i < count {
         let start = i * STEP_LENGTH;
+        let at = i * NOTE_LENGTH;
         i += 1;
         let d = steps::decode(c.posts, &steps[start..start + STEP_LENGTH]);
         let Decoded::Well(x) = d else {
+            note_step(notes, at, Verdict::Refused(4), running);
             continue;
         };
         let track = x.track;
@@ -79,18 +96,16 @@ fn accepted_from(c: Settings, steps: &[u8], fresh: [[Post; 16]; 2]) -> usize
         let running_after = judged.running;
         posts[k][p] = own_after;
         running[k] = running_after;
-        accepted += counts_as(verdict);
+        note_step(notes, at, verdict, running);
     }
-    accepted
 }
 
-// How many of the whole steps are accepted when they are offered one after another from fresh. Judging keeps the ranges, so only the
-// settings are tested.
-pub fn accepted_count(c: Settings, steps: &[u8]) -> usize
-    ensures { λ r. ⌜ r ≡ acceptedCount c (now (steps .entry)) ⌝ }
+// Judges the steps of a day, offered one after another from fresh, and writes the note of each. Judging keeps the ranges, so they are not
+// tested again.
+pub fn note_day(c: Settings, steps: &[u8], count: usize, notes: &mut [u8])
+    requires { ⌜ settingsRight c ≡ true ⌝ }
+    requires { ⌜ (stepLength * count ≤ length (now steps)) × (noteLength * count ≤ length (now notes)) ⌝ }
+    ensures { λ _. ⌜ now (notes .exit) ≡ written (now (notes .entry)) 0 (notesOf c (now (steps .entry)) count) ⌝ }
 {
-    if !settings_range::settings_right(c) {
-        return 0;
-    }
-    accepted_from(c, steps, fresh_posts(c))
+    note_from(c, fresh_posts(c), steps, count, notes);
 }

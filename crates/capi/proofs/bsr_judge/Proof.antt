@@ -36,14 +36,17 @@ put-image-requires c κs =
 said-number-requires : tie.Need-said-number-requires
 said-number-requires c κs = search needs
 
+cast-result : tie.Need-cast-result
+cast-result c = search needs
+
 mul-result : tie.Need-mul-result
 mul-result c = omega (arith, said-small _ (c .said-number .ensures))
 
 enum-known-verdict-2 : tie.Need-enum-known-verdict-2
 enum-known-verdict-2 c = search needs
 
-cast-result : tie.Need-cast-result
-cast-result c = search needs
+cast-result-2 : tie.Need-cast-result-2
+cast-result-2 c = search needs
 
 same-length-2 : tie.Need-same-length-2
 same-length-2 c = search needs
@@ -84,9 +87,10 @@ bsr-judge-spec =
     enum-known-verdict
     put-image-requires
     said-number-requires
+    cast-result
     mul-result
     enum-known-verdict-2
-    cast-result
+    cast-result-2
     same-length-2
     returns-2
     same-length-3

@@ -4,7 +4,7 @@ use denote.Ref.{now}
 use mathlib.Core.Path.{refl, _∙_}
 use borrow.Author.Tests.{le-leb, lt-leb}
 use Rattle.listing.specs.Text.{listed, handedOver}
-use Rattle.listing.proofs.Handed.{at-front}
+use Rattle.text.proofs.Laws.{at-front}
 use Rattle.listing.proofs.hand_over.Statement.{statement}
 use Rattle.listing.proofs.hand_over.Tie as tie
 

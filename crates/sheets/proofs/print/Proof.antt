@@ -35,7 +35,7 @@ put-day-requires c κs =
     let read = at-read .read in
     let e = ap (λ (x : ReadAnswer). x .reading) (sym (read .ensures)) ∙ at-reading2 .reading2 .given .1 in
     let file = now (a .file) in (
-      omega (arith, fewer-fit (a .sheet) _ (few-steps-read file _ e)),
+      (omega (arith, fewer-fit (a .sheet) _ (few-steps-read file _ e)), few-steps-read file _ e),
       (rw (c .steps .ensures) (steps-whole file _ e), rw (read .ensures) (settings-read-right file _ e)),
     )
 

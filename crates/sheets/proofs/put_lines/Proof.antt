@@ -1,143 +1,54 @@
--- After i turns the state is the section before step i, and the lines of the steps 0 .. i − 1 stand in the buffer. Every section on the way is in
--- its ranges, so it has at most sixteen posts, and a line has room.
-use Prim.Native.Nat.{_-_, _≤_}
-use mathlib.Core.Path.{_≡_, refl, _∙_, ap}
-use native.Mathlib.Omega.{arith}
+-- By cases of the sheet.
 use borrow.Author.Needs.{needs}
-use denote.Ref.{now}
-use lib.ListN.{length}
-use Rattle.section.specs.declared.Answer.{Answer}
-use Rattle.lines.specs.Text.{inTurn}
-use Rattle.sheets.specs.Printed.{lines, sectionBefore}
-use Rattle.lines.proofs.Puts.{Putting, none-put, one-more-put}
-use Rattle.sheets.proofs.Days.{lineAt, few-posts-after, one-more-fits, answered, line-put, step-part, step-length, step-after, started}
+use Rattle.sheets.specs.Sheet.{lineRoom}
 use Rattle.sheets.proofs.put_lines.Statement.{statement}
 use Rattle.sheets.proofs.put_lines.Tie as tie
 
-abbrev Inv-loop : tie.InvT-loop
-Inv-loop sheet buffer₀ at steps count state₀ next₀ i₀ buffer state next i =
-    (i ≤ count)
-    × ((length buffer ≡ length buffer₀)
-    × ((state ≡ sectionBefore state₀ steps i) × Putting buffer₀ at (inTurn (lineAt sheet state₀ steps) i) next buffer))
+enum-told : tie.Need-enum-told
+enum-told c = search needs
 
-abbrev μ-loop : tie.MeasureT-loop
-μ-loop sheet buffer₀ at steps count state₀ next₀ i₀ buffer state next i = count - i
+put-step-lines-requires : tie.Need-put-step-lines-requires
+unfolding lineRoom
+put-step-lines-requires c κs =
+    let told = c .before in
+    let entry = told .before .before .before .before in
+    (rw (told .enum-told .given .1) at (entry .pre .0), entry .pre .1)
 
-fresh-requires : tie.Need-fresh-requires Inv-loop μ-loop
-fresh-requires c κs = search needs
+enum-told-2 : tie.Need-enum-told-2
+enum-told-2 c = search needs
 
-loop-holds : tie.Need-loop-holds Inv-loop μ-loop
-unfolding sectionBefore
-loop-holds c =
-    let a = c .before .before .before .args in
-    (omega arith, (refl, (refl, none-put (lineAt (a .sheet) (c .fresh .result) (now (a .steps))) (now (a .buffer)) (a .at))))
+put-post-lines-requires : tie.Need-put-post-lines-requires
+unfolding lineRoom
+put-post-lines-requires c κs =
+    let told = c .before in
+    let entry = told .before .before .before .before in
+    (rw (told .enum-told2 .given .1) at (entry .pre .0 .0), entry .pre .1)
 
-mul-start : tie.Need-mul-start Inv-loop μ-loop
-mul-start c = omega arith
-
-add-bytes : tie.Need-add-bytes Inv-loop μ-loop
-add-bytes c = omega arith
-
-sub-bytes : tie.Need-sub-bytes Inv-loop μ-loop
-sub-bytes c = omega arith
-
-part-bytes-start : tie.Need-part-bytes-start Inv-loop μ-loop
-part-bytes-start c = omega arith
-
-part-bytes-end : tie.Need-part-bytes-end Inv-loop μ-loop
-part-bytes-end c = omega arith
-
-judge-requires : tie.Need-judge-requires Inv-loop μ-loop
-judge-requires c κs = search needs
-
-put-line-requires : tie.Need-put-line-requires Inv-loop μ-loop
-put-line-requires c κs =
-    let at-judge = c .before in
-    let at-loop-test = at-judge .before .before in
-    let at-loop = at-loop-test .before in
-    let at-fresh = at-loop .before in
-    let entry = at-fresh .before .before .before in
-    let a = entry .args in
-    let f = at-fresh .fresh in
-    let h = at-loop .loop in
-    let r = started (f .result) (a .c) (f .ensures) (entry .pre .1 .1) in
-    let e =
-    answered (f .result) (now (a .steps)) (h .i) _ _ (at-judge .judge .result) (h .inv .1 .1 .0)
-    (step-part (now (a .steps)) (h .i)) (at-judge .judge .ensures) in
-    let t = at-loop-test .loop-test .taken in
-    let fits = one-more-fits (a .sheet) (f .result) (now (a .steps)) r (h .i) (a .count) (a .at) _ t (entry .pre .0) in (
-      omega (arith, fits),
-      (
-        rw (step-part (now (a .steps)) (h .i), step-length (now (a .steps)) (h .i) (a .count) t (entry .pre .1 .0)) (omega arith),
-        rw e (few-posts-after (a .sheet) (f .result) (now (a .steps)) r (h .i)),
-      ),
-    )
-
-add-i : tie.Need-add-i Inv-loop μ-loop
-add-i c = omega arith
-
-loop-less : tie.Need-loop-less Inv-loop μ-loop
-loop-less c = omega arith
-
-loop-again : tie.Need-loop-again Inv-loop μ-loop
-loop-again c =
-    let at-put-line = c .before .before .before in
-    let at-judge = at-put-line .before .before in
-    let at-loop-test = at-judge .before .before in
-    let at-loop = at-loop-test .before in
-    let at-fresh = at-loop .before in
-    let entry = at-fresh .before .before .before in
-    let a = entry .args in
-    let f = at-fresh .fresh in
-    let h = at-loop .loop in
-    let j = at-judge .judge in
-    let r = started (f .result) (a .c) (f .ensures) (entry .pre .1 .1) in
-    let part = step-part (now (a .steps)) (h .i) in
-    let e = answered (f .result) (now (a .steps)) (h .i) _ _ (j .result) (h .inv .1 .1 .0) part (j .ensures) in
-    let t = at-loop-test .loop-test .taken in
-    let fits = one-more-fits (a .sheet) (f .result) (now (a .steps)) r (h .i) (a .count) (a .at) _ t (entry .pre .0) in (
-      omega (arith, t),
-      (
-        omega (arith, h .inv .1 .0, at-put-line .put-line .kept),
-        (
-          ap (λ (x : Answer). x .section) e ∙ step-after (f .result) (now (a .steps)) (h .i),
-          one-more-put (lineAt (a .sheet) (f .result) (now (a .steps))) (now (a .buffer)) _ _ (a .at) (h .i) _ _
-              (omega (arith, fits))
-              (h .inv .1 .1 .1)
-              (line-put (a .sheet) (f .result) (now (a .steps)) (h .i) _ (j .result) _ _ _ _ part e (at-put-line .put-line .ensures)),
-        ),
-      ),
-    )
-
-same-length : tie.Need-same-length Inv-loop μ-loop
+same-length : tie.Need-same-length
 same-length c = search needs
 
-returns : tie.Need-returns Inv-loop μ-loop
-unfolding lines
+returns : tie.Need-returns
 returns c =
-    let at-loop = c .before in
-    let at-fresh = at-loop .before in
-    let entry = at-fresh .before .before .before in
-    let e : at-loop .loop .i ≡ entry .args .count = omega arith in
-    rw (← at-fresh .fresh .ensures, ← e) (at-loop .loop .inv .1 .1 .1)
+    let put = c .before .before in
+    rw (put .before .before .enum-told .given .1) (put .put-step-lines .ensures)
+
+same-length-2 : tie.Need-same-length-2
+same-length-2 c = search needs
+
+returns-2 : tie.Need-returns-2
+returns-2 c =
+    let put = c .before .before in
+    rw (put .before .before .enum-told2 .given .1) (put .put-post-lines .ensures)
 
 pub put-lines-spec : {M : Type 1} → statement M
 put-lines-spec =
     tie.close
     (tie.spec
-    Inv-loop
-    μ-loop
-    fresh-requires
-    loop-holds
-    mul-start
-    add-bytes
-    sub-bytes
-    part-bytes-start
-    part-bytes-end
-    judge-requires
-    put-line-requires
-    add-i
-    loop-less
-    loop-again
+    enum-told
+    put-step-lines-requires
+    enum-told-2
+    put-post-lines-requires
     same-length
-    returns)
+    returns
+    same-length-2
+    returns-2)

@@ -19,7 +19,7 @@ slice-aggregate-put-text c = search needs
 put-text-requires : tie.Need-put-text-requires
 put-text-requires c κs =
     let entry = c .before .before .before .before .before .before .before .before .before .before .before in
-    let a = entry .args in omega (arith, number-length (a .index) 32, verdict-length (a .verdict))
+    let a = entry .args in omega (arith, number-length (a .index) 32, verdict-length (a .refusal) (a .said))
 
 same-length : tie.Need-same-length
 same-length c = search needs
@@ -33,7 +33,7 @@ returns c =
     let entry = at-put-number .before .before .before in
     let a = entry .args in
     number-then (now (a .buffer)) _ _ (a .at) _ _ (a .index) 32 _ (omega arith) (at-put-number .put-number .ensures)
-    (then _ _ _ _ _ _ (verdictFields (a .verdict)) _ (omega (arith, number-length (a .index) 32, verdict-length (a .verdict)))
+    (then _ _ _ _ _ _ (verdictFields (a .refusal) (a .said)) _ (omega (arith, number-length (a .index) 32, verdict-length (a .refusal) (a .said)))
     (at-put-verdict .put-verdict .ensures) (at-put-text .put-text .ensures))
 
 pub put-fields-spec : {M : Type 1} → statement M

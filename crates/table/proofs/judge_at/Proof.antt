@@ -42,6 +42,9 @@ note-last-requires c κs = let b = c .before .before .before in (start (b .befor
 enum-told-2 : tie.Need-enum-told-2
 enum-told-2 c = search needs
 
+as-before-requires : tie.Need-as-before-requires
+as-before-requires c κs = search needs
+
 returns : tie.Need-returns
 returns c =
     let noted = c .before in
@@ -59,9 +62,9 @@ returns-2 : tie.Need-returns-2
 returns-2 c =
     let v = c .before .before .before .verdict .ensures in
     let r = c .before .enum-told2 .given .1 in
-    (refused _ _ _ _ _ v r, (refused-trains _ _ _ _ _ v r, refused-last _ _ _ _ _ v r))
+    (c .as-before .ensures ∙ refused _ _ _ _ _ v r, (refused-trains _ _ _ _ _ v r, refused-last _ _ _ _ _ v r))
 
 pub judge-at-spec : {M : Type 1} → statement M
 judge-at-spec =
     tie.close
-    (tie.spec verdict-requires enum-told effect-of-requires move-train-requires note-last-requires enum-told-2 returns returns-2)
+    (tie.spec verdict-requires enum-told effect-of-requires move-train-requires note-last-requires enum-told-2 as-before-requires returns returns-2)

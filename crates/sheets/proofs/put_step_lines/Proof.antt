@@ -1,0 +1,51 @@
+-- The notes of all steps fit their room, and the lines from the notes are those of the answers.
+use borrow.Author.Needs.{needs}
+use native.Mathlib.Omega.{arith}
+use denote.Ref.{now}
+use Rattle.sheets.proofs.Days.{lines-noted}
+use Rattle.sheets.proofs.put_step_lines.Statement.{statement}
+use Rattle.sheets.proofs.put_step_lines.Tie as tie
+
+room-for-notes-requires : tie.Need-room-for-notes-requires
+room-for-notes-requires c κs = search needs
+
+slice-aggregate-note-day : tie.Need-slice-aggregate-note-day
+slice-aggregate-note-day c = search needs
+
+note-day-requires : tie.Need-note-day-requires
+note-day-requires c κs =
+    let room = c .before in
+    let entry = room .before .before .before in
+    (entry .pre .1 .1, (entry .pre .1 .0, omega (arith, room .room-for-notes .ensures, entry .pre .0 .1)))
+
+slice-aggregate-put-noted-lines : tie.Need-slice-aggregate-put-noted-lines
+slice-aggregate-put-noted-lines c = search needs
+
+put-noted-lines-requires : tie.Need-put-noted-lines-requires
+put-noted-lines-requires c κs =
+    let noted = c .before .before .before in
+    let room = noted .before .before in
+    let entry = room .before .before .before in
+    (entry .pre .0 .0, omega (arith, room .room-for-notes .ensures, entry .pre .0 .1, noted .note-day .kept))
+
+same-length : tie.Need-same-length
+same-length c = search needs
+
+returns : tie.Need-returns
+returns c =
+    let put = c .before .before in
+    let noted = put .before .before .before .before in
+    let a = noted .before .before .before .before .before .args in
+    rw (noted .note-day .ensures, lines-noted (a .c) (now (a .steps)) _ (a .count)) at (put .put-noted-lines .ensures)
+
+pub put-step-lines-spec : {M : Type 1} → statement M
+put-step-lines-spec =
+    tie.close
+    (tie.spec
+    room-for-notes-requires
+    slice-aggregate-note-day
+    note-day-requires
+    slice-aggregate-put-noted-lines
+    put-noted-lines-requires
+    same-length
+    returns)
