@@ -1,10 +1,16 @@
 -- A note has four bytes, and its second gives back what is said.
-use mathlib.Core.Path.{_≡_, refl}
-use lib.ListN.{length}
+use Prim.Native.Nat.{ℕ, suc, _+_, _≤_}
+use mathlib.Core.List.{List, [], _∷_, append-assoc}
+use mathlib.Core.Path.{_≡_, refl, _∙_}
+use native.Mathlib.Omega.{arith}
+use native.Mathlib.Numerals.{add-one}
+use lib.ListN.{length, set, take, drop}
+use lib.Seq.{sets-eq}
 use Rattle.section.specs.declared.Answer.{Answer}
 use Rattle.section.specs.declared.Said.{Said}
 use Rattle.section.specs.declared.Said.the-variants.{Nothing, Cvt, Cvtz, Vns, Vnsz}
 use Rattle.section.specs.Words.{saidNumber}
+use Rattle.text.specs.Text.{written}
 use Rattle.notes.specs.Note.{noteLength, noteWith, note, saidNumbered}
 
 pub note-length : (answer : Answer) → length (note answer) ≡ noteLength
@@ -18,3 +24,14 @@ said-back Cvt = refl
 said-back Cvtz = refl
 said-back Vns = refl
 said-back Vnsz = refl
+
+-- four bytes stored one after another
+pub four-stored :
+    (l : List ℕ) (at x y z w : ℕ) → at + noteLength ≤ length l
+    → set (set (set (set l at x) (at + 1) y) (at + 2) z) (at + 3) w ≡ written l at (x ∷ (y ∷ (z ∷ (w ∷ []))))
+unfolding written
+four-stored l at x y z w room =
+    let two : at + 2 ≡ suc (suc at) = omega arith in
+    let three : at + 3 ≡ suc (suc (suc at)) = omega arith in
+    rw (add-one at, two, three)
+    (sets-eq (x ∷ (y ∷ (z ∷ (w ∷ [])))) l at room ∙ append-assoc (take at l) (x ∷ (y ∷ (z ∷ (w ∷ [])))) (drop (at + noteLength) l))

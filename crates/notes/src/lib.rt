@@ -70,7 +70,8 @@ pub fn put_note(notes: &mut [u8], at: usize, verdict: Verdict, a: u8, b: u8)
     requires { ⌜ at + noteLength ≤ length (now notes) ⌝ }
     ensures { λ _. ⌜ now (notes .exit) ≡ written (now (notes .entry)) at (noteWith verdict a b) ⌝ }
 {
-    let refusal = refusal_of(verdict);
-    let said = said_number(said_by(verdict));
-    text::put_text(notes, at, &[refusal, said, a, b]);
+    notes[at] = refusal_of(verdict);
+    notes[at + 1] = said_number(said_by(verdict));
+    notes[at + 2] = a;
+    notes[at + 3] = b;
 }

@@ -1,11 +1,17 @@
-use borrow.Author.Needs.{needs}
 use native.Mathlib.Omega.{arith}
+use borrow.Author.Needs.{needs}
+use denote.Ref.{now}
+use lib.ListN.{length-set}
 use Rattle.notes.specs.Note.{noteWith}
+use Rattle.notes.proofs.Laws.{four-stored}
 use Rattle.notes.proofs.put_note.Statement.{statement}
 use Rattle.notes.proofs.put_note.Tie as tie
 
 refusal-of-requires : tie.Need-refusal-of-requires
 refusal-of-requires c κs = search needs
+
+slice-write-notes : tie.Need-slice-write-notes
+slice-write-notes c = search needs
 
 said-by-requires : tie.Need-said-by-requires
 said-by-requires c κs = search needs
@@ -13,11 +19,29 @@ said-by-requires c κs = search needs
 said-number-requires : tie.Need-said-number-requires
 said-number-requires c κs = search needs
 
-slice-aggregate-put-text : tie.Need-slice-aggregate-put-text
-slice-aggregate-put-text c = search needs
+add-notes : tie.Need-add-notes
+add-notes c = search needs
 
-put-text-requires : tie.Need-put-text-requires
-put-text-requires c κs = omega arith
+slice-write-notes-2 : tie.Need-slice-write-notes-2
+slice-write-notes-2 c =
+    let entry = c .before .before .before .before in
+    simp length-set (omega (arith, entry .pre))
+
+add-notes-2 : tie.Need-add-notes-2
+add-notes-2 c = search needs
+
+slice-write-notes-3 : tie.Need-slice-write-notes-3
+slice-write-notes-3 c =
+    let entry = c .before .before .before .before in
+    simp length-set (omega (arith, entry .pre))
+
+add-notes-3 : tie.Need-add-notes-3
+add-notes-3 c = search needs
+
+slice-write-notes-4 : tie.Need-slice-write-notes-4
+slice-write-notes-4 c =
+    let entry = c .before .before .before .before in
+    simp length-set (omega (arith, entry .pre))
 
 same-length : tie.Need-same-length
 same-length c = search needs
@@ -25,20 +49,26 @@ same-length c = search needs
 returns : tie.Need-returns
 unfolding noteWith
 returns c =
-    let put = c .before .before in
-    let number = put .before .before .before in
-    let said = number .before in
+    let said = c .before in
     let refusal = said .before in
-    rw (← said .said-by .ensures, ← number .said-number .ensures, ← refusal .refusal-of .ensures) (put .put-text .ensures .1)
+    let entry = refusal .before .before in
+    let a = entry .args in
+    rw (← said .said-by .ensures, ← c .said-number .ensures, ← refusal .refusal-of .ensures)
+    (four-stored (now (a .notes)) (a .at) (refusal .refusal-of .result) (c .said-number .result) (a .a) (a .b) (entry .pre))
 
 pub put-note-spec : {M : Type 1} → statement M
 put-note-spec =
     tie.close
     (tie.spec
     refusal-of-requires
+    slice-write-notes
     said-by-requires
     said-number-requires
-    slice-aggregate-put-text
-    put-text-requires
+    add-notes
+    slice-write-notes-2
+    add-notes-2
+    slice-write-notes-3
+    add-notes-3
+    slice-write-notes-4
     same-length
     returns)
