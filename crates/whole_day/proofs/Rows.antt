@@ -1,7 +1,7 @@
 -- The cells of the two tracks, side by side, before and after a step.
 use Prim.Native.Nat.{ℕ, _-_}
 use mathlib.Core.Bool.{Bool, true, false, cond, not}
-use mathlib.Core.List.{List, []}
+use mathlib.Core.List.{List, [], _∷_}
 use mathlib.Core.Path.{_≡_, refl, sym, _∙_, ap, subst}
 use native.Mathlib.Omega.{arith}
 use lib.ListN.{length, getD, set, length-set}
@@ -16,6 +16,7 @@ use Rattle.section.specs.Post.{blank}
 use Rattle.section.specs.Range.{inRange}
 use Rattle.section.specs.Step.{decoded, postOf}
 use Rattle.section.specs.Store.{trackOf, withTrack, postOn}
+use Rattle.lines.specs.Text.{letter}
 use Rattle.rules.specs.declared.Site.{Site}
 use Rattle.rules.specs.Judge.{siteOf, judgeInRange}
 use Rattle.sites.specs.declared.Running.{Running}
@@ -49,6 +50,25 @@ module _ {A : Type 0} (l : List A) (v d : A) (two : length l ≡ 2) where
   kept-b : (k : Bool) → getD (set l (row k) v) 1 d ≡ cond k v (getD l 1 d)
   kept-b true = getD-set-same l 1 v d (omega arith)
   kept-b false = getD-set-other l 0 1 v d (λ e. omega arith)
+
+-- the letters of the two tracks
+abbrev pub letterAt : List Running → ℕ → ℕ
+letterAt running k = letter (getD running k settled .walk) (getD running k settled .cvt)
+
+abbrev pub lettersOf : List Running → List ℕ
+lettersOf running = letterAt running 0 ∷ (letterAt running 1 ∷ [])
+
+letters-after :
+    (running : List Running) (r : Running) → length running ≡ 2 → (k : Bool)
+    → set (lettersOf running) (row k) (letter (r .walk) (r .cvt)) ≡ lettersOf (set running (row k) r)
+letters-after running r two true = rw (kept-a running r settled two true, kept-b running r settled two true) refl
+letters-after running r two false = rw (kept-a running r settled two false, kept-b running r settled two false) refl
+
+-- the letter that the code writes at the track's place
+pub letters-at :
+    (track : Bool) (running : List Running) (r : Running) → length running ≡ 2 → {k l : ℕ} {letters : List ℕ} → k ≡ row track
+    → letters ≡ lettersOf running → l ≡ letter (r .walk) (r .cvt) → set letters k l ≡ lettersOf (set running k r)
+letters-at track running r two ek shown el = rw (shown, el, ek) (letters-after running r two track)
 
 module _
     (posts : List (List Post))

@@ -2,16 +2,16 @@
 // in their places.
 ghost use mathlib.Core.Bool.{true};
 ghost use mathlib.Core.Path.{_≡_};
-ghost use Prim.Native.Nat.{_+_, _*_, _<_, _≤_};
-ghost use lib.ListN.{length};
+ghost use Prim.Native.Nat.{_*_, _<_, _≤_};
+ghost use lib.ListN.{length, replicate};
 ghost use Rattle.section.specs.Numbers.{stepLength};
 ghost use Rattle.section.specs.Settings.{settingsRight};
 ghost use Rattle.text.specs.Text.{written};
-ghost use Rattle.notes.specs.Note.{noteLength, noteWith};
+ghost use Rattle.lines.specs.Text.{letter};
+ghost use Rattle.notes.specs.Note.{noteLength};
 ghost use Rattle.whole_day.specs.Notes.{notesOf};
-ghost use Rattle.whole_day.specs.Rows.{row, freshPosts, letterAt};
+ghost use Rattle.whole_day.specs.Rows.{row, freshPosts, settled};
 use notes::NOTE_LENGTH;
-use notes::letter;
 use notes::put_note;
 use section::Decoded;
 use section::Post;
@@ -40,22 +40,22 @@ fn fresh_posts(c: Settings) -> [[Post; 16]; 2]
     [posts_a, posts_b]
 }
 
-// Writes the note of a step after which the two tracks run so.
-fn note_step(notes: &mut [u8], at: usize, verdict: Verdict, running: [Running; 2])
-    requires { ⌜ at + noteLength ≤ length (now notes) ⌝ }
-    ensures { λ _. ⌜ now (notes .exit) ≡ written (now (notes .entry)) at (noteWith verdict (letterAt running 0) (letterAt running 1)) ⌝ }
+// Both tracks settled on VNS.
+fn both_settled() -> [Running; 2]
+    ensures { λ r. ⌜ r ≡ replicate 2 settled ⌝ }
 {
-    let a = running[0];
-    let b = running[1];
-    let walk_a = a.walk;
-    let walk_b = b.walk;
-    put_note(
-        notes,
-        at,
-        verdict,
-        letter(walk_a, a.cvt),
-        letter(walk_b, b.cvt),
-    );
+    [Running {
+        cvt: false,
+        walk: Walk::Settled,
+    }; 2]
+}
+
+// The letter of a track that runs so.
+fn letter_of(running: Running) -> u8
+    ensures { λ r. ⌜ r ≡ letter (running .walk) (running .cvt) ⌝ }
+{
+    let walk = running.walk;
+    notes::letter(walk, running.cvt)
 }
 
 // Notes the steps of a day, which begins with those records, free block sections and both tracks settled on VNS.
@@ -67,10 +67,8 @@ fn note_from(c: Settings, fresh: [[Post; 16]; 2], steps: &[u8], count: usize, no
     let mut posts = fresh;
     let mut trains: [[u16; 15]; 2] = [[0; 15]; 2];
     let mut last: [[u16; 15]; 2] = [[0; 15]; 2];
-    let mut running = [Running {
-        cvt: false,
-        walk: Walk::Settled,
-    }; 2];
+    let mut running = both_settled();
+    let mut letters = [b'V'; 2];
     let mut i: usize = 0;
     while i < count {
         let start = i * STEP_LENGTH;
@@ -78,7 +76,7 @@ fn note_from(c: Settings, fresh: [[Post; 16]; 2], steps: &[u8], count: usize, no
         i += 1;
         let d = steps::decode(c.posts, &steps[start..start + STEP_LENGTH]);
         let Decoded::Well(x) = d else {
-            note_step(notes, at, Verdict::Refused(4), running);
+            put_note(notes, at, Verdict::Refused(4), letters[0], letters[1]);
             continue;
         };
         let track = x.track;
@@ -96,7 +94,8 @@ fn note_from(c: Settings, fresh: [[Post; 16]; 2], steps: &[u8], count: usize, no
         let running_after = judged.running;
         posts[k][p] = own_after;
         running[k] = running_after;
-        note_step(notes, at, verdict, running);
+        letters[k] = letter_of(running_after);
+        put_note(notes, at, verdict, letters[0], letters[1]);
     }
 }
 

@@ -11,18 +11,18 @@ use Rattle.section.proofs.Laws.{posts-right}
 use Rattle.rules.specs.Judge.{siteOf}
 use Rattle.layout.specs.Layout.{stepAt}
 use Rattle.whole_day.proofs.Laws.{step-part}
-use Rattle.whole_day.proofs.Rows.{sectionIn, two-after, site-at, fit-at, judged-at}
+use Rattle.whole_day.proofs.Rows.{sectionIn, two-after, letters-at, site-at, fit-at, judged-at}
 use Rattle.whole_day.proofs.Walk.{Walked, begins, note-fits, goes-on, passes-over, ends}
 use borrow.Author.Needs.{needs}
 use Rattle.whole_day.proofs.note_from.Statement.{statement}
 use Rattle.whole_day.proofs.note_from.Tie as tie
 
 abbrev Inv-loop : tie.InvT-loop
-Inv-loop c steps count lent posts₀ trains₀ last₀ running₀ i₀ notes posts trains last running i =
-    Walked c steps count lent posts trains last running notes i
+Inv-loop c steps count lent posts₀ trains₀ last₀ running₀ letters₀ i₀ notes posts trains last running letters i =
+    Walked c steps count lent posts trains last running letters notes i
 
 abbrev μ-loop : tie.MeasureT-loop
-μ-loop c steps count lent posts₀ trains₀ last₀ running₀ i₀ notes posts trains last running i = count - i
+μ-loop c steps count lent posts₀ trains₀ last₀ running₀ letters₀ i₀ notes posts trains last running letters i = count - i
 
 -- ## What the code knows after it has read a well-formed step
 
@@ -30,7 +30,7 @@ abbrev looped : tie.After-d Inv-loop μ-loop → tie.At-loop Inv-loop μ-loop
 looped c = c .before .before .before .before .before
 
 abbrev start : tie.After-d Inv-loop μ-loop → tie.Start Inv-loop μ-loop
-start c = looped c .before .before .before
+start c = looped c .before .before .before .before
 
 abbrev step : tie.After-d Inv-loop μ-loop → TrackStep
 step c = c .d .given .0 .0
@@ -64,10 +64,13 @@ judging c = c .before .before
 
 -- ## The places
 
+both-settled-requires : tie.Need-both-settled-requires Inv-loop μ-loop
+both-settled-requires c κs = search needs
+
 loop-holds : tie.Need-loop-holds Inv-loop μ-loop
 loop-holds c =
-    let entry = c .before .before in
-    begins _ _ _ _ _ (entry .pre .0 .0) (entry .pre .0 .1) (entry .pre .1 .1)
+    let entry = c .before .before .before in
+    rw (c .both-settled .ensures) (begins _ _ _ _ _ (entry .pre .0 .0) (entry .pre .0 .1) (entry .pre .1 .1))
 
 mul-start : tie.Need-mul-start Inv-loop μ-loop
 mul-start c = omega arith
@@ -99,8 +102,14 @@ enum-known-d c = search needs
 enum-told : tie.Need-enum-told Inv-loop μ-loop
 enum-told c = search needs
 
-note-step-requires : tie.Need-note-step-requires Inv-loop μ-loop
-note-step-requires c κs =
+array-read-put-note : tie.Need-array-read-put-note Inv-loop μ-loop
+array-read-put-note c = search needs
+
+array-read-put-note-2 : tie.Need-array-read-put-note-2 Inv-loop μ-loop
+array-read-put-note-2 c = search needs
+
+put-note-requires : tie.Need-put-note-requires Inv-loop μ-loop
+put-note-requires c κs =
     let in-loop = c .before .before .before .before .before in
     note-fits (in-loop .before .loop .inv) (in-loop .loop-test .taken)
 
@@ -116,7 +125,7 @@ loop-again c =
     let l = in-loop .before in
     passes-over (l .loop .inv) (in-loop .loop-test .taken) (
     ap (decoded _) (sym (step-part _ (l .loop .i))) ∙ (sym (decoded-at .decode .ensures) ∙ told .enum-told .given .1)
-    ) (noted .note-step .ensures) (noted .note-step .kept .0)
+    ) (noted .put-note .ensures) (noted .put-note .kept .0)
 
 row-of-requires : tie.Need-row-of-requires Inv-loop μ-loop
 row-of-requires c κs = search needs
@@ -198,18 +207,31 @@ mul-running c = search needs
 array-set-from-running : tie.Need-array-set-from-running Inv-loop μ-loop
 array-set-from-running c = search needs
 
-note-step-requires-2 : tie.Need-note-step-requires-2 Inv-loop μ-loop
-note-step-requires-2 c κs =
-    let d = well (judging (c .before) .before .before .before) in
+letter-of-requires : tie.Need-letter-of-requires Inv-loop μ-loop
+letter-of-requires c κs = search needs
+
+array-write-letters : tie.Need-array-write-letters Inv-loop μ-loop
+array-write-letters c = search needs
+
+array-read-put-note-3 : tie.Need-array-read-put-note-3 Inv-loop μ-loop
+array-read-put-note-3 c = search needs
+
+array-read-put-note-4 : tie.Need-array-read-put-note-4 Inv-loop μ-loop
+array-read-put-note-4 c = search needs
+
+put-note-requires-2 : tie.Need-put-note-requires-2 Inv-loop μ-loop
+put-note-requires-2 c κs =
+    let d = well (judging (c .before .before) .before .before .before) in
     note-fits (looped d .loop .inv) (more d)
 
 loop-less-2 : tie.Need-loop-less-2 Inv-loop μ-loop
-loop-less-2 c = omega (arith, more (well (judging (c .before .before .before .before) .before .before .before)))
+loop-less-2 c = omega (arith, more (well (judging (c .before .before .before .before .before) .before .before .before)))
 
 loop-again-2 : tie.Need-loop-again-2 Inv-loop μ-loop
 loop-again-2 c =
     let noted = c .before .before in
-    let judge = judging (noted .before .before) in
+    let lettered = noted .before .before in
+    let judge = judging (lettered .before) in
     let site = judge .before .before .before in
     let post = site .before .before .before .before in
     let d = well site in
@@ -217,7 +239,11 @@ loop-again-2 c =
     let left =
     judged-at (l .posts) (l .trains) (l .last) (l .running) _ _ (step d) (says d) (post .before .row-of .ensures .0) (post .post-of .ensures) (l .inv .two)
     (site-is site) (judge .judge-at .ensures .0) (judge .judge-at .ensures .1 .0) (judge .judge-at .ensures .1 .1) in
-    goes-on (l .inv) _ _ _ _ _ _ (more d) left (noted .note-step2 .ensures) (noted .note-step2 .kept .0) (two-after _ _ _ _ _ (l .inv .two) _ _ _ _ _)
+    let shown =
+    letters-at (step d .track) (l .running) _ (l .inv .two .two-running) (post .before .row-of .ensures .0) (l .inv .lettered)
+    (lettered .letter-of .ensures) in
+    goes-on (l .inv) _ _ _ _ _ _ _ (more d) left shown (noted .put-note2 .ensures) (noted .put-note2 .kept .0)
+    (two-after _ _ _ _ _ (l .inv .two) _ _ _ _ _)
 
 same-length : tie.Need-same-length Inv-loop μ-loop
 same-length c = c .before .loop .inv .same-length
@@ -231,6 +257,7 @@ note-from-spec =
     (tie.spec
     Inv-loop
     μ-loop
+    both-settled-requires
     loop-holds
     mul-start
     mul-at
@@ -242,7 +269,9 @@ note-from-spec =
     decode-requires
     enum-known-d
     enum-told
-    note-step-requires
+    array-read-put-note
+    array-read-put-note-2
+    put-note-requires
     loop-less
     loop-again
     row-of-requires
@@ -269,7 +298,11 @@ note-from-spec =
     index-2-own-after
     mul-running
     array-set-from-running
-    note-step-requires-2
+    letter-of-requires
+    array-write-letters
+    array-read-put-note-3
+    array-read-put-note-4
+    put-note-requires-2
     loop-less-2
     loop-again-2
     same-length
