@@ -44,7 +44,7 @@ returns-2 c =
 note-day-requires : tie.Need-note-day-requires
 note-day-requires c κs =
     let else = c .before in
-    (told-true (else .before .before .settings-right .ensures) (else .before .if1 .left), (omega arith, else .if2 .left))
+    (told-true (else .before .before .settings-right .ensures) (else .before .if1 .left), (omega arith, omega (arith, else .if2 .left)))
 
 same-length : tie.Need-same-length
 same-length c = search needs

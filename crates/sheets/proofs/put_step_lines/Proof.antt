@@ -16,7 +16,7 @@ note-day-requires : tie.Need-note-day-requires
 note-day-requires c κs =
     let room = c .before in
     let entry = room .before .before .before in
-    (entry .pre .1 .1, (entry .pre .1 .0, omega (arith, room .room-for-notes .ensures, entry .pre .0 .1)))
+    (entry .pre .1 .1, (omega (arith, entry .pre .1 .0), omega (arith, room .room-for-notes .ensures, entry .pre .0 .1)))
 
 slice-aggregate-put-noted-lines : tie.Need-slice-aggregate-put-noted-lines
 slice-aggregate-put-noted-lines c = search needs
