@@ -102,13 +102,14 @@ impl DayComparison {
 
     /// The proved walk over the whole day against the steps judged one by one, in a buffer as long, longer and too short.
     fn same_notes(&mut self, day: &Day) -> Outcome {
-        let exact = room_for(&day.steps);
+        let (settings, steps) = (&day.settings, &day.steps);
+        let exact = room_for(steps);
         for room in [exact, exact + 9, exact.saturating_sub(1)] {
             let mut notes = Lent::patterned(room);
             let mut expected = notes.clone();
-            let input = || format!("{:?}, room {room}\nsteps: {}", day.settings, hex(&day.steps));
-            let proved = proved::engine::day(&day.settings, &day.steps, notes.part());
-            let second = second_notes(&day.settings, &day.steps, expected.part(), judge_in_place);
+            let input = || format!("{settings:?}, room {room}\nsteps: {}", hex(steps));
+            let proved = proved::engine::day(settings, steps, notes.part());
+            let second = second_notes(settings, steps, expected.part(), judge_in_place);
             same("the answer to a day's steps", proved, second, &input)?;
             same_buffers("the notes of a day", &notes, &expected, &input)?;
         }
