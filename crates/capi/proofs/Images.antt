@@ -23,7 +23,8 @@ use Rattle.whole_day.specs.Notes.{notesOf}
 use Rattle.packed.specs.Packed.{packedIndications}
 use Rattle.image.specs.Image.{imageLength, imageOf, imageRight, sectionOf}
 use Rattle.image.proofs.Laws.{right-length, whole-written}
-use Rattle.capi.specs.Engine.{freshAnswer, freshImage, packedVerdict, judgeAnswer, writtenBack, judgeImage, shownOf, stepsOffered, notesTooLong, dayAnswer, dayNotes}
+use Rattle.capi.specs.Engine.{freshAnswer, freshImage, packedVerdict, judgeAnswer, writtenBack, judgeImage, shownOf}
+use Rattle.capi.specs.Engine.{stepsOffered, notesTooLong, dayAnswer, dayNotes}
 
 pub said-small : {n : ℕ} (said : Said) → n ≡ saidNumber said → n ≤ 4
 unfolding saidNumber
