@@ -1,9 +1,9 @@
-//! Links the static libraries of the proved implementation, made by `rt staticlib`, one a delivery.
+//! Links the static libraries of the proved implementation, made by `rt staticlib`: the crates of the C interface.
 
 use std::path::Path;
 use std::{env, process};
 
-const LIBRARIES: [&str; 3] = ["capi_files", "capi", "capi_listing"];
+const LIBRARIES: [&str; 4] = ["capi_files", "capi", "capi_day", "capi_listing"];
 
 fn main() {
     let package = env::var("CARGO_MANIFEST_DIR").expect("cargo sets CARGO_MANIFEST_DIR");

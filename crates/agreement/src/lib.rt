@@ -3,10 +3,10 @@ ghost use mathlib.Core.Path.{_≡_};
 ghost use mathlib.Core.Bool.{true};
 ghost use Prim.Native.Nat.{_≤_};
 ghost use lib.ListN.{length, replicate};
-ghost use Rattle.listing.specs.Text.{listed, handedOver};
+ghost use Rattle.text.specs.Handed.{handed, handedOver};
 ghost use Rattle.agreement.specs.Made.{made};
-use listing::Listed;
 use sheets::Sheet;
+use text::Handed;
 
 // Room for one byte more than the longest panel: stored bytes that fill it differ.
 pub fn sheet_room() -> [u8; 426009]
@@ -15,8 +15,8 @@ pub fn sheet_room() -> [u8; 426009]
     [0; 426009]
 }
 
-fn make(sheet: Sheet, file: &[u8], buffer: &mut [u8]) -> Listed
-    ensures { λ r. ⌜ r ≡ listed (made sheet (now (file .entry))) (now (buffer .entry)) ⌝ }
+fn make(sheet: Sheet, file: &[u8], buffer: &mut [u8]) -> Handed
+    ensures { λ r. ⌜ r ≡ handed (made sheet (now (file .entry))) (now (buffer .entry)) ⌝ }
     ensures { λ _. ⌜ now (buffer .exit) ≡ handedOver (made sheet (now (file .entry))) (now (buffer .entry)) ⌝ }
 {
     match sheet {
@@ -32,9 +32,9 @@ pub fn agrees(sheet: Sheet, file: &[u8], stored: &[u8]) -> bool
     ensures { λ r. ⌜ (made sheet (now (file .entry)) ≡ now (stored .entry) → r ≡ true) ⌝ }
 {
     let mut buffer = sheet_room();
-    let listed = make(sheet, file, &mut buffer);
-    match listed {
-        Listed::Bytes(length) => check::same(&buffer[0..length], stored),
-        Listed::TooShort => false,
+    let handed = make(sheet, file, &mut buffer);
+    match handed {
+        Handed::Bytes(length) => check::same(&buffer[0..length], stored),
+        Handed::TooShort => false,
     }
 }

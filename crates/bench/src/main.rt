@@ -3,7 +3,7 @@ ghost use mathlib.Core.Path.{_≡_};
 ghost use lib.ListN.{length};
 use input::Input;
 use libc::STDOUT_FILENO;
-use listing::Listed;
+use text::Handed;
 
 // Room for one byte more than the longest file, so that a longer one is refused too.
 fn file_room() -> [u8; 32793]
@@ -21,7 +21,7 @@ fn listing_room() -> [u8; 86040]
 
 fn print(file: &[u8]) {
     let mut text = listing_room();
-    if let Listed::Bytes(n) = listing::listing(file, &mut text) {
+    if let Handed::Bytes(n) = listing::listing(file, &mut text) {
         io::write_all(STDOUT_FILENO, &text[..n]);
     }
 }

@@ -14,17 +14,14 @@ use Rattle.section.specs.declared.Section.{Section}
 use Rattle.section.specs.declared.Settings.{Settings}
 use Rattle.section.specs.declared.Verdict.the-variants.{Accepted, Refused}
 use Rattle.section.specs.Fresh.{freshSection}
-use Rattle.section.specs.Settings.{settingsRight}
 use Rattle.section.specs.Words.{refusalOf, saidBy, saidNumber}
 use Rattle.rules.specs.Indications.{indications}
 use Rattle.rules.specs.Judge.{judge}
 use Rattle.text.specs.Text.{written}
-use Rattle.whole_day.specs.Notes.{notesOf}
 use Rattle.packed.specs.Packed.{packedIndications}
 use Rattle.image.specs.Image.{imageLength, imageOf, imageRight, sectionOf}
 use Rattle.image.proofs.Laws.{right-length, whole-written}
 use Rattle.capi.specs.Engine.{freshAnswer, freshImage, packedVerdict, judgeAnswer, writtenBack, judgeImage, shownOf}
-use Rattle.capi.specs.Engine.{stepsOffered, notesTooLong, dayAnswer, dayNotes}
 
 pub said-small : {n : ℕ} (said : Said) → n ≡ saidNumber said → n ≤ 4
 unfolding saidNumber
@@ -86,24 +83,3 @@ pub shown :
     i ≡ indications s track post → n ≡ packedIndications i → n ≡ shownOf image track post
 unfolding shownOf
 shown image track post e es ei en = rw (e, ← es, ← ei) en
-
--- ## The steps of a day
-
-module _ (c : Settings) (steps buffer : List ℕ) where
-  -- the answer, and the buffer afterwards
-  abbrev Noted : ℕ → List ℕ → Type 0
-  Noted r after = (r ≡ dayAnswer c steps (length buffer)) × (after ≡ dayNotes c steps buffer)
-
-  pub settings-wrong : settingsRight c ≡ false → Noted 6 buffer
-  unfolding dayAnswer dayNotes
-  settings-wrong e = (rw e, rw e)
-
-  pub no-room : settingsRight c ≡ true → notesTooLong steps (length buffer) ≡ true → Noted 5 buffer
-  unfolding dayAnswer dayNotes
-  no-room e f = (rw (e, f), rw (e, f))
-
-  pub noted :
-      settingsRight c ≡ true → notesTooLong steps (length buffer) ≡ false → {after : List ℕ}
-      → after ≡ written buffer 0 (notesOf c steps (stepsOffered steps)) → Noted 0 after
-  unfolding dayAnswer dayNotes
-  noted e f w = (rw (e, f), rw (e, f) w)

@@ -1,6 +1,6 @@
 -- What the calls to the engine return, packed into one number, and the lent buffer afterwards.
-use Prim.Native.Nat.{ℕ, _+_, _*_, _/_}
-use mathlib.Core.Bool.{Bool, cond}
+use Prim.Native.Nat.{ℕ, _+_, _*_}
+use mathlib.Core.Bool.{cond}
 use mathlib.Core.List.{List}
 use lib.ListN.{length}
 use lib.Dec.{ltb}
@@ -8,14 +8,10 @@ use Rattle.section.specs.declared.Settings.{Settings}
 use Rattle.section.specs.declared.Verdict.{Verdict}
 use Rattle.section.specs.declared.Verdict.the-variants.{Accepted, Refused}
 use Rattle.section.specs.Fresh.{freshSection}
-use Rattle.section.specs.Numbers.{stepLength}
-use Rattle.section.specs.Settings.{settingsRight}
 use Rattle.section.specs.Words.{refusalOf, saidBy, saidNumber}
 use Rattle.rules.specs.Indications.{indications}
 use Rattle.rules.specs.Judge.{judge}
 use Rattle.text.specs.Text.{written}
-use Rattle.notes.specs.Note.{noteLength}
-use Rattle.whole_day.specs.Notes.{notesOf}
 use Rattle.packed.specs.Packed.{packedIndications}
 use Rattle.image.specs.Image.{imageLength, imageOf, imageRight, sectionOf}
 
@@ -53,24 +49,3 @@ judgeImage image step =
 -- bytes that are no section's image give 0
 unfoldable pub shownOf : List ℕ → ℕ → ℕ → ℕ
 shownOf image track post = cond (imageRight image) (packedIndications (indications (sectionOf image) track post)) 0
-
--- ## The steps of a day
-
--- the whole steps that are offered
-abbrev pub stepsOffered : List ℕ → ℕ
-stepsOffered steps = length steps / stepLength
-
--- the buffer is too short for their notes
-abbrev pub notesTooLong : List ℕ → ℕ → Bool
-notesTooLong steps room = ltb room (noteLength * stepsOffered steps)
-
--- 6, then 5
-unfoldable pub dayAnswer : Settings → List ℕ → ℕ → ℕ
-dayAnswer c steps room = cond (settingsRight c) (cond (notesTooLong steps room) 5 0) 6
-
--- the notes at the buffer's front; a refused call leaves it untouched
-unfoldable pub dayNotes : Settings → List ℕ → List ℕ → List ℕ
-dayNotes c steps buffer =
-    cond (settingsRight c)
-    (cond (notesTooLong steps (length buffer)) buffer (written buffer 0 (notesOf c steps (stepsOffered steps))))
-    buffer

@@ -1,15 +1,13 @@
-// The C interface to the engine, over a section's image: for the comparison with a second implementation and for its benchmark.
+// The C interface to the engine, over a section's image: for the comparison with a second implementation.
 // It is not stable: names, packed numbers and the image's layout may change with any delivery.
 ghost use mathlib.Core.Path.{_≡_};
 ghost use lib.ListN.{length};
-ghost use Rattle.capi.specs.Engine.{freshAnswer, freshImage, judgeAnswer, judgeImage, shownOf, dayAnswer, dayNotes};
+ghost use Rattle.capi.specs.Engine.{freshAnswer, freshImage, judgeAnswer, judgeImage, shownOf};
 ghost use Rattle.packed.specs.Settings.{settingsGiven};
 use image::IMAGE_LENGTH;
-use notes::NOTE_LENGTH;
 use notes::said_number;
 use packed::packed_indications;
 use packed::settings_given;
-use section::STEP_LENGTH;
 use section::Verdict;
 
 // What bytes that are no section's image give, as a state out of range does.
@@ -58,29 +56,4 @@ pub extern "C" fn bsr_indications(bytes: &[u8], track: u8, post: u8) -> u16
         return 0;
     }
     packed_indications(engine::indications(image_reader::section_of(bytes), track, post))
-}
-
-// Judges the whole steps, offered one after another from fresh, and writes the note of each, from the buffer's front on.
-#[no_mangle]
-pub extern "C" fn bsr_day(
-    n: u8,
-    form: u8,
-    mask: u16,
-    line: u16,
-    steps: &[u8],
-    buffer: &mut [u8],
-) -> u8
-    ensures { λ r. ⌜ r ≡ dayAnswer (settingsGiven n form mask line) (now (steps .entry)) (length (now (buffer .entry))) ⌝ }
-    ensures { λ _. ⌜ now (buffer .exit) ≡ dayNotes (settingsGiven n form mask line) (now (steps .entry)) (now (buffer .entry)) ⌝ }
-{
-    let c = settings_given(n, form, mask, line);
-    if !settings_range::settings_right(c) {
-        return 6;
-    }
-    let count = steps.len() / STEP_LENGTH;
-    if buffer.len() < NOTE_LENGTH * count {
-        return 5;
-    }
-    whole_day::note_day(c, steps, count, buffer);
-    0
 }

@@ -4,13 +4,13 @@ use mathlib.Core.Path.{_≡_, refl}
 use mathlib.Core.List.{List}
 use native.Mathlib.Omega.{arith}
 use lib.ListN.{length}
-use Rattle.listing.specs.declared.Listed.{Listed}
-use Rattle.listing.specs.declared.Listed.the-variants.{Bytes, TooShort}
-use Rattle.listing.specs.Text.{listed}
-use Rattle.listing.proofs.Handed.{bytes-counted}
-use Rattle.capi_listing.specs.Packed.{packedListed}
+use Rattle.text.specs.declared.Handed.{Handed}
+use Rattle.text.specs.declared.Handed.the-variants.{Bytes, TooShort}
+use Rattle.text.specs.Handed.{handed}
+use Rattle.text.proofs.HandedOver.{bytes-counted}
+use Rattle.packed.specs.Packed.{packedHanded}
 
-pub listed-fits : (text buffer : List ℕ) (r : Listed) → r ≡ listed text buffer → length buffer * 1 < 2 ^ 63 → packedListed r ≤ 2 ^ 63
-unfolding packedListed
-listed-fits text buffer (Bytes n) e h = omega (arith, bytes-counted text buffer buffer (Bytes n) n e refl refl .0)
-listed-fits text buffer TooShort e h = omega arith
+pub handed-fits : (text buffer : List ℕ) (r : Handed) → r ≡ handed text buffer → length buffer * 1 < 2 ^ 63 → packedHanded r ≤ 2 ^ 63
+unfolding packedHanded
+handed-fits text buffer (Bytes n) e h = omega (arith, bytes-counted text buffer (Bytes n) e buffer n refl refl .0)
+handed-fits text buffer TooShort e h = omega arith

@@ -1,6 +1,6 @@
 // The code that decides a step: for each kind the checks of the table, in its order.
 ghost use mathlib.Core.Path.{_≡_};
-ghost use Rattle.occupancy.specs.Placed.{Placed};
+ghost use Rattle.site_positions.specs.Placed.{Placed};
 ghost use Rattle.conditions.specs.VerdictAt.{verdictAt};
 use rules::Site;
 use section::Settings;

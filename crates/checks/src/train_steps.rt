@@ -2,21 +2,21 @@
 ghost use mathlib.Core.List.{[]};
 ghost use mathlib.Core.Path.{_≡_};
 ghost use Rattle.section.specs.declared.Step.the-variants.{Start, Pass, Leave};
-ghost use Rattle.occupancy.specs.Placed.{Placed};
+ghost use Rattle.site_positions.specs.Placed.{Placed};
 ghost use Rattle.conditions.specs.VerdictAt.{verdictAt};
 use conditions::at_end;
 use conditions::confirmed;
 use conditions::is_settled;
-use occupancy::at_receiving_end;
-use occupancy::at_sending_end;
 use occupancy::has_number;
-use occupancy::pass_occupied;
-use occupancy::stretch_occupied;
 use occupancy::train_before;
 use rules::Site;
 use section::Said;
 use section::Settings;
 use section::Verdict;
+use site_positions::at_receiving_end;
+use site_positions::at_sending_end;
+use stretches::pass_occupied;
+use stretches::stretch_occupied;
 
 pub fn start(c: Settings, e: Site, number: u16, trains: &[u16; 15]) -> Verdict
     requires { ⌜ Placed c e ⌝ }

@@ -3,13 +3,13 @@ ghost use mathlib.Core.Bool.{_||_};
 ghost use mathlib.Core.Path.{_≡_};
 ghost use Rattle.rules.specs.Site.{isSettled, sameAct, isTurn, atSendingEnd, atReceivingEnd};
 ghost use Rattle.rules.specs.Table.{releaseInTurn, confirmed};
-ghost use Rattle.occupancy.specs.Placed.{Placed};
-use occupancy::at_receiving_end;
-use occupancy::at_sending_end;
+ghost use Rattle.site_positions.specs.Placed.{Placed};
 use rules::Site;
 use section::Act;
 use section::Settings;
 use section::Walk;
+use site_positions::at_receiving_end;
+use site_positions::at_sending_end;
 
 pub fn is_settled(walk: Walk) -> bool
     ensures { λ r. ⌜ r ≡ isSettled walk ⌝ }

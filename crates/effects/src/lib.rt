@@ -1,7 +1,7 @@
 // What an accepted step does: the post's record, the walk, the running direction, the movement of a train, and what is said.
 ghost use mathlib.Core.Path.{_≡_};
 ghost use Rattle.rules.specs.Table.{cleared, effect};
-ghost use Rattle.occupancy.specs.Placed.{Placed};
+ghost use Rattle.site_positions.specs.Placed.{Placed};
 ghost use Rattle.effects.specs.Part.{moving, HasNext};
 use reversal_effects::acknowledging;
 use reversal_effects::announcing;

@@ -2,13 +2,12 @@
 ghost use mathlib.Core.List.{[]};
 ghost use mathlib.Core.Path.{_≡_};
 ghost use Rattle.section.specs.declared.Step.the-variants.{Release, Key};
-ghost use Rattle.occupancy.specs.Placed.{Placed};
+ghost use Rattle.site_positions.specs.Placed.{Placed};
 ghost use Rattle.conditions.specs.VerdictAt.{verdictAt};
 use conditions::confirmed;
 use conditions::is_turn;
 use conditions::release_in_turn;
 use conditions::secured;
-use occupancy::at_receiving_end;
 use occupancy::train_ahead;
 use occupancy::watched_occupied;
 use rules::Site;
@@ -17,6 +16,7 @@ use section::MOST_SEALS;
 use section::Said;
 use section::Settings;
 use section::Verdict;
+use site_positions::at_receiving_end;
 
 pub fn release(c: Settings, e: Site, number: u16, trains: &[u16; 15], last: &[u16; 15]) -> Verdict
     requires { ⌜ Placed c e ⌝ }

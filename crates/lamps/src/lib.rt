@@ -75,7 +75,7 @@ fn is_flashing(c: Settings, e: Site) -> bool
     }
     let walk = e.walk;
     let count = set_count(c.posts, positions::is_upward(e.track, e.cvt), walk);
-    is_next_to_set(count, occupancy::rank_at(c, e))
+    is_next_to_set(count, site_positions::rank_at(c, e))
 }
 
 fn circulation(fault3: bool, flashing: bool, cvt: bool) -> u8
@@ -117,7 +117,7 @@ fn shown_at(c: Settings, e: Site, trains: &[u16; 15]) -> Indications
     Indications {
         circulation: circulation(own.fault3, is_flashing(c, e), own.cvt),
         troncon: troncon(
-            !occupancy::at_receiving_end(c, e),
+            !site_positions::at_receiving_end(c, e),
             own.fault1,
             occupancy::watched_occupied(c, e, trains),
         ),

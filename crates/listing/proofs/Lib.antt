@@ -1,1 +1,1 @@
-pub mod Handed
+mod Front

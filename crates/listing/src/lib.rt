@@ -2,31 +2,15 @@
 ghost use mathlib.Core.Path.{_≡_};
 ghost use lib.ListN.{length};
 ghost use Rattle.layout.specs.Layout.{mostSteps};
+ghost use Rattle.text.specs.Handed.{handed, handedOver};
 ghost use Rattle.sheets.specs.Printed.{printed};
 ghost use Rattle.sheets.specs.Sheet.{lineOn, room};
-ghost use Rattle.listing.specs.Text.{listed, handedOver};
 ghost use Rattle.listing.specs.Listing.{listing};
 ghost use Rattle.listing.specs.Panel.{panel};
 use sheets::Sheet;
 use sheets::print;
-
-// How many bytes were put at the front of the buffer, or that it is too short for them.
-pub enum Listed {
-    Bytes(usize),
-    TooShort,
-}
-
-// Puts a text at the front of the buffer, if it is long enough.
-fn hand_over(text: &[u8], buffer: &mut [u8]) -> Listed
-    ensures { λ r. ⌜ r ≡ listed (now (text .entry)) (now (buffer .entry)) ⌝ }
-    ensures { λ _. ⌜ now (buffer .exit) ≡ handedOver (now (text .entry)) (now (buffer .entry)) ⌝ }
-{
-    if buffer.len() < text.len() {
-        return Listed::TooShort;
-    }
-    text::put_text(buffer, 0, text);
-    Listed::Bytes(text.len())
-}
+use text::Handed;
+use text::hand_over;
 
 // Room for the longest sheet.
 fn room_for(sheet: Sheet) -> usize
@@ -46,12 +30,12 @@ fn most_room() -> [u8; 426008]
 }
 
 // A sheet of a file, at the front of the buffer, if it is long enough. A buffer that any sheet fits is written to at once.
-fn sheet_into(sheet: Sheet, file: &[u8], buffer: &mut [u8]) -> Listed
-    ensures { λ r. ⌜ r ≡ listed (printed (lineOn sheet) (now (file .entry))) (now (buffer .entry)) ⌝ }
+fn sheet_into(sheet: Sheet, file: &[u8], buffer: &mut [u8]) -> Handed
+    ensures { λ r. ⌜ r ≡ handed (printed (lineOn sheet) (now (file .entry))) (now (buffer .entry)) ⌝ }
     ensures { λ _. ⌜ now (buffer .exit) ≡ handedOver (printed (lineOn sheet) (now (file .entry))) (now (buffer .entry)) ⌝ }
 {
     if room_for(sheet) <= buffer.len() {
-        return Listed::Bytes(print(sheet, file, buffer));
+        return Handed::Bytes(print(sheet, file, buffer));
     }
     let mut space = most_room();
     let length = print(sheet, file, &mut space);
@@ -59,16 +43,16 @@ fn sheet_into(sheet: Sheet, file: &[u8], buffer: &mut [u8]) -> Listed
 }
 
 // The bench listing of a file.
-pub fn listing(file: &[u8], buffer: &mut [u8]) -> Listed
-    ensures { λ r. ⌜ r ≡ listed (listing (now (file .entry))) (now (buffer .entry)) ⌝ }
+pub fn listing(file: &[u8], buffer: &mut [u8]) -> Handed
+    ensures { λ r. ⌜ r ≡ handed (listing (now (file .entry))) (now (buffer .entry)) ⌝ }
     ensures { λ _. ⌜ now (buffer .exit) ≡ handedOver (listing (now (file .entry))) (now (buffer .entry)) ⌝ }
 {
     sheet_into(Sheet::OfSteps, file, buffer)
 }
 
 // The panel of a file.
-pub fn panel(file: &[u8], buffer: &mut [u8]) -> Listed
-    ensures { λ r. ⌜ r ≡ listed (panel (now (file .entry))) (now (buffer .entry)) ⌝ }
+pub fn panel(file: &[u8], buffer: &mut [u8]) -> Handed
+    ensures { λ r. ⌜ r ≡ handed (panel (now (file .entry))) (now (buffer .entry)) ⌝ }
     ensures { λ _. ⌜ now (buffer .exit) ≡ handedOver (panel (now (file .entry))) (now (buffer .entry)) ⌝ }
 {
     sheet_into(Sheet::OfPosts, file, buffer)

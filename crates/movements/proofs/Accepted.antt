@@ -23,8 +23,8 @@ use Rattle.rules.specs.declared.Site.{Site}
 use Rattle.rules.specs.Site.{isTurn, upAt, Occupancy}
 use Rattle.rules.specs.Table.{Check, _else_, checks, effect}
 use Rattle.rules.specs.Judge.{verdictOf}
-use Rattle.occupancy.specs.Placed.{Placed}
-use Rattle.occupancy.proofs.Laws.{or-false}
+use Rattle.site_positions.specs.Placed.{Placed}
+use Rattle.site_positions.proofs.Laws.{or-false}
 use Rattle.effects.specs.Part.{HasNext}
 use Rattle.movements.specs.Blocks.{HasBlocks, Fitting}
 

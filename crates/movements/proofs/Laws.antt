@@ -6,7 +6,7 @@ use Rattle.section.specs.Numbers.{mostBlocks}
 use Rattle.section.proofs.Laws.{rank-lt, block-lt}
 use Rattle.rules.specs.declared.Site.{Site}
 use Rattle.rules.specs.Site.{upAt, rankAt, blockAhead, blockBefore}
-use Rattle.occupancy.specs.Placed.{Placed}
+use Rattle.site_positions.specs.Placed.{Placed}
 use Rattle.reversal_effects.specs.Walking.{HasAhead}
 use Rattle.movements.specs.Blocks.{HasBefore}
 

@@ -4,7 +4,7 @@ ghost use Prim.Native.Nat.{_<_};
 ghost use Rattle.section.specs.Numbers.{mostBlocks};
 ghost use Rattle.rules.specs.Site.{blockAhead, blockBefore};
 ghost use Rattle.rules.specs.Table.{trainsAfter, lastAfter};
-ghost use Rattle.occupancy.specs.Placed.{Placed};
+ghost use Rattle.site_positions.specs.Placed.{Placed};
 ghost use Rattle.reversal_effects.specs.Walking.{HasAhead};
 ghost use Rattle.movements.specs.Blocks.{HasBefore, HasBlocks};
 use rules::Movement;
@@ -18,7 +18,7 @@ pub fn block_ahead(c: Settings, e: Site) -> usize
     positions::block(
         c.posts,
         positions::is_upward(e.track, e.cvt),
-        occupancy::rank_at(c, e),
+        site_positions::rank_at(c, e),
     ) as usize
 }
 
@@ -29,7 +29,7 @@ pub fn block_before(c: Settings, e: Site) -> usize
     positions::block(
         c.posts,
         positions::is_upward(e.track, e.cvt),
-        occupancy::rank_at(c, e) - 1,
+        site_positions::rank_at(c, e) - 1,
     ) as usize
 }
 

@@ -1,18 +1,114 @@
-// What a post sees of its track: where it stands, the trains in the block sections, the stretch that begins there.
-mod cells;
-mod position;
-mod stretch;
+// The trains in the block sections. Cells and numbers are compared at 64 bits.
+ghost use mathlib.Core.Bool.{true, false, cond};
+ghost use mathlib.Core.Path.{_≡_};
+ghost use Prim.Native.Nat.{_+_, _-_, _<_, _≤_};
+ghost use lib.ListN.{getD};
+ghost use Rattle.section.specs.Geometry.{block};
+ghost use Rattle.section.specs.Settings.{isMaterialised};
+ghost use Rattle.rules.specs.Site.{anyTrain, hasNumber, atSendingEnd, atReceivingEnd, blockAhead, blockBefore, watchedOccupied};
+ghost use Rattle.site_positions.specs.Placed.{Placed};
+use rules::Site;
+use section::Settings;
+use site_positions::at_receiving_end;
+use site_positions::rank_at;
 
-pub use cells::any_train;
-pub use cells::has_number;
-pub use cells::order_occupied;
-pub use cells::train_ahead;
-pub use cells::train_before;
-pub use cells::train_in;
-pub use cells::watched_occupied;
-pub use position::at_receiving_end;
-pub use position::at_sending_end;
-pub use position::rank_at;
-pub use stretch::pass_occupied;
-pub use stretch::stretch_ends;
-pub use stretch::stretch_occupied;
+fn widened(number: u16) -> u64
+    ensures { λ r. ⌜ r ≡ number ⌝ }
+{
+    number as u64
+}
+
+// The train, or the last train, of block section i, widened: the only place where a cell is read.
+pub fn train_in(cells: &[u16; 15], i: u8) -> u64
+    requires { ⌜ i < 15 ⌝ }
+    ensures { λ r. ⌜ r ≡ getD (now (cells .entry)) i 0 ⌝ }
+{
+    let at = i as usize;
+    widened(cells[at])
+}
+
+// The same of the block section that follows the post of rank j.
+pub fn train_after(cells: &[u16; 15], n: u8, up: bool, j: u8) -> u64
+    requires { ⌜ (j + 1 < n) × (n ≤ 16) ⌝ }
+    ensures { λ r. ⌜ r ≡ getD (now (cells .entry)) (block n up j) 0 ⌝ }
+{
+    train_in(cells, positions::block(n, up, j))
+}
+
+// A train in one of the first m block sections.
+pub fn any_train(m: u8, trains: &[u16; 15]) -> bool
+    requires { ⌜ m ≤ 15 ⌝ }
+    ensures { λ r. ⌜ r ≡ anyTrain m (now (trains .entry)) ⌝ }
+{
+    let mut i = m;
+    while i > 0 {
+        i -= 1;
+        if train_in(trains, i) != 0 {
+            return true;
+        }
+    }
+    false
+}
+
+// That number in one of the first m block sections.
+pub fn has_number(m: u8, number: u64, trains: &[u16; 15]) -> bool
+    requires { ⌜ m ≤ 15 ⌝ }
+    ensures { λ r. ⌜ r ≡ hasNumber m number (now (trains .entry)) ⌝ }
+{
+    let mut i = m;
+    while i > 0 {
+        i -= 1;
+        if train_in(trains, i) == number {
+            return true;
+        }
+    }
+    false
+}
+
+// The train in the block section before the post.
+pub fn train_before(c: Settings, e: Site, trains: &[u16; 15]) -> u64
+    requires { ⌜ (Placed c e) × (atSendingEnd c e ≡ false) ⌝ }
+    ensures { λ r. ⌜ r ≡ getD (now (trains .entry)) (blockBefore c e) 0 ⌝ }
+{
+    train_after(
+        trains,
+        c.posts,
+        positions::is_upward(e.track, e.cvt),
+        rank_at(c, e) - 1,
+    )
+}
+
+// The train, or the last train, of the block section ahead.
+pub fn train_ahead(c: Settings, e: Site, cells: &[u16; 15]) -> u64
+    requires { ⌜ (Placed c e) × (atReceivingEnd c e ≡ false) ⌝ }
+    ensures { λ r. ⌜ r ≡ getD (now (cells .entry)) (blockAhead c e) 0 ⌝ }
+{
+    train_after(
+        cells,
+        c.posts,
+        positions::is_upward(e.track, e.cvt),
+        rank_at(c, e),
+    )
+}
+
+// A train in the part that the post watches.
+pub fn watched_occupied(c: Settings, e: Site, trains: &[u16; 15]) -> bool
+    requires { ⌜ Placed c e ⌝ }
+    ensures { λ r. ⌜ r ≡ watchedOccupied c e (now (trains .entry)) ⌝ }
+{
+    if at_receiving_end(c, e) {
+        return false;
+    }
+    train_ahead(c, e, trains) != 0
+}
+
+// 13 of order: by telephone a train anywhere on the track, materialised one in the part that the post watches.
+pub fn order_occupied(c: Settings, e: Site, trains: &[u16; 15]) -> bool
+    requires { ⌜ Placed c e ⌝ }
+    ensures { λ r. ⌜ r ≡ cond (isMaterialised c) (watchedOccupied c e (now (trains .entry))) (anyTrain (c .posts - 1) (now (trains .entry))) ⌝ }
+{
+    if c.form == 1 {
+        return watched_occupied(c, e, trains);
+    }
+    any_train(c.posts - 1, trains)
+}

@@ -6,6 +6,8 @@ use Rattle.dayfile.specs.declared.Reading.{Reading}
 use Rattle.dayfile.specs.declared.Reading.the-variants.{Day, Refused}
 use Rattle.dayfile.specs.declared.Written.{Written}
 use Rattle.dayfile.specs.declared.Written.the-variants.{Bytes, Refused as NotWritten}
+use Rattle.text.specs.declared.Handed.{Handed}
+use Rattle.text.specs.declared.Handed.the-variants.{Bytes as HandedBytes, TooShort}
 
 -- the refusal × 65,536, and the count of steps or the refusal's index
 unfoldable pub packedReading : Reading → ℕ
@@ -24,3 +26,8 @@ packedWritten (NotWritten number index) = number + index % 2 ^ 32 * 256
 -- CIRCULATION, 8 × TRONÇON and 64 × the permission
 unfoldable pub packedIndications : Indications → ℕ
 packedIndications i = i .circulation + i .troncon * 8 + i .permission * 64
+
+-- the length and 1, or 0 for a buffer too short
+unfoldable pub packedHanded : Handed → ℕ
+packedHanded (HandedBytes length) = length + 1
+packedHanded TooShort = 0

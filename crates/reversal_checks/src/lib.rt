@@ -3,14 +3,13 @@ ghost use mathlib.Core.List.{[]};
 ghost use mathlib.Core.Path.{_≡_};
 ghost use Rattle.section.specs.declared.Settings.{Settings};
 ghost use Rattle.section.specs.declared.Step.the-variants.{Order, Set, Announce, Acknowledge};
-ghost use Rattle.occupancy.specs.Placed.{Placed};
+ghost use Rattle.site_positions.specs.Placed.{Placed};
 ghost use Rattle.conditions.specs.VerdictAt.{verdictAt};
 use conditions::confirmed;
 use conditions::is_settled;
 use conditions::is_turn;
 use conditions::order_allowed;
 use conditions::secured;
-use occupancy::at_sending_end;
 use occupancy::order_occupied;
 use occupancy::watched_occupied;
 use rules::Site;
@@ -18,6 +17,7 @@ use section::Act;
 use section::Said;
 use section::Settings;
 use section::Verdict;
+use site_positions::at_sending_end;
 
 pub fn order(c: Settings, e: Site, trains: &[u16; 15]) -> Verdict
     requires { ⌜ Placed c e ⌝ }

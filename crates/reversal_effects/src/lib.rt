@@ -2,7 +2,7 @@
 ghost use mathlib.Core.Path.{_≡_};
 ghost use Rattle.rules.specs.Site.{nextPost};
 ghost use Rattle.rules.specs.Table.{setting, effect};
-ghost use Rattle.occupancy.specs.Placed.{Placed};
+ghost use Rattle.site_positions.specs.Placed.{Placed};
 ghost use Rattle.reversal_effects.specs.Walking.{walking, HasAhead};
 use rules::Effect;
 use rules::Movement;
@@ -34,7 +34,7 @@ pub fn setting(c: Settings, e: Site, own: Post) -> Effect
 {
     let cvt = e.cvt;
     let turned = own.turned(!cvt).marked(false);
-    if occupancy::at_receiving_end(c, e) {
+    if site_positions::at_receiving_end(c, e) {
         return Effect {
             own: turned.permitted(true),
             walk: Walk::Settled,

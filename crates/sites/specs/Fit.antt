@@ -7,7 +7,7 @@ use Rattle.section.specs.Numbers.{mostSeals}
 use Rattle.section.specs.Range.{walkFits}
 use Rattle.rules.specs.declared.Site.{Site}
 use Rattle.rules.specs.Site.{upAt}
-use Rattle.occupancy.specs.Placed.{Placed}
+use Rattle.site_positions.specs.Placed.{Placed}
 
 pub record Fit (c : Settings) (e : Site) : Type 0 where
   pub placed : Placed c e

@@ -4,6 +4,13 @@ ghost use mathlib.Core.List.{[], _∷_};
 ghost use Prim.Native.Nat.{_+_, _<_, _≤_};
 ghost use lib.ListN.{length};
 ghost use Rattle.text.specs.Text.{digits, decimal, written};
+ghost use Rattle.text.specs.Handed.{handed, handedOver};
+
+// How many bytes were put at the front of a buffer, or that it is too short for them.
+pub enum Handed {
+    Bytes(usize),
+    TooShort,
+}
 
 // Writes a byte, and returns the next place.
 pub fn put_byte(buffer: &mut [u8], at: usize, byte: u8) -> usize
@@ -49,4 +56,16 @@ pub fn put_decimal(buffer: &mut [u8], at: usize, x: usize) -> usize
     ensures { λ _. ⌜ now (buffer .exit) ≡ written (now (buffer .entry)) at (decimal x) ⌝ }
 {
     put_digits(buffer, at, 5, x)
+}
+
+// Puts a text at the front of the buffer, if it is long enough.
+pub fn hand_over(text: &[u8], buffer: &mut [u8]) -> Handed
+    ensures { λ r. ⌜ r ≡ handed (now (text .entry)) (now (buffer .entry)) ⌝ }
+    ensures { λ _. ⌜ now (buffer .exit) ≡ handedOver (now (text .entry)) (now (buffer .entry)) ⌝ }
+{
+    if buffer.len() < text.len() {
+        return Handed::TooShort;
+    }
+    put_text(buffer, 0, text);
+    Handed::Bytes(text.len())
 }

@@ -4,7 +4,7 @@ use mathlib.Core.Path.{_≡_, sym, _∙_, ap}
 use mathlib.Core.Bool.{true, false}
 use native.Mathlib.Omega.{arith}
 use lib.ListN.{length, length-replicate}
-use Rattle.agreement.proofs.Handed.{within, longer, part}
+use Rattle.text.proofs.HandedOver.{within, longer, part}
 use borrow.Author.Needs.{needs}
 use Rattle.agreement.proofs.agrees.Statement.{statement}
 use Rattle.agreement.proofs.agrees.Tie as tie
@@ -18,8 +18,8 @@ slice-aggregate-make c = search needs
 make-requires : tie.Need-make-requires
 make-requires c κs = search needs
 
-enum-known-listed : tie.Need-enum-known-listed
-enum-known-listed c = search needs
+enum-known-handed : tie.Need-enum-known-handed
+enum-known-handed c = search needs
 
 sub-same : tie.Need-sub-same
 sub-same c = search needs
@@ -30,7 +30,7 @@ part-same-start c = search needs
 part-same-end : tie.Need-part-same-end
 part-same-end c =
     let m = c .before .before .before .before .before .make in
-    within _ _ _ (m .ensures .0) _ _ (c .before .before .listed .given .1) (m .ensures .1)
+    within _ _ _ (m .ensures .0) _ _ (c .before .before .handed .given .1) (m .ensures .1)
 
 same-requires : tie.Need-same-requires
 same-requires c κs = search needs
@@ -41,7 +41,7 @@ enum-told c = search needs
 returns : tie.Need-returns
 returns c =
     let m = c .before .before .before .before .before .before .before .make in
-    let p = part _ _ _ (m .ensures .0) _ _ (c .before .before .before .before .listed .given .1) (m .ensures .1) in
+    let p = part _ _ _ (m .ensures .0) _ _ (c .before .before .before .before .handed .given .1) (m .ensures .1) in
     ((λ t. sym p ∙ c .same .ensures .0 t), (λ e. c .same .ensures .1 (p ∙ e)))
 
 returns-2 : tie.Need-returns-2
@@ -58,7 +58,7 @@ agrees-spec =
     sheet-room-requires
     slice-aggregate-make
     make-requires
-    enum-known-listed
+    enum-known-handed
     sub-same
     part-same-start
     part-same-end

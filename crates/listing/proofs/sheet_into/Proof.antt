@@ -5,7 +5,7 @@ use native.Mathlib.Omega.{arith}
 use denote.Ref.{now}
 use Rattle.sheets.specs.Printed.{printed}
 use Rattle.sheets.specs.Sheet.{lineOn}
-use Rattle.listing.proofs.Handed.{front-fits, front-taken, put-at-once}
+use Rattle.listing.proofs.Front.{front-fits, front-taken, put-at-once}
 use Rattle.sheets.proofs.Days.{most-room}
 use Rattle.listing.proofs.sheet_into.Statement.{statement}
 use Rattle.listing.proofs.sheet_into.Tie as tie

@@ -2,7 +2,7 @@
 use borrow.Author.Needs.{needs}
 use denote.Ref.{now}
 use Rattle.listing.specs.Panel.{panel}
-use Rattle.listing.proofs.Handed.{bytes-counted}
+use Rattle.text.proofs.HandedOver.{bytes-counted}
 use Rattle.panel.proofs.print.Statement.{statement}
 use Rattle.panel.proofs.print.Tie as tie
 
@@ -25,7 +25,7 @@ array-share-prefix-text c =
     let at-panel-room = at-panel .before .before in
     let entry = at-panel-room .before .before in
     let r = at-panel .panel in
-    bytes-counted (panel (now (entry .args .file))) (at-panel-room .panel-room .result) (r .last .1 .0) _ _ (r .ensures .0) (at-n .n .given .1)
+    bytes-counted (panel (now (entry .args .file))) (at-panel-room .panel-room .result) _ (r .ensures .0) (r .last .1 .0) _ (at-n .n .given .1)
     (r .kept .1 .0) .0
 
 slice-aggregate-write-all : tie.Need-slice-aggregate-write-all
@@ -35,7 +35,7 @@ slice-aggregate-write-all c =
     let at-panel-room = at-panel .before .before in
     let entry = at-panel-room .before .before in
     let r = at-panel .panel in
-    bytes-counted (panel (now (entry .args .file))) (at-panel-room .panel-room .result) (r .last .1 .0) _ _ (r .ensures .0) (at-n .n .given .1)
+    bytes-counted (panel (now (entry .args .file))) (at-panel-room .panel-room .result) _ (r .ensures .0) (r .last .1 .0) _ (at-n .n .given .1)
     (r .kept .1 .0) .1
 
 write-all-requires : tie.Need-write-all-requires

@@ -9,7 +9,7 @@ use Rattle.rules.specs.Site.{occupancyAt}
 use Rattle.rules.specs.Table.{checks, effect}
 use Rattle.conditions.specs.VerdictAt.{rowAt}
 use Rattle.conditions.proofs.Laws.{Through, none, then, accepted, refused}
-use Rattle.occupancy.proofs.Laws.{receiving-not-sending}
+use Rattle.site_positions.proofs.Laws.{receiving-not-sending}
 use Rattle.checks.proofs.train_steps.leave.Statement.{statement}
 use Rattle.checks.proofs.train_steps.leave.Tie as tie
 

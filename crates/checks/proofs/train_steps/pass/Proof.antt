@@ -10,7 +10,7 @@ use Rattle.rules.specs.Site.{occupancyAt}
 use Rattle.rules.specs.Table.{checks, effect}
 use Rattle.conditions.specs.VerdictAt.{rowAt}
 use Rattle.conditions.proofs.Laws.{Through, none, then, accepted, refused}
-use Rattle.occupancy.proofs.Laws.{or-false}
+use Rattle.site_positions.proofs.Laws.{or-false}
 use Rattle.checks.proofs.train_steps.pass.Statement.{statement}
 use Rattle.checks.proofs.train_steps.pass.Tie as tie
 

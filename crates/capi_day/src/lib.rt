@@ -1,0 +1,34 @@
+// The C interface to the steps of a day: for the comparison with a second implementation and for its benchmark.
+// It is not stable: names and the notes' layout may change with any delivery.
+ghost use mathlib.Core.Path.{_≡_};
+ghost use lib.ListN.{length};
+ghost use Rattle.capi_day.specs.Day.{dayAnswer, dayNotes};
+ghost use Rattle.packed.specs.Settings.{settingsGiven};
+use notes::NOTE_LENGTH;
+use packed::settings_given;
+use section::STEP_LENGTH;
+
+// Judges the whole steps, offered one after another from fresh, and writes the note of each, from the buffer's front on.
+#[no_mangle]
+pub extern "C" fn bsr_day(
+    n: u8,
+    form: u8,
+    mask: u16,
+    line: u16,
+    steps: &[u8],
+    buffer: &mut [u8],
+) -> u8
+    ensures { λ r. ⌜ r ≡ dayAnswer (settingsGiven n form mask line) (now (steps .entry)) (length (now (buffer .entry))) ⌝ }
+    ensures { λ _. ⌜ now (buffer .exit) ≡ dayNotes (settingsGiven n form mask line) (now (steps .entry)) (now (buffer .entry)) ⌝ }
+{
+    let c = settings_given(n, form, mask, line);
+    if !settings_range::settings_right(c) {
+        return 6;
+    }
+    let count = steps.len() / STEP_LENGTH;
+    if buffer.len() < NOTE_LENGTH * count {
+        return 5;
+    }
+    whole_day::note_day(c, steps, count, buffer);
+    0
+}

@@ -1,0 +1,30 @@
+-- A post that is not the sending end has a block section before it.
+use native.Mathlib.Omega.{arith}
+use borrow.Author.Needs.{needs}
+use Rattle.site_positions.proofs.Laws.{block-before, rank-placed}
+use Rattle.occupancy.proofs.train_before.Statement.{statement}
+use Rattle.occupancy.proofs.train_before.Tie as tie
+
+is-upward-requires : tie.Need-is-upward-requires
+is-upward-requires c κs = search needs
+
+rank-at-requires : tie.Need-rank-at-requires
+rank-at-requires c κs = search needs
+
+sub-train-after : tie.Need-sub-train-after
+sub-train-after c =
+    let h = c .before .before .pre in
+    omega (arith, c .rank-at .ensures, block-before (h .0) (h .1))
+
+train-after-requires : tie.Need-train-after-requires
+train-after-requires c κs =
+    let h = c .before .before .pre in
+    (omega (arith, c .rank-at .ensures, block-before (h .0) (h .1), rank-placed (h .0)), h .0 .most)
+
+returns : tie.Need-returns
+returns c = rw (c .train-after .ensures, c .before .rank-at .ensures, c .before .before .is-upward .ensures)
+
+pub train-before-spec : {M : Type 1} → statement M
+train-before-spec =
+    tie.close
+    (tie.spec is-upward-requires rank-at-requires sub-train-after train-after-requires returns)

@@ -1,0 +1,26 @@
+use native.Mathlib.Omega.{arith}
+use Rattle.packed.specs.Packed.{packedHanded}
+use borrow.Author.Needs.{needs}
+use Rattle.packed.proofs.packed_handed.Statement.{statement}
+use Rattle.packed.proofs.packed_handed.Tie as tie
+
+enum-known-done : tie.Need-enum-known-done
+enum-known-done c = search needs
+
+add-result : tie.Need-add-result
+unfolding packedHanded
+add-result c = let h = rw (c .before .done .given .1) at (c .before .before .before .pre) in omega arith
+
+enum-told : tie.Need-enum-told
+enum-told c = search needs
+
+returns : tie.Need-returns
+unfolding packedHanded
+returns c = rw (c .before .done .given .1)
+
+returns-2 : tie.Need-returns-2
+unfolding packedHanded
+returns-2 c = simp (c .enum-told .given .1)
+
+pub packed-handed-spec : {M : Type 1} → statement M
+packed-handed-spec = tie.close (tie.spec enum-known-done add-result enum-told returns returns-2)

@@ -1,0 +1,20 @@
+-- The search from the rank of the post.
+use native.Mathlib.Omega.{arith}
+use borrow.Author.Needs.{needs}
+use Rattle.rules.specs.Site.{occupancyAt}
+use Rattle.site_positions.proofs.Laws.{rank-placed}
+use Rattle.stretches.proofs.stretch_occupied.Statement.{statement}
+use Rattle.stretches.proofs.stretch_occupied.Tie as tie
+
+rank-at-requires : tie.Need-rank-at-requires
+rank-at-requires c κs = search needs
+
+stretch-holds-requires : tie.Need-stretch-holds-requires
+stretch-holds-requires c κs = (omega (arith, c .rank-at .ensures, rank-placed (c .before .pre)), c .before .pre .most)
+
+returns : tie.Need-returns
+unfolding occupancyAt
+returns c = rw (← (c .before .rank-at .ensures)) (c .stretch-holds .ensures)
+
+pub stretch-occupied-spec : {M : Type 1} → statement M
+stretch-occupied-spec = tie.close (tie.spec rank-at-requires stretch-holds-requires returns)

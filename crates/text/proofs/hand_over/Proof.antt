@@ -1,0 +1,31 @@
+-- By cases of the test of the lengths.
+use borrow.Author.Needs.{needs}
+use denote.Ref.{now}
+use mathlib.Core.Path.{refl, _∙_}
+use borrow.Author.Tests.{le-leb, lt-leb}
+use Rattle.text.specs.Handed.{handed, handedOver}
+use Rattle.text.proofs.Laws.{at-front}
+use Rattle.text.proofs.hand_over.Statement.{statement}
+use Rattle.text.proofs.hand_over.Tie as tie
+
+returns : tie.Need-returns
+unfolding handed handedOver
+returns c = rw (lt-leb _ _ (c .if1 .taken)) (refl, refl)
+
+put-text-requires : tie.Need-put-text-requires
+put-text-requires c κs = search needs
+
+same-length : tie.Need-same-length
+same-length c = search needs
+
+returns-2 : tie.Need-returns-2
+unfolding handed handedOver
+returns-2 c =
+    let at-put-text = c .before .before in
+    let at-if1 = at-put-text .before .before in
+    let entry = at-if1 .before .before .before in
+    let a = entry .args in
+    rw (le-leb _ _ (at-if1 .if1 .left)) (refl, at-put-text .put-text .ensures .1 ∙ at-front (now (a .buffer)) (now (a .text)))
+
+pub hand-over-spec : {M : Type 1} → statement M
+hand-over-spec = tie.close (tie.spec returns put-text-requires same-length returns-2)
