@@ -10,22 +10,22 @@ use Rattle.section.specs.declared.Section.{Section}
 use Rattle.section.specs.declared.TrackStep.{TrackStep}
 use Rattle.section.specs.declared.Decoded.the-variants.{Well}
 use Rattle.section.specs.Step.{decoded, postOf}
-use Rattle.section.specs.Store.{trackOf, withTrack}
-use Rattle.rules.specs.declared.Site.{Site}
+use Rattle.section.specs.Store.{trackOf, withTrack, postOn}
 use Rattle.rules.specs.Judge.{judgeInRange}
 use Rattle.sites.specs.declared.Running.{Running}
 use Rattle.sites.specs.Running.{runningOf}
 use Rattle.table.specs.declared.Judged.{Judged}
-use Rattle.table.specs.Judged.{judgedAt, trainsAt, lastAt, trackAt, siteIn}
+use Rattle.table.specs.Judged.{judgedAt, trainsAt, lastAt, trackAt, siteFor}
 use Rattle.table.proofs.OnTrack as on-track
 use Rattle.judging.specs.declared.TrackAnswer.{TrackAnswer}
 use Rattle.judging.specs.OnTrack.{trackAnswer}
 
 -- what the step leaves, put in its places
 pub put-back :
-    (c : Settings) (x : TrackStep) (t : Track) (other : Running) {p : ℕ} {e : Site} {j : Judged} {trains last : List ℕ} → p ≡ postOf (x .step)
-    → e ≡ siteIn x t other → j ≡ judgedAt c (x .step) e (t .trains) (t .last) → trains ≡ trainsAt c (x .step) e (t .trains) (t .last)
-    → last ≡ lastAt c (x .step) e (t .trains) (t .last)
+    (c : Settings) (x : TrackStep) (t : Track) (other : Running) {p : ℕ} {j : Judged} {trains last : List ℕ} → p ≡ postOf (x .step)
+    → j ≡ judgedAt c (x .step) (siteFor x (postOn t p) (runningOf t) other) (t .trains) (t .last)
+    → trains ≡ trainsAt c (x .step) (siteFor x (postOn t p) (runningOf t) other) (t .trains) (t .last)
+    → last ≡ lastAt c (x .step) (siteFor x (postOn t p) (runningOf t) other) (t .trains) (t .last)
     → record {
       verdict = j .verdict;
       track = record {
@@ -37,7 +37,7 @@ pub put-back :
       };
     } ≡ trackAnswer c x t other
 unfolding trackAnswer trackAt
-put-back c x t other ep es ej et el = rw (ep, ej, et, el, es)
+put-back c x t other ep ej et el = rw (ej, et, el, ep)
 
 -- the section with the track that is put back
 pub judged :

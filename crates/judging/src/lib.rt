@@ -27,8 +27,7 @@ fn judge_on_track(c: Settings, x: TrackStep, t: Track, other: Running) -> TrackA
     ensures { λ r. ⌜ r ≡ trackAnswer c x t other ⌝ }
 {
     let step = x.step;
-    let post = sites::post_of(step);
-    let at = post as usize;
+    let at = sites::post_of(step) as usize;
     let own = t.posts[at];
     let walk = t.walk;
     let running = Running {
@@ -37,8 +36,7 @@ fn judge_on_track(c: Settings, x: TrackStep, t: Track, other: Running) -> TrackA
     };
     let mut trains = t.trains;
     let mut last = t.last;
-    let e = sites::site(x.track, post, own, running, other);
-    let judged = table::judge_at(c, step, e, &mut trains, &mut last);
+    let judged = table::judge_step(c, x, own, running, other, &mut trains, &mut last);
     let told = judged.verdict;
     let own_after = judged.own;
     let after = judged.running;

@@ -22,21 +22,21 @@ use Rattle.section.specs.Step.{decoded, postOf}
 use Rattle.section.specs.Store.{trackOf, withTrack, postOn}
 use Rattle.section.proofs.Laws.{settings-in-range, track-in-range}
 use Rattle.rules.specs.declared.Site.{Site}
-use Rattle.rules.specs.Site.{settledVns, siteOn}
+use Rattle.rules.specs.Site.{settledVns}
 use Rattle.rules.specs.Table.{trackAfter}
 use Rattle.rules.specs.Judge.{answerOf, siteOf, verdictOn, sectionAfter, judgeStep, judgeDecoded, judgeInRange}
 use Rattle.conditions.specs.VerdictAt.{verdictAt}
 use Rattle.sites.specs.declared.Running.{Running}
-use Rattle.sites.specs.Running.{runningOf, siteWith}
+use Rattle.sites.specs.Running.{runningOf}
 use Rattle.sites.specs.Fit.{Fit}
 use Rattle.sites.proofs.Laws.{fit-on}
-use Rattle.table.specs.Judged.{judgedOf, cellsOf, judgedAt, trainsAt, lastAt, trackAt, siteIn}
+use Rattle.table.specs.Judged.{judgedOf, cellsOf, judgedAt, trainsAt, lastAt, trackAt, siteFor, siteIn}
 
--- the site that the code puts together
+-- the site at the post that the code has found
 pub site-in :
-    (x : TrackStep) (t : Track) (other : Running) {p : ℕ} {e : Site} → p ≡ postOf (x .step)
-    → e ≡ siteWith (x .track) p (postOn t p) (runningOf t) other → e ≡ siteIn x t other
-site-in x t other ep es = es ∙ ap (λ (q : ℕ). siteOn (settledVns (other .walk) (other .cvt)) (x .track) q t) ep
+    (x : TrackStep) (t : Track) (other : Running) {p : ℕ} → p ≡ postOf (x .step)
+    → siteFor x (postOn t p) (runningOf t) other ≡ siteIn x t other
+site-in x t other ep = ap (λ (q : ℕ). siteFor x (postOn t q) (runningOf t) other) ep
 
 -- a track put back as it was
 same-track : (s : Section) (k : Bool) → withTrack s k (trackOf s k) ≡ s

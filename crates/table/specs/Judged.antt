@@ -2,6 +2,7 @@
 use Prim.Native.Nat.{ℕ}
 use mathlib.Core.List.{List}
 use lib.ListN.{set}
+use Rattle.section.specs.declared.Post.{Post}
 use Rattle.section.specs.declared.Settings.{Settings}
 use Rattle.section.specs.declared.Step.{Step}
 use Rattle.section.specs.declared.Track.{Track}
@@ -14,6 +15,7 @@ use Rattle.rules.specs.declared.Site.{Site}
 use Rattle.rules.specs.Site.{settledVns, siteOn}
 use Rattle.rules.specs.Table.{effect, trainsAfter, lastAfter}
 use Rattle.sites.specs.declared.Running.{Running}
+use Rattle.sites.specs.Running.{siteWith}
 use Rattle.conditions.specs.VerdictAt.{verdictAt}
 use Rattle.table.specs.declared.Judged.{Judged}
 
@@ -49,6 +51,10 @@ trackAt c x e t = record {
   cvt = judgedAt c x e (t .trains) (t .last) .running .cvt;
   walk = judgedAt c x e (t .trains) (t .last) .running .walk;
 }
+
+-- the site of a step at a post with that record, on a track that runs so beside the other
+abbrev pub siteFor : TrackStep → Post → Running → Running → Site
+siteFor x own running other = siteWith (x .track) (postOf (x .step)) own running other
 
 -- the site of a step on its own track; of the other track the running direction and the walk count
 abbrev pub siteIn : TrackStep → Track → Running → Site

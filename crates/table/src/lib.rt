@@ -1,11 +1,12 @@
 // A step judged by the table at its site: the checks, then what an accepted step does.
 ghost use mathlib.Core.Path.{_≡_};
 ghost use Rattle.sites.specs.Fit.{Fit};
-ghost use Rattle.table.specs.Judged.{asBefore, judgedAt, trainsAt, lastAt};
+ghost use Rattle.table.specs.Judged.{asBefore, judgedAt, trainsAt, lastAt, siteFor};
 use rules::Site;
 use section::Post;
 use section::Settings;
 use section::Step;
+use section::TrackStep;
 use section::Verdict;
 use sites::Running;
 
@@ -33,7 +34,7 @@ fn as_before(verdict: Verdict, e: Site) -> Judged
 }
 
 // Judges a step at its site, and moves its train where it is accepted.
-pub fn judge_at(
+fn judge_at(
     c: Settings,
     x: Step,
     e: Site,
@@ -65,4 +66,24 @@ pub fn judge_at(
         }
         Verdict::Refused(_) => as_before(verdict, e),
     }
+}
+
+// Judges a step at its post, which keeps that record, on a track that runs so beside the other.
+pub fn judge_step(
+    c: Settings,
+    x: TrackStep,
+    own: Post,
+    running: Running,
+    other: Running,
+    trains: &mut [u16; 15],
+    last: &mut [u16; 15],
+) -> Judged
+    requires { ⌜ Fit c (siteFor x own running other) ⌝ }
+    ensures { λ r. ⌜ r ≡ judgedAt c (x .step) (siteFor x own running other) (now (trains .entry)) (now (last .entry)) ⌝ }
+    ensures { λ _. ⌜ now (trains .exit) ≡ trainsAt c (x .step) (siteFor x own running other) (now (trains .entry)) (now (last .entry)) ⌝ }
+    ensures { λ _. ⌜ now (last .exit) ≡ lastAt c (x .step) (siteFor x own running other) (now (trains .entry)) (now (last .entry)) ⌝ }
+{
+    let step = x.step;
+    let e = sites::site(x.track, sites::post_of(step), own, running, other);
+    judge_at(c, step, e, trains, last)
 }

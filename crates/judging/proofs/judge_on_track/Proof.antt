@@ -18,15 +18,11 @@ mul-own c = search needs
 element-copy-out-own : tie.Need-element-copy-out-own
 element-copy-out-own c = search needs
 
-site-requires : tie.Need-site-requires
-site-requires c κs = search needs
-
-judge-at-requires : tie.Need-judge-at-requires
-judge-at-requires c κs =
-    let site = c .before .before in
-    let post = site .before .before .before .before in
+judge-step-requires : tie.Need-judge-step-requires
+judge-step-requires c κs =
+    let post = c .before .before .before .before .before in
     let a = post .before .args in
-    subst (Fit (a .c)) (sym (site-in (a .x) (a .t3) (a .other) (post .post-of .ensures) (site .site .ensures))) (post .before .pre)
+    subst (Fit (a .c)) (sym (site-in (a .x) (a .t3) (a .other) (post .post-of .ensures))) (post .before .pre)
 
 mul-posts : tie.Need-mul-posts
 mul-posts c = search needs
@@ -37,14 +33,12 @@ array-set-from-posts c = search needs
 returns : tie.Need-returns
 returns c =
     let judged = c .before .before .before in
-    let site = judged .before .before .before in
-    let post = site .before .before .before .before in
+    let post = judged .before .before .before .before .before .before in
     let a = post .before .args in
     put-back (a .c) (a .x) (a .t3) (a .other) (post .post-of .ensures)
-    (site-in (a .x) (a .t3) (a .other) (post .post-of .ensures) (site .site .ensures))
-    (judged .judge-at .ensures .0)
-    (judged .judge-at .ensures .1 .0)
-    (judged .judge-at .ensures .1 .1)
+    (judged .judge-step .ensures .0)
+    (judged .judge-step .ensures .1 .0)
+    (judged .judge-step .ensures .1 .1)
 
 pub judge-on-track-spec : {M : Type 1} → statement M
 judge-on-track-spec =
@@ -54,8 +48,7 @@ judge-on-track-spec =
     cast-at
     mul-own
     element-copy-out-own
-    site-requires
-    judge-at-requires
+    judge-step-requires
     mul-posts
     array-set-from-posts
     returns)
