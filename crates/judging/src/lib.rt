@@ -26,8 +26,7 @@ fn judge_on_track(c: Settings, x: TrackStep, t: Track, other: Running) -> TrackA
     requires { ⌜ Fit c (siteIn x t other) ⌝ }
     ensures { λ r. ⌜ r ≡ trackAnswer c x t other ⌝ }
 {
-    let step = x.step;
-    let at = sites::post_of(step) as usize;
+    let at = sites::place_of(x);
     let own = t.posts[at];
     let walk = t.walk;
     let running = Running {

@@ -6,6 +6,7 @@ ghost use Rattle.sites.specs.Running.{siteWith};
 use rules::Site;
 use section::Post;
 use section::Step;
+use section::TrackStep;
 use section::Walk;
 
 // A track's running direction (true for CVT) and its walk.
@@ -32,6 +33,14 @@ pub fn post_of(x: Step) -> u8
         Step::Release { post, number: _ } => post,
         Step::Key { post } => post,
     }
+}
+
+// The place of a step's post among its track's.
+pub fn place_of(x: TrackStep) -> usize
+    ensures { λ r. ⌜ r ≡ postOf (x .step) ⌝ }
+{
+    let step = x.step;
+    post_of(step) as usize
 }
 
 // A track with that running direction and walk is settled on VNS.

@@ -34,13 +34,7 @@ fn as_before(verdict: Verdict, e: Site) -> Judged
 }
 
 // Judges a step at its site, and moves its train where it is accepted.
-fn judge_at(
-    c: Settings,
-    x: Step,
-    e: Site,
-    trains: &mut [u16; 15],
-    last: &mut [u16; 15],
-) -> Judged
+fn judge_at(c: Settings, x: Step, e: Site, trains: &mut [u16; 15], last: &mut [u16; 15]) -> Judged
     requires { ⌜ Fit c e ⌝ }
     ensures { λ r. ⌜ r ≡ judgedAt c x e (now (trains .entry)) (now (last .entry)) ⌝ }
     ensures { λ _. ⌜ now (trains .exit) ≡ trainsAt c x e (now (trains .entry)) (now (last .entry)) ⌝ }

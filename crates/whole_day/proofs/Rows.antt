@@ -1,7 +1,7 @@
 -- The cells of the two tracks, side by side, before and after a step.
 use Prim.Native.Nat.{ℕ, _-_}
 use mathlib.Core.Bool.{Bool, true, false, cond, not}
-use mathlib.Core.List.{List, [], _∷_}
+use mathlib.Core.List.{List, []}
 use mathlib.Core.Path.{_≡_, refl, sym, _∙_, ap, subst}
 use native.Mathlib.Omega.{arith}
 use lib.ListN.{length, getD, set, length-set}
@@ -16,14 +16,13 @@ use Rattle.section.specs.Post.{blank}
 use Rattle.section.specs.Range.{inRange}
 use Rattle.section.specs.Step.{decoded, postOf}
 use Rattle.section.specs.Store.{trackOf, withTrack, postOn}
-use Rattle.lines.specs.Text.{letter}
 use Rattle.rules.specs.declared.Site.{Site}
 use Rattle.rules.specs.Judge.{siteOf, judgeInRange}
 use Rattle.sites.specs.declared.Running.{Running}
-use Rattle.sites.specs.Running.{runningOf, siteWith}
+use Rattle.sites.specs.Running.{runningOf}
 use Rattle.sites.specs.Fit.{Fit}
 use Rattle.table.specs.declared.Judged.{Judged}
-use Rattle.table.specs.Judged.{judgedAt, trainsAt, lastAt, trackAt}
+use Rattle.table.specs.Judged.{judgedAt, trainsAt, lastAt, trackAt, siteFor}
 use Rattle.table.proofs.OnTrack.{site-in, step-judged, fit, judged}
 use Rattle.whole_day.specs.Rows.{row, settled}
 
@@ -50,25 +49,6 @@ module _ {A : Type 0} (l : List A) (v d : A) (two : length l ≡ 2) where
   kept-b : (k : Bool) → getD (set l (row k) v) 1 d ≡ cond k v (getD l 1 d)
   kept-b true = getD-set-same l 1 v d (omega arith)
   kept-b false = getD-set-other l 0 1 v d (λ e. omega arith)
-
--- the letters of the two tracks
-abbrev pub letterAt : List Running → ℕ → ℕ
-letterAt running k = letter (getD running k settled .walk) (getD running k settled .cvt)
-
-abbrev pub lettersOf : List Running → List ℕ
-lettersOf running = letterAt running 0 ∷ (letterAt running 1 ∷ [])
-
-letters-after :
-    (running : List Running) (r : Running) → length running ≡ 2 → (k : Bool)
-    → set (lettersOf running) (row k) (letter (r .walk) (r .cvt)) ≡ lettersOf (set running (row k) r)
-letters-after running r two true = rw (kept-a running r settled two true, kept-b running r settled two true) refl
-letters-after running r two false = rw (kept-a running r settled two false, kept-b running r settled two false) refl
-
--- the letter that the code writes at the track's place
-pub letters-at :
-    (track : Bool) (running : List Running) (r : Running) → length running ≡ 2 → {k l : ℕ} {letters : List ℕ} → k ≡ row track
-    → letters ≡ lettersOf running → l ≡ letter (r .walk) (r .cvt) → set letters k l ≡ lettersOf (set running k r)
-letters-at track running r two ek shown el = rw (shown, el, ek) (letters-after running r two track)
 
 module _
     (posts : List (List Post))
@@ -137,48 +117,47 @@ module _
   -- ## A well-formed step
 
   module _ (bytes : List ℕ) (x : TrackStep) (well : decoded (c .posts) bytes ≡ Well x) {k p : ℕ} (ek : k ≡ row (x .track)) (ep : p ≡ postOf (x .step)) where
-    -- the site that the code puts together
-    pub site-at :
-        {e : Site} → e ≡ siteWith (x .track) p (getD (getD posts k []) p blank) (getD running k settled) (getD running (1 - k) settled)
-        → e ≡ siteOf s x
-    site-at es =
+    -- the site, of what stands at the places of its track and its post
+    abbrev site : Site
+    site = siteFor x (getD (getD posts k []) p blank) (getD running k settled) (getD running (1 - k) settled)
+
+    here : trackIn posts trains last running k ≡ trackOf s (x .track)
+    here = ap (trackIn posts trains last running) ek ∙ own-row (x .track)
+
+    site-at : site ≡ siteOf s x
+    site-at =
         let own = trackOf s (x .track) in
         let other = runningOf (trackOf s (not (x .track))) in
-        let here : trackIn posts trains last running k ≡ own = ap (trackIn posts trains last running) ek ∙ own-row (x .track) in
         let there : getD running (1 - k) settled ≡ other = ap (λ (i : ℕ). getD running (1 - i) settled) ek ∙ other-row (x .track) in
-        site-in x own other ep (
-        es ∙ (ap (λ (t : Track). siteWith (x .track) p (postOn t p) (runningOf t) (getD running (1 - k) settled)) here
-        ∙ ap (siteWith (x .track) p (postOn own p) (runningOf own)) there)
-        )
+        ap (λ (t : Track). siteFor x (postOn t p) (runningOf t) (getD running (1 - k) settled)) here
+        ∙ (ap (siteFor x (postOn own p) (runningOf own)) there ∙ site-in x own other ep)
 
-    pub fit-at : inRange s ≡ true → {e : Site} → e ≡ siteOf s x → Fit c e
-    fit-at h es = subst (Fit c) (sym es) (fit s bytes x well h (runningOf (trackOf s (not (x .track)))))
+    pub fit-at : inRange s ≡ true → Fit c site
+    fit-at h = subst (Fit c) (sym site-at) (fit s bytes x well h (runningOf (trackOf s (not (x .track)))))
 
     -- what the step leaves, written at its track's place
     pub judged-at :
-        Two → {e : Site} {j : Judged} {moved noted : List ℕ} → e ≡ siteOf s x
-        → j ≡ judgedAt c (x .step) e (getD trains k []) (getD last k [])
-        → moved ≡ trainsAt c (x .step) e (getD trains k []) (getD last k [])
-        → noted ≡ lastAt c (x .step) e (getD trains k []) (getD last k [])
+        Two → {j : Judged} {moved noted : List ℕ} → j ≡ judgedAt c (x .step) site (getD trains k []) (getD last k [])
+        → moved ≡ trainsAt c (x .step) site (getD trains k []) (getD last k [])
+        → noted ≡ lastAt c (x .step) site (getD trains k []) (getD last k [])
         → record {
           verdict = j .verdict;
           section =
               sectionIn (set posts k (set (getD posts k []) p (j .own))) (set trains k moved) (set last k noted) (set running k (j .running)) c;
         } ≡ judgeInRange s bytes
     unfolding trackAt
-    judged-at two {e} {j} {moved} {noted} es ej em en =
+    judged-at two {j} {moved} {noted} ej em en =
         let t = trackOf s (x .track) in
         let after = trackAt c (x .step) (siteOf s x) t in
-        let here : trackIn posts trains last running k ≡ t = ap (trackIn posts trains last running) ek ∙ own-row (x .track) in
         let gives : j ≡ judgedAt c (x .step) (siteOf s x) (t .trains) (t .last) =
-        ej ∙ (ap (λ (u : Track). judgedAt c (x .step) e (u .trains) (u .last)) here
-        ∙ ap (λ (f : Site). judgedAt c (x .step) f (t .trains) (t .last)) es) in
+        ej ∙ (ap (λ (u : Track). judgedAt c (x .step) site (u .trains) (u .last)) here
+        ∙ ap (λ (f : Site). judgedAt c (x .step) f (t .trains) (t .last)) site-at) in
         let moves : moved ≡ after .trains =
-        em ∙ (ap (λ (u : Track). trainsAt c (x .step) e (u .trains) (u .last)) here
-        ∙ ap (λ (f : Site). trainsAt c (x .step) f (t .trains) (t .last)) es) in
+        em ∙ (ap (λ (u : Track). trainsAt c (x .step) site (u .trains) (u .last)) here
+        ∙ ap (λ (f : Site). trainsAt c (x .step) f (t .trains) (t .last)) site-at) in
         let notes : noted ≡ after .last =
-        en ∙ (ap (λ (u : Track). lastAt c (x .step) e (u .trains) (u .last)) here
-        ∙ ap (λ (f : Site). lastAt c (x .step) f (t .trains) (t .last)) es) in
+        en ∙ (ap (λ (u : Track). lastAt c (x .step) site (u .trains) (u .last)) here
+        ∙ ap (λ (f : Site). lastAt c (x .step) f (t .trains) (t .last)) site-at) in
         let records : set (getD posts k []) p (j .own) ≡ after .posts =
         ap (λ (u : Track). set (u .posts) p (j .own)) here
         ∙ (ap (λ (q : ℕ). set (t .posts) q (j .own)) ep ∙ ap (λ (i : Judged). set (t .posts) (postOf (x .step)) (i .own)) gives) in

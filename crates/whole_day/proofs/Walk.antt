@@ -1,11 +1,10 @@
 -- The walk over a day: the rows are the cells of the section that the steps so far have left, and their notes are written.
 use Prim.Native.Nat.{ℕ, _+_, _*_, _≤_, _<_}
-use Prim.Native.Char.{code}
 use mathlib.Core.Bool.{true}
 use mathlib.Core.List.{List}
 use mathlib.Core.Path.{_≡_, refl, sym, _∙_, ap, subst}
 use native.Mathlib.Omega.{arith}
-use lib.ListN.{length, getD, replicate}
+use lib.ListN.{length, replicate}
 use Rattle.section.specs.declared.Answer.{Answer}
 use Rattle.section.specs.declared.Settings.{Settings}
 use Rattle.section.specs.declared.Post.{Post}
@@ -22,16 +21,16 @@ use Rattle.section.proofs.Laws.{fresh-in-range}
 use Rattle.rules.specs.Judge.{judgeInRange}
 use Rattle.layout.specs.Layout.{stepAt}
 use Rattle.text.specs.Text.{written}
-use Rattle.lines.specs.Text.{letter, trackLetter, inTurn}
+use Rattle.lines.specs.Text.{trackLetter, inTurn}
 use Rattle.lines.proofs.Puts.{Putting, none-put, one-more-put}
 use Rattle.notes.specs.Note.{noteLength, noteWith, note}
 use Rattle.sites.specs.declared.Running.{Running}
 use Rattle.table.proofs.OnTrack.{malformed}
 use Rattle.whole_day.specs.Day.{sectionBefore, answerTo}
 use Rattle.whole_day.specs.Notes.{noteOn, notesOf}
-use Rattle.whole_day.specs.Rows.{freshPosts, settled}
+use Rattle.whole_day.specs.Rows.{freshPosts, settled, letterAt}
 use Rattle.whole_day.proofs.Laws.{step-after, answered, judged-in-range, range-kept, notes-length}
-use Rattle.whole_day.proofs.Rows.{sectionIn, lettersOf, Two}
+use Rattle.whole_day.proofs.Rows.{sectionIn, Two}
 
 -- after the first i steps
 pub record Walked
@@ -42,7 +41,7 @@ pub record Walked
     (posts : List (List Post))
     (trains last : List (List ℕ))
     (running : List Running)
-    (letters notes : List ℕ)
+    (notes : List ℕ)
     (i : ℕ) : Type 0 where
   pub within : i ≤ count
   pub room : noteLength * count ≤ length lent
@@ -51,7 +50,6 @@ pub record Walked
   pub before : sectionIn posts trains last running c ≡ sectionBefore (freshSection c) steps i
   pub range : inRange (sectionIn posts trains last running c) ≡ true
   pub two : Two posts trains last running c
-  pub lettered : letters ≡ lettersOf running
 
 module _ (c : Settings) (steps : List ℕ) where
   fresh-rows :
@@ -63,8 +61,8 @@ module _ (c : Settings) (steps : List ℕ) where
   pub begins :
       (posts : List (List Post)) (count : ℕ) (lent : List ℕ) → settingsRight c ≡ true → posts ≡ freshPosts c → noteLength * count ≤ length lent
       → Walked c steps count lent posts (replicate 2 (replicate mostBlocks 0)) (replicate 2 (replicate mostBlocks 0)) (replicate 2 settled)
-      (replicate 2 (code "V")) lent 0
-  unfolding sectionBefore letter
+      lent 0
+  unfolding sectionBefore
   begins posts count lent right e room =
       let fresh = fresh-rows posts e in
       record {
@@ -75,7 +73,6 @@ module _ (c : Settings) (steps : List ℕ) where
         before = fresh;
         range = rw fresh (fresh-in-range c right);
         two = record { two-posts = rw e refl; two-trains = refl; two-last = refl; two-running = refl };
-        lettered = refl;
       }
 
 module _
@@ -86,23 +83,23 @@ module _
     {posts : List (List Post)}
     {trains last : List (List ℕ)}
     {running : List Running}
-    {letters notes : List ℕ}
+    {notes : List ℕ}
     {i : ℕ}
-    (w : Walked c steps count lent posts trains last running letters notes i) where
-  pub note-fits : i < count → i * noteLength + noteLength ≤ length notes
+    (w : Walked c steps count lent posts trains last running notes i) where
+  pub note-fits : i < count → noteLength * i + noteLength ≤ length notes
   note-fits more = omega (arith, w .room, w .same-length)
 
   -- one step more
   pub goes-on :
-      (posts′ : List (List Post)) (trains′ last′ : List (List ℕ)) (running′ : List Running) (letters′ : List ℕ) (v : Verdict) (notes′ : List ℕ)
+      (posts′ : List (List Post)) (trains′ last′ : List (List ℕ)) (running′ : List Running) (v : Verdict) (notes′ : List ℕ)
       → i < count
       → record { verdict = v; section = sectionIn posts′ trains′ last′ running′ c }
       ≡ judgeInRange (sectionIn posts trains last running c) (stepAt steps i)
-      → letters′ ≡ lettersOf running′ → notes′ ≡ written notes (i * noteLength) (noteWith v (getD letters′ 0 0) (getD letters′ 1 0))
+      → notes′ ≡ written notes (i * noteLength) (noteWith v (letterAt running′ 0) (letterAt running′ 1))
       → length notes′ ≡ length notes → Two posts′ trains′ last′ running′ c
-      → Walked c steps count lent posts′ trains′ last′ running′ letters′ notes′ (i + 1)
+      → Walked c steps count lent posts′ trains′ last′ running′ notes′ (i + 1)
   unfolding noteOn note trackLetter
-  goes-on posts′ trains′ last′ running′ letters′ v notes′ more told shown put kept two =
+  goes-on posts′ trains′ last′ running′ v notes′ more told put kept two =
       let s = sectionIn posts trains last running c in
       let after : Answer = record { verdict = v; section = sectionIn posts′ trains′ last′ running′ c } in
       let answer : after ≡ answerTo (freshSection c) steps i =
@@ -112,8 +109,7 @@ module _
       let so-far : i * noteLength ≡ 0 + length (inTurn (noteOn c steps) i) = omega (arith, notes-length c steps i) in
       let one : Putting notes (i * noteLength) (noteOn c steps i) _ notes′ = (
         refl,
-        put ∙ (ap (λ (l : List ℕ). written notes (i * noteLength) (noteWith v (getD l 0 0) (getD l 1 0))) shown
-            ∙ ap (λ (a : Answer). written notes (i * noteLength) (note a)) answer),
+        put ∙ ap (λ (a : Answer). written notes (i * noteLength) (note a)) answer,
       ) in
       record {
         within = omega arith;
@@ -125,16 +121,15 @@ module _
         before = leaves;
         range = range-kept s (stepAt steps i) after (w .range) told;
         two = two;
-        lettered = shown;
       }
 
   pub passes-over :
       i < count → decoded (c .posts) (stepAt steps i) ≡ Malformed → {notes′ : List ℕ}
-      → notes′ ≡ written notes (i * noteLength) (noteWith (Refused 4) (getD letters 0 0) (getD letters 1 0)) → length notes′ ≡ length notes
-      → Walked c steps count lent posts trains last running letters notes′ (i + 1)
+      → notes′ ≡ written notes (i * noteLength) (noteWith (Refused 4) (letterAt running 0) (letterAt running 1)) → length notes′ ≡ length notes
+      → Walked c steps count lent posts trains last running notes′ (i + 1)
   passes-over more bad put kept =
       let s = sectionIn posts trains last running c in
-      goes-on posts trains last running letters (Refused 4) _ more (malformed s (stepAt steps i) bad) (w .lettered) put kept (w .two)
+      goes-on posts trains last running (Refused 4) _ more (malformed s (stepAt steps i) bad) put kept (w .two)
 
   pub ends : count ≤ i → notes ≡ written lent 0 (notesOf c steps count)
   unfolding notesOf

@@ -2,15 +2,17 @@
 // in their places.
 ghost use mathlib.Core.Bool.{true};
 ghost use mathlib.Core.Path.{_≡_};
-ghost use Prim.Native.Nat.{_*_, _<_, _≤_};
+ghost use Prim.Native.Nat.{_+_, _*_, _<_, _≤_};
 ghost use lib.ListN.{length, replicate};
 ghost use Rattle.section.specs.Numbers.{stepLength};
 ghost use Rattle.section.specs.Settings.{settingsRight};
+ghost use Rattle.section.specs.Step.{decoded};
+ghost use Rattle.layout.specs.Layout.{stepAt};
 ghost use Rattle.text.specs.Text.{written};
 ghost use Rattle.lines.specs.Text.{letter};
-ghost use Rattle.notes.specs.Note.{noteLength};
+ghost use Rattle.notes.specs.Note.{noteLength, noteWith};
 ghost use Rattle.whole_day.specs.Notes.{notesOf};
-ghost use Rattle.whole_day.specs.Rows.{row, freshPosts, settled};
+ghost use Rattle.whole_day.specs.Rows.{row, freshPosts, settled, letterAt};
 use notes::NOTE_LENGTH;
 use notes::put_note;
 use section::Decoded;
@@ -20,6 +22,8 @@ use section::Settings;
 use section::Verdict;
 use section::Walk;
 use sites::Running;
+use sites::place_of;
+use table::judge_step;
 
 // The place of a track among the two.
 fn row_of(track: bool) -> usize
@@ -58,6 +62,25 @@ fn letter_of(running: Running) -> u8
     notes::letter(walk, running.cvt)
 }
 
+// Step i of a day.
+fn step_at(n: u8, steps: &[u8], i: usize) -> Decoded
+    requires { ⌜ stepLength * i + stepLength ≤ length (now steps) ⌝ }
+    ensures { λ r. ⌜ r ≡ decoded n (stepAt (now (steps .entry)) i) ⌝ }
+{
+    let start = i * STEP_LENGTH;
+    steps::decode(n, &steps[start..start + STEP_LENGTH])
+}
+
+// Notes the verdict on step i, and the letters of the two tracks after it.
+fn note_verdict(notes: &mut [u8], i: usize, verdict: Verdict, running: [Running; 2])
+    requires { ⌜ noteLength * i + noteLength ≤ length (now notes) ⌝ }
+    ensures { λ _. ⌜ now (notes .exit) ≡ written (now (notes .entry)) (i * noteLength) (noteWith verdict (letterAt running 0) (letterAt running 1)) ⌝ }
+{
+    let a = letter_of(running[0]);
+    let b = letter_of(running[1]);
+    put_note(notes, i * NOTE_LENGTH, verdict, a, b);
+}
+
 // Notes the steps of a day, which begins with those records, free block sections and both tracks settled on VNS.
 fn note_from(c: Settings, fresh: [[Post; 16]; 2], steps: &[u8], count: usize, notes: &mut [u8])
     requires { ⌜ (settingsRight c ≡ true) × (fresh ≡ freshPosts c) ⌝ }
@@ -68,34 +91,32 @@ fn note_from(c: Settings, fresh: [[Post; 16]; 2], steps: &[u8], count: usize, no
     let mut trains: [[u16; 15]; 2] = [[0; 15]; 2];
     let mut last: [[u16; 15]; 2] = [[0; 15]; 2];
     let mut running = both_settled();
-    let mut letters = [b'V'; 2];
     let mut i: usize = 0;
     while i < count {
-        let start = i * STEP_LENGTH;
-        let at = i * NOTE_LENGTH;
-        i += 1;
-        let d = steps::decode(c.posts, &steps[start..start + STEP_LENGTH]);
+        let d = step_at(c.posts, steps, i);
         let Decoded::Well(x) = d else {
-            put_note(notes, at, Verdict::Refused(4), letters[0], letters[1]);
+            note_verdict(notes, i, Verdict::Refused(4), running);
+            i += 1;
             continue;
         };
-        let track = x.track;
-        let step = x.step;
-        let k = row_of(track);
-        let post = sites::post_of(step);
-        let p = post as usize;
-        let own = posts[k][p];
-        let here = running[k];
-        let other = running[1 - k];
-        let e = sites::site(track, post, own, here, other);
-        let judged = table::judge_at(c, step, e, &mut trains[k], &mut last[k]);
+        let k = row_of(x.track);
+        let p = place_of(x);
+        let judged = judge_step(
+            c,
+            x,
+            posts[k][p],
+            running[k],
+            running[1 - k],
+            &mut trains[k],
+            &mut last[k],
+        );
+        let own = judged.own;
+        let after = judged.running;
         let verdict = judged.verdict;
-        let own_after = judged.own;
-        let running_after = judged.running;
-        posts[k][p] = own_after;
-        running[k] = running_after;
-        letters[k] = letter_of(running_after);
-        put_note(notes, at, verdict, letters[0], letters[1]);
+        posts[k][p] = own;
+        running[k] = after;
+        note_verdict(notes, i, verdict, running);
+        i += 1;
     }
 }
 

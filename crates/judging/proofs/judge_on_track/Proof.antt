@@ -6,11 +6,8 @@ use borrow.Author.Needs.{needs}
 use Rattle.judging.proofs.judge_on_track.Statement.{statement}
 use Rattle.judging.proofs.judge_on_track.Tie as tie
 
-post-of-requires : tie.Need-post-of-requires
-post-of-requires c κs = search needs
-
-cast-at : tie.Need-cast-at
-cast-at c = search needs
+place-of-requires : tie.Need-place-of-requires
+place-of-requires c κs = search needs
 
 mul-own : tie.Need-mul-own
 mul-own c = search needs
@@ -22,7 +19,7 @@ judge-step-requires : tie.Need-judge-step-requires
 judge-step-requires c κs =
     let post = c .before .before .before .before .before in
     let a = post .before .args in
-    subst (Fit (a .c)) (sym (site-in (a .x) (a .t3) (a .other) (post .post-of .ensures))) (post .before .pre)
+    subst (Fit (a .c)) (sym (site-in (a .x) (a .t3) (a .other) (post .place-of .ensures))) (post .before .pre)
 
 mul-posts : tie.Need-mul-posts
 mul-posts c = search needs
@@ -35,7 +32,7 @@ returns c =
     let judged = c .before .before .before in
     let post = judged .before .before .before .before .before .before in
     let a = post .before .args in
-    put-back (a .c) (a .x) (a .t3) (a .other) (post .post-of .ensures)
+    put-back (a .c) (a .x) (a .t3) (a .other) (post .place-of .ensures)
     (judged .judge-step .ensures .0)
     (judged .judge-step .ensures .1 .0)
     (judged .judge-step .ensures .1 .1)
@@ -44,8 +41,7 @@ pub judge-on-track-spec : {M : Type 1} → statement M
 judge-on-track-spec =
     tie.close
     (tie.spec
-    post-of-requires
-    cast-at
+    place-of-requires
     mul-own
     element-copy-out-own
     judge-step-requires

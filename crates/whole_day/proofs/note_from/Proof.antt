@@ -1,6 +1,6 @@
 -- The walk's laws, at each place of the loop.
 use Prim.Native.Nat.{_-_, _<_}
-use mathlib.Core.Path.{_≡_, sym, _∙_, ap}
+use mathlib.Core.Path.{_≡_, sym, _∙_}
 use native.Mathlib.Omega.{arith}
 use Rattle.section.specs.declared.Decoded.the-variants.{Well}
 use Rattle.section.specs.declared.TrackStep.{TrackStep}
@@ -8,59 +8,55 @@ use Rattle.section.specs.Codec.{decoded-post-below}
 use Rattle.section.specs.Numbers.{mostPosts}
 use Rattle.section.specs.Step.{decoded, postOf}
 use Rattle.section.proofs.Laws.{posts-right}
-use Rattle.rules.specs.Judge.{siteOf}
 use Rattle.layout.specs.Layout.{stepAt}
-use Rattle.whole_day.proofs.Laws.{step-part}
-use Rattle.whole_day.proofs.Rows.{sectionIn, two-after, letters-at, site-at, fit-at, judged-at}
+use Rattle.whole_day.proofs.Rows.{two-after, fit-at, judged-at}
 use Rattle.whole_day.proofs.Walk.{Walked, begins, note-fits, goes-on, passes-over, ends}
 use borrow.Author.Needs.{needs}
 use Rattle.whole_day.proofs.note_from.Statement.{statement}
 use Rattle.whole_day.proofs.note_from.Tie as tie
 
 abbrev Inv-loop : tie.InvT-loop
-Inv-loop c steps count lent posts₀ trains₀ last₀ running₀ letters₀ i₀ notes posts trains last running letters i =
-    Walked c steps count lent posts trains last running letters notes i
+Inv-loop c steps count lent posts₀ trains₀ last₀ running₀ i₀ notes posts trains last running i =
+    Walked c steps count lent posts trains last running notes i
 
 abbrev μ-loop : tie.MeasureT-loop
-μ-loop c steps count lent posts₀ trains₀ last₀ running₀ letters₀ i₀ notes posts trains last running letters i = count - i
+μ-loop c steps count lent posts₀ trains₀ last₀ running₀ i₀ notes posts trains last running i = count - i
 
--- ## What the code knows after it has read a well-formed step
+-- ## What the code knows once it has the place of a well-formed step's post
 
-abbrev looped : tie.After-d Inv-loop μ-loop → tie.At-loop Inv-loop μ-loop
-looped c = c .before .before .before .before .before
+abbrev offered : tie.After-place-of Inv-loop μ-loop → tie.After-step-at Inv-loop μ-loop
+offered c = c .before .before .before .before .before
 
-abbrev start : tie.After-d Inv-loop μ-loop → tie.Start Inv-loop μ-loop
+abbrev looped : tie.After-place-of Inv-loop μ-loop → tie.At-loop Inv-loop μ-loop
+looped c = offered c .before .before
+
+abbrev start : tie.After-place-of Inv-loop μ-loop → tie.Start Inv-loop μ-loop
 start c = looped c .before .before .before .before
 
-abbrev step : tie.After-d Inv-loop μ-loop → TrackStep
-step c = c .d .given .0 .0
+abbrev step : tie.After-place-of Inv-loop μ-loop → TrackStep
+step c = c .before .before .before .d .given .0 .0
 
-more : (c : tie.After-d Inv-loop μ-loop) → looped c .loop .i < start c .args .count
-more c = c .before .before .before .before .loop-test .taken
+more : (c : tie.After-place-of Inv-loop μ-loop) → looped c .loop .i < start c .args .count
+more c = offered c .before .loop-test .taken
 
-says : (c : tie.After-d Inv-loop μ-loop) → decoded (start c .args .c .posts) (stepAt (start c .args .steps .now) (looped c .loop .i)) ≡ Well (step c)
-says c =
-    ap (decoded (start c .args .c .posts)) (sym (step-part (start c .args .steps .now) (looped c .loop .i)))
-    ∙ (sym (c .before .before .decode .ensures) ∙ c .d .given .1)
+says :
+    (c : tie.After-place-of Inv-loop μ-loop)
+    → decoded (start c .args .c .posts) (stepAt (start c .args .steps .now) (looped c .loop .i)) ≡ Well (step c)
+says c = sym (offered c .step-at .ensures) ∙ c .before .before .before .d .given .1
 
 -- the posts of a track are 16
-post-among : (c : tie.After-d Inv-loop μ-loop) → postOf (step c .step) < mostPosts
+post-among : (c : tie.After-place-of Inv-loop μ-loop) → postOf (step c .step) < mostPosts
 post-among c = omega (arith, decoded-post-below _ _ (step c) (says c), posts-right (start c .args .c) (start c .pre .0 .0))
 
-abbrev well : tie.After-site Inv-loop μ-loop → tie.After-d Inv-loop μ-loop
-well c = c .before .before .before .before .before .before .before
+-- the tracks are two
+row-among : (c : tie.After-place-of Inv-loop μ-loop) → c .before .row-of .result < 2
+row-among c = c .before .row-of .ensures .1
 
-site-is : (c : tie.After-site Inv-loop μ-loop) →
-    let l = looped (well c) .loop in
-    c .site .result ≡ siteOf (sectionIn (l .posts) (l .trains) (l .last) (l .running) (start (well c) .args .c)) (step (well c))
-site-is c =
-    let l = looped (well c) .loop in
-    let post = c .before .before .before .before in
-    site-at (l .posts) (l .trains) (l .last) (l .running) (start (well c) .args .c) _ (step (well c)) (says (well c)) (post .before .row-of .ensures .0)
-    (post .post-of .ensures) (c .site .ensures)
+abbrev judged : tie.After-after Inv-loop μ-loop → tie.After-judge-step Inv-loop μ-loop
+judged c = c .before .before
 
-abbrev judging : tie.After-running-after Inv-loop μ-loop → tie.After-judge-at Inv-loop μ-loop
-judging c = c .before .before
+abbrev placed : tie.After-after Inv-loop μ-loop → tie.After-place-of Inv-loop μ-loop
+placed c = judged c .before .before .before .before .before .before
 
 -- ## The places
 
@@ -72,29 +68,8 @@ loop-holds c =
     let entry = c .before .before .before in
     rw (c .both-settled .ensures) (begins _ _ _ _ _ (entry .pre .0 .0) (entry .pre .0 .1) (entry .pre .1 .1))
 
-mul-start : tie.Need-mul-start Inv-loop μ-loop
-mul-start c = omega arith
-
-mul-at : tie.Need-mul-at Inv-loop μ-loop
-mul-at c = omega (arith, c .before .loop .inv .room)
-
-add-i : tie.Need-add-i Inv-loop μ-loop
-add-i c = omega arith
-
-add-decode : tie.Need-add-decode Inv-loop μ-loop
-add-decode c = omega arith
-
-sub-decode : tie.Need-sub-decode Inv-loop μ-loop
-sub-decode c = omega arith
-
-part-decode-start : tie.Need-part-decode-start Inv-loop μ-loop
-part-decode-start c = omega arith
-
-part-decode-end : tie.Need-part-decode-end Inv-loop μ-loop
-part-decode-end c = omega arith
-
-decode-requires : tie.Need-decode-requires Inv-loop μ-loop
-decode-requires c κs = search needs
+step-at-requires : tie.Need-step-at-requires Inv-loop μ-loop
+step-at-requires c κs = omega arith
 
 enum-known-d : tie.Need-enum-known-d Inv-loop μ-loop
 enum-known-d c = search needs
@@ -102,16 +77,13 @@ enum-known-d c = search needs
 enum-told : tie.Need-enum-told Inv-loop μ-loop
 enum-told c = search needs
 
-array-read-put-note : tie.Need-array-read-put-note Inv-loop μ-loop
-array-read-put-note c = search needs
-
-array-read-put-note-2 : tie.Need-array-read-put-note-2 Inv-loop μ-loop
-array-read-put-note-2 c = search needs
-
-put-note-requires : tie.Need-put-note-requires Inv-loop μ-loop
-put-note-requires c κs =
-    let in-loop = c .before .before .before .before .before in
+note-verdict-requires : tie.Need-note-verdict-requires Inv-loop μ-loop
+note-verdict-requires c κs =
+    let in-loop = c .before .before .before .before in
     note-fits (in-loop .before .loop .inv) (in-loop .loop-test .taken)
+
+add-i : tie.Need-add-i Inv-loop μ-loop
+add-i c = omega arith
 
 loop-less : tie.Need-loop-less Inv-loop μ-loop
 loop-less c = omega arith
@@ -120,129 +92,102 @@ loop-again : tie.Need-loop-again Inv-loop μ-loop
 loop-again c =
     let noted = c .before .before in
     let told = noted .before .before in
-    let decoded-at = told .before .before in
-    let in-loop = decoded-at .before .before in
-    let l = in-loop .before in
-    passes-over (l .loop .inv) (in-loop .loop-test .taken) (
-    ap (decoded _) (sym (step-part _ (l .loop .i))) ∙ (sym (decoded-at .decode .ensures) ∙ told .enum-told .given .1)
-    ) (noted .put-note .ensures) (noted .put-note .kept .0)
+    let offered = told .before .before in
+    let in-loop = offered .before in
+    passes-over (in-loop .before .loop .inv) (in-loop .loop-test .taken) (sym (offered .step-at .ensures) ∙ told .enum-told .given .1)
+    (noted .note-verdict .ensures) (noted .note-verdict .kept .0)
 
 row-of-requires : tie.Need-row-of-requires Inv-loop μ-loop
 row-of-requires c κs = search needs
 
-post-of-requires : tie.Need-post-of-requires Inv-loop μ-loop
-post-of-requires c κs = search needs
+place-of-requires : tie.Need-place-of-requires Inv-loop μ-loop
+place-of-requires c κs = search needs
 
-cast-p : tie.Need-cast-p Inv-loop μ-loop
-cast-p c = search needs
+mul-judge-step : tie.Need-mul-judge-step Inv-loop μ-loop
+mul-judge-step c = omega (arith, row-among c)
+
+mul-judge-step-2 : tie.Need-mul-judge-step-2 Inv-loop μ-loop
+mul-judge-step-2 c = omega (arith, c .place-of .ensures, post-among c)
+
+index-1-judge-step : tie.Need-index-1-judge-step Inv-loop μ-loop
+index-1-judge-step c = omega (arith, row-among c)
+
+index-2-judge-step : tie.Need-index-2-judge-step Inv-loop μ-loop
+index-2-judge-step c = omega (arith, c .place-of .ensures, post-among c)
+
+mul-judge-step-3 : tie.Need-mul-judge-step-3 Inv-loop μ-loop
+mul-judge-step-3 c = omega (arith, row-among (c .before))
+
+array-copy-out-judge-step : tie.Need-array-copy-out-judge-step Inv-loop μ-loop
+array-copy-out-judge-step c = search needs
+
+sub-judge-step : tie.Need-sub-judge-step Inv-loop μ-loop
+sub-judge-step c = omega (arith, row-among (c .before .before))
+
+mul-judge-step-4 : tie.Need-mul-judge-step-4 Inv-loop μ-loop
+mul-judge-step-4 c = omega (arith, row-among (c .before .before))
+
+array-copy-out-judge-step-2 : tie.Need-array-copy-out-judge-step-2 Inv-loop μ-loop
+array-copy-out-judge-step-2 c = search needs
+
+mul-judge-step-5 : tie.Need-mul-judge-step-5 Inv-loop μ-loop
+mul-judge-step-5 c = omega (arith, row-among (c .before .before .before))
+
+index-1-judge-step-2 : tie.Need-index-1-judge-step-2 Inv-loop μ-loop
+index-1-judge-step-2 c = omega (arith, row-among (c .before .before .before))
+
+mul-judge-step-6 : tie.Need-mul-judge-step-6 Inv-loop μ-loop
+mul-judge-step-6 c = omega (arith, row-among (c .before .before .before .before))
+
+index-1-judge-step-3 : tie.Need-index-1-judge-step-3 Inv-loop μ-loop
+index-1-judge-step-3 c = omega (arith, row-among (c .before .before .before .before))
+
+judge-step-requires : tie.Need-judge-step-requires Inv-loop μ-loop
+judge-step-requires c κs =
+    let place = c .before .before .before .before .before in
+    let l = looped place .loop in
+    fit-at (l .posts) (l .trains) (l .last) (l .running) _ _ (step place) (says place) (place .before .row-of .ensures .0) (place .place-of .ensures)
+    (l .inv .range)
 
 mul-own : tie.Need-mul-own Inv-loop μ-loop
-mul-own c = search needs
+mul-own c = omega (arith, row-among (placed c))
 
 mul-own-2 : tie.Need-mul-own-2 Inv-loop μ-loop
-mul-own-2 c = search needs
+mul-own-2 c = let place = placed c in omega (arith, place .place-of .ensures, post-among place)
 
 index-1-own : tie.Need-index-1-own Inv-loop μ-loop
-index-1-own c = search needs
+index-1-own c = omega (arith, row-among (placed c))
 
 index-2-own : tie.Need-index-2-own Inv-loop μ-loop
-index-2-own c = let d = c .before .before .before in omega (arith, c .post-of .ensures, post-among d)
-
-mul-here : tie.Need-mul-here Inv-loop μ-loop
-mul-here c = search needs
-
-array-copy-out-here : tie.Need-array-copy-out-here Inv-loop μ-loop
-array-copy-out-here c = search needs
-
-sub-other : tie.Need-sub-other Inv-loop μ-loop
-sub-other c = search needs
-
-mul-other : tie.Need-mul-other Inv-loop μ-loop
-mul-other c = search needs
-
-array-copy-out-other : tie.Need-array-copy-out-other Inv-loop μ-loop
-array-copy-out-other c = search needs
-
-site-requires : tie.Need-site-requires Inv-loop μ-loop
-site-requires c κs = search needs
-
-mul-judge-at : tie.Need-mul-judge-at Inv-loop μ-loop
-mul-judge-at c = search needs
-
-index-1-judge-at : tie.Need-index-1-judge-at Inv-loop μ-loop
-index-1-judge-at c = search needs
-
-mul-judge-at-2 : tie.Need-mul-judge-at-2 Inv-loop μ-loop
-mul-judge-at-2 c = search needs
-
-index-1-judge-at-2 : tie.Need-index-1-judge-at-2 Inv-loop μ-loop
-index-1-judge-at-2 c = search needs
-
-judge-at-requires : tie.Need-judge-at-requires Inv-loop μ-loop
-judge-at-requires c κs =
-    let site = c .before .before in
-    let post = site .before .before .before .before in
-    let d = well site in
-    let l = looped d .loop in
-    fit-at (l .posts) (l .trains) (l .last) (l .running) _ _ (step d) (says d) (post .before .row-of .ensures .0) (post .post-of .ensures) (l .inv .range)
-    (site-is site)
-
-mul-own-after : tie.Need-mul-own-after Inv-loop μ-loop
-mul-own-after c = search needs
-
-mul-own-after-2 : tie.Need-mul-own-after-2 Inv-loop μ-loop
-mul-own-after-2 c = search needs
-
-index-1-own-after : tie.Need-index-1-own-after Inv-loop μ-loop
-index-1-own-after c = search needs
-
-index-2-own-after : tie.Need-index-2-own-after Inv-loop μ-loop
-index-2-own-after c =
-    let post = c .before .before .before .before .before .before .before .before .before in
-    omega (arith, post .post-of .ensures, post-among (post .before .before .before))
+index-2-own c = let place = placed c in omega (arith, place .place-of .ensures, post-among place)
 
 mul-running : tie.Need-mul-running Inv-loop μ-loop
-mul-running c = search needs
+mul-running c = omega (arith, row-among (placed c))
 
 array-set-from-running : tie.Need-array-set-from-running Inv-loop μ-loop
 array-set-from-running c = search needs
 
-letter-of-requires : tie.Need-letter-of-requires Inv-loop μ-loop
-letter-of-requires c κs = search needs
+note-verdict-requires-2 : tie.Need-note-verdict-requires-2 Inv-loop μ-loop
+note-verdict-requires-2 c κs =
+    let place = placed (c .before) in
+    note-fits (looped place .loop .inv) (more place)
 
-array-write-letters : tie.Need-array-write-letters Inv-loop μ-loop
-array-write-letters c = search needs
-
-array-read-put-note-3 : tie.Need-array-read-put-note-3 Inv-loop μ-loop
-array-read-put-note-3 c = search needs
-
-array-read-put-note-4 : tie.Need-array-read-put-note-4 Inv-loop μ-loop
-array-read-put-note-4 c = search needs
-
-put-note-requires-2 : tie.Need-put-note-requires-2 Inv-loop μ-loop
-put-note-requires-2 c κs =
-    let d = well (judging (c .before .before) .before .before .before) in
-    note-fits (looped d .loop .inv) (more d)
+add-i-2 : tie.Need-add-i-2 Inv-loop μ-loop
+add-i-2 c = let place = placed (c .before .before .before .before) in omega (arith, more place, start place .fits .count)
 
 loop-less-2 : tie.Need-loop-less-2 Inv-loop μ-loop
-loop-less-2 c = omega (arith, more (well (judging (c .before .before .before .before .before) .before .before .before)))
+loop-less-2 c = omega (arith, more (placed (c .before .before .before .before)))
 
 loop-again-2 : tie.Need-loop-again-2 Inv-loop μ-loop
 loop-again-2 c =
     let noted = c .before .before in
-    let lettered = noted .before .before in
-    let judge = judging (lettered .before) in
-    let site = judge .before .before .before in
-    let post = site .before .before .before .before in
-    let d = well site in
-    let l = looped d .loop in
+    let judge = judged (noted .before .before) in
+    let place = placed (noted .before .before) in
+    let l = looped place .loop in
     let left =
-    judged-at (l .posts) (l .trains) (l .last) (l .running) _ _ (step d) (says d) (post .before .row-of .ensures .0) (post .post-of .ensures) (l .inv .two)
-    (site-is site) (judge .judge-at .ensures .0) (judge .judge-at .ensures .1 .0) (judge .judge-at .ensures .1 .1) in
-    let shown =
-    letters-at (step d .track) (l .running) _ (l .inv .two .two-running) (post .before .row-of .ensures .0) (l .inv .lettered)
-    (lettered .letter-of .ensures) in
-    goes-on (l .inv) _ _ _ _ _ _ _ (more d) left shown (noted .put-note2 .ensures) (noted .put-note2 .kept .0)
+    judged-at (l .posts) (l .trains) (l .last) (l .running) _ _ (step place) (says place) (place .before .row-of .ensures .0) (place .place-of .ensures)
+    (l .inv .two) (judge .judge-step .ensures .0) (judge .judge-step .ensures .1 .0) (judge .judge-step .ensures .1 .1) in
+    goes-on (l .inv) _ _ _ _ _ _ (more place) left (noted .note-verdict2 .ensures) (noted .note-verdict2 .kept .0)
     (two-after _ _ _ _ _ (l .inv .two) _ _ _ _ _)
 
 same-length : tie.Need-same-length Inv-loop μ-loop
@@ -259,50 +204,37 @@ note-from-spec =
     μ-loop
     both-settled-requires
     loop-holds
-    mul-start
-    mul-at
-    add-i
-    add-decode
-    sub-decode
-    part-decode-start
-    part-decode-end
-    decode-requires
+    step-at-requires
     enum-known-d
     enum-told
-    array-read-put-note
-    array-read-put-note-2
-    put-note-requires
+    note-verdict-requires
+    add-i
     loop-less
     loop-again
     row-of-requires
-    post-of-requires
-    cast-p
+    place-of-requires
+    mul-judge-step
+    mul-judge-step-2
+    index-1-judge-step
+    index-2-judge-step
+    mul-judge-step-3
+    array-copy-out-judge-step
+    sub-judge-step
+    mul-judge-step-4
+    array-copy-out-judge-step-2
+    mul-judge-step-5
+    index-1-judge-step-2
+    mul-judge-step-6
+    index-1-judge-step-3
+    judge-step-requires
     mul-own
     mul-own-2
     index-1-own
     index-2-own
-    mul-here
-    array-copy-out-here
-    sub-other
-    mul-other
-    array-copy-out-other
-    site-requires
-    mul-judge-at
-    index-1-judge-at
-    mul-judge-at-2
-    index-1-judge-at-2
-    judge-at-requires
-    mul-own-after
-    mul-own-after-2
-    index-1-own-after
-    index-2-own-after
     mul-running
     array-set-from-running
-    letter-of-requires
-    array-write-letters
-    array-read-put-note-3
-    array-read-put-note-4
-    put-note-requires-2
+    note-verdict-requires-2
+    add-i-2
     loop-less-2
     loop-again-2
     same-length
