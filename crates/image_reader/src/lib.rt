@@ -2,7 +2,6 @@
 ghost use mathlib.Core.Path.{_≡_};
 ghost use Prim.Native.Nat.{_+_, _≤_};
 ghost use lib.ListN.{length};
-ghost use Rattle.layout.specs.Layout.{settingsLength, settingsOf};
 ghost use Rattle.image.specs.Image.{imageLength, trackLength, postLength, postsLength, numberLength, numbersLength};
 ghost use Rattle.image.specs.Image.{numberAt, postAt, postsFrom, numbersFrom, walkOf, trackAt, sectionOf};
 use image::LAST_TRAINS;
@@ -15,7 +14,6 @@ use image::TRAINS;
 use section::Act;
 use section::Post;
 use section::Section;
-use section::Settings;
 use section::Track;
 use section::Walk;
 
@@ -93,25 +91,13 @@ fn track_at(bytes: &[u8], at: usize) -> Track
     }
 }
 
-fn settings_of(bytes: &[u8]) -> Settings
-    requires { ⌜ settingsLength ≤ length (now bytes) ⌝ }
-    ensures { λ r. ⌜ r ≡ settingsOf (now (bytes .entry)) ⌝ }
-{
-    Settings {
-        posts: bytes[0],
-        form: bytes[1],
-        mask: number_at(bytes, 2),
-        line: number_at(bytes, 4),
-    }
-}
-
 // The section that an image says.
 pub fn section_of(bytes: &[u8]) -> Section
     requires { ⌜ imageLength ≤ length (now bytes) ⌝ }
     ensures { λ r. ⌜ r ≡ sectionOf (now (bytes .entry)) ⌝ }
 {
     Section {
-        settings: settings_of(bytes),
+        settings: layout::settings_of(bytes),
         a: track_at(bytes, TRACK_A),
         b: track_at(bytes, TRACK_B),
     }
