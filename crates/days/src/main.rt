@@ -5,9 +5,6 @@ use agreement::sheet_room;
 use libc::STDOUT_FILENO;
 use sheets::Sheet;
 
-// A byte more than the longest day file: a file that fills it is too long.
-const ROOM_FOR_FILE: usize = 32793;
-
 // Opens the file whose name has this ending, and answers a descriptor, or -1.
 fn open(name: &[u8], ending: &[u8]) -> i32 {
     if name.len() > 4000 {
@@ -72,7 +69,7 @@ fn day_differs(name: &[u8]) -> bool {
     if descriptor < 0 {
         return report(name, b": cannot be read\n");
     }
-    let mut file = [0u8; ROOM_FOR_FILE];
+    let mut file = listing::file_room();
     let length = io::read_full(descriptor, &mut file);
     libc::close(descriptor);
     file_differs(name, &file[0..length])

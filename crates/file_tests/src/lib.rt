@@ -4,12 +4,10 @@ ghost use Prim.Native.Nat.{_≤_};
 ghost use lib.ListN.{length};
 ghost use Rattle.layout.specs.Layout.{mostSteps, settingsLength, trailerLength};
 ghost use Rattle.file_tests.specs.Tests.{lengthWrong, markRight, trailerRight, settingsBytesRight, firstMalformed};
+use layout::LONGEST_FILE;
 use layout::MARK;
-use layout::MOST_STEPS;
 use layout::SETTINGS_DISTANCE;
 use section::STEP_LENGTH;
-
-const LONGEST_FILE: usize = SETTINGS_DISTANCE + STEP_LENGTH * MOST_STEPS;
 
 // Below 24, above 32,792 or not a multiple of 8.
 pub fn length_wrong(length: usize) -> bool

@@ -17,6 +17,8 @@ pub const MARK: [u8; 4] = *b"BSR1";
 // From the file's end to the settings.
 pub const SETTINGS_DISTANCE: usize = SETTINGS_LENGTH + TRAILER_LENGTH;
 
+pub const LONGEST_FILE: usize = SETTINGS_DISTANCE + STEP_LENGTH * MOST_STEPS;
+
 // The 32-bit number of four bytes.
 pub fn four_of(a: u8, b: u8, c: u8, d: u8) -> u32
     ensures { λ r. ⌜ r ≡ four a b c d ⌝ }

@@ -61,7 +61,8 @@ pub fewer-fit : (sheet : Sheet) (count : ℕ) → count ≤ mostSteps → room s
 unfolding room
 fewer-fit sheet count h = omega (arith, mul-le-mul-left (lineRoom sheet) h)
 
-pub most-room : (sheet : Sheet) → room sheet mostSteps ≤ 426008
+-- the longest panel is longer than the longest listing
+pub most-room : (sheet : Sheet) → room sheet mostSteps ≤ room OfPosts mostSteps
 unfolding room lineRoom
 most-room OfSteps = omega arith
 most-room OfPosts = omega arith

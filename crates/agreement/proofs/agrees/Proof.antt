@@ -1,9 +1,12 @@
 -- Bytes: the front of the buffer is the text, so `same` compares the text. TooShort: the text is longer than the stored bytes.
-use Prim.Native.Nat.{ℕ}
+use Prim.Native.Nat.{ℕ, _+_}
 use mathlib.Core.Path.{_≡_, sym, _∙_, ap}
 use mathlib.Core.Bool.{true, false}
 use native.Mathlib.Omega.{arith}
 use lib.ListN.{length, length-replicate}
+use Rattle.layout.specs.Layout.{mostSteps}
+use Rattle.sheets.specs.declared.Sheet.the-variants.{OfPosts}
+use Rattle.sheets.specs.Sheet.{room}
 use Rattle.text.proofs.HandedOver.{within, longer, part}
 use borrow.Author.Needs.{needs}
 use Rattle.agreement.proofs.agrees.Statement.{statement}
@@ -47,7 +50,7 @@ returns c =
 returns-2 : tie.Need-returns-2
 returns-2 c =
     let at-make = c .before .before .before in
-    let room = ap length (at-make .before .before .sheet-room .ensures) ∙ length-replicate {A = ℕ} 426009 0 in
+    let room = ap length (at-make .before .before .sheet-room .ensures) ∙ length-replicate {A = ℕ} (room OfPosts mostSteps + 1) 0 in
     let l = longer _ _ _ (at-make .make .ensures .0) (c .enum-told .given .1) in
     ((λ (t : false ≡ true). let z : _≡_ {A = ℕ} 0 1 = cc in absurd (omega arith)), (λ e. let h = ap length e in absurd (omega (arith, room))))
 

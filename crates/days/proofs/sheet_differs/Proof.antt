@@ -1,6 +1,7 @@
 -- What was read is a part of the buffer, so it is no longer than `agrees` asks.
 use native.Mathlib.Omega.{arith}
 use lib.ListN.{length-take}
+use Rattle.sheets.specs.Sheet.{lineRoom, room}
 use borrow.Author.Needs.{needs}
 use Rattle.days.proofs.sheet_differs.Statement.{statement}
 use Rattle.days.proofs.sheet_differs.Tie as tie
@@ -39,6 +40,7 @@ part-agrees-end : tie.Need-part-agrees-end
 part-agrees-end c = search needs
 
 agrees-requires : tie.Need-agrees-requires
+unfolding room lineRoom
 agrees-requires c κs = simp length-take (omega arith)
 
 returns-2 : tie.Need-returns-2

@@ -1,10 +1,15 @@
 -- Either the sheet is put into the buffer itself, or into room of its own whose front is handed over. The sheet fits that room, since the room
 -- keeps its length.
 use borrow.Author.Needs.{needs}
+use Prim.Native.Nat.{ℕ}
+use mathlib.Core.Path.{_∙_, ap}
 use native.Mathlib.Omega.{arith}
+use lib.ListN.{length, length-replicate}
 use denote.Ref.{now}
 use Rattle.sheets.specs.Printed.{printed}
-use Rattle.sheets.specs.Sheet.{lineOn}
+use Rattle.layout.specs.Layout.{mostSteps}
+use Rattle.sheets.specs.declared.Sheet.the-variants.{OfPosts}
+use Rattle.sheets.specs.Sheet.{lineOn, room}
 use Rattle.listing.proofs.Front.{front-fits, front-taken, put-at-once}
 use Rattle.sheets.proofs.Days.{most-room}
 use Rattle.listing.proofs.sheet_into.Statement.{statement}
@@ -25,14 +30,16 @@ returns c =
     let p = c .before .before .print in
     put-at-once (now (a .buffer)) _ (printed (lineOn (a .sheet)) (now (a .file))) (p .result) (p .ensures) (p .kept .1 .1 .0)
 
-most-room-requires : tie.Need-most-room-requires
-most-room-requires c κs = search needs
+panel-room-requires : tie.Need-panel-room-requires
+panel-room-requires c κs = search needs
 
 slice-aggregate-print : tie.Need-slice-aggregate-print
 slice-aggregate-print c = search needs
 
 print-requires-2 : tie.Need-print-requires-2
-print-requires-2 c κs = omega (arith, c .before .most-room .ensures, most-room (c .before .before .before .before .before .before .args .sheet))
+print-requires-2 c κs =
+    let room-is = ap length (c .before .panel-room .ensures) ∙ length-replicate {A = ℕ} (room OfPosts mostSteps) 0 in
+    omega (arith, room-is, most-room (c .before .before .before .before .before .before .args .sheet))
 
 sub-hand-over : tie.Need-sub-hand-over
 sub-hand-over c = search needs
@@ -43,11 +50,11 @@ part-hand-over-start c = search needs
 part-hand-over-end : tie.Need-part-hand-over-end
 part-hand-over-end c =
     let at-print2 = c .before .before in
-    let at-most-room = at-print2 .before .before in
-    let entry = at-most-room .before .before .before .before .before in
+    let at-panel-room = at-print2 .before .before in
+    let entry = at-panel-room .before .before .before .before .before in
     let a = entry .args in
     let p = at-print2 .print2 in
-    front-fits (at-most-room .most-room .result) _ (printed (lineOn (a .sheet)) (now (a .file))) _ (p .ensures) (p .kept .1 .1 .0)
+    front-fits (at-panel-room .panel-room .result) _ (printed (lineOn (a .sheet)) (now (a .file))) _ (p .ensures) (p .kept .1 .1 .0)
 
 hand-over-requires : tie.Need-hand-over-requires
 hand-over-requires c κs = search needs
@@ -59,10 +66,10 @@ returns-2 : tie.Need-returns-2
 returns-2 c =
     let at-hand-over = c .before .before in
     let at-print2 = at-hand-over .before .before .before .before .before in
-    let at-most-room = at-print2 .before .before in
-    let entry = at-most-room .before .before .before .before .before in
+    let at-panel-room = at-print2 .before .before in
+    let entry = at-panel-room .before .before .before .before .before in
     let a = entry .args in
-    rw (front-taken (at-most-room .most-room .result) _ (printed (lineOn (a .sheet)) (now (a .file))) _ (at-print2 .print2 .ensures))
+    rw (front-taken (at-panel-room .panel-room .result) _ (printed (lineOn (a .sheet)) (now (a .file))) _ (at-print2 .print2 .ensures))
     at (at-hand-over .hand-over .ensures)
 
 pub sheet-into-spec : {M : Type 1} → statement M
@@ -73,7 +80,7 @@ sheet-into-spec =
     print-requires
     same-length
     returns
-    most-room-requires
+    panel-room-requires
     slice-aggregate-print
     print-requires-2
     sub-hand-over
