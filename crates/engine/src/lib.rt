@@ -1,20 +1,60 @@
 // The engine: a step offered to a section is judged, and a post's indications are shown.
 ghost use mathlib.Core.Path.{_≡_};
+ghost use Rattle.section.specs.declared.Verdict.{Verdict};
 ghost use Rattle.rules.specs.Judge.{judge};
+use judging::judge_on_track;
 pub use lamps::indications;
 use section::Answer;
+use section::Decoded;
 use section::Section;
 use section::Verdict;
+use sites::running_of;
+
+fn refused(number: u8, s: Section) -> Answer
+    ensures { λ r. ⌜ r ≡ record { verdict = Verdict.Refused number; section = s } ⌝ }
+{
+    Answer {
+        verdict: Verdict::Refused(number),
+        section: s,
+    }
+}
 
 // Judges bytes offered to a section: 6, then 4, then the table. A refusal returns the section as it came.
 pub fn judge(s: Section, bytes: &[u8]) -> Answer
     ensures { λ r. ⌜ r ≡ judge s (now (bytes .entry)) ⌝ }
 {
     if !ranges::in_range(s) {
+        return refused(6, s);
+    }
+    let c = s.settings;
+    let d = steps::decode(c.posts, bytes);
+    let Decoded::Well(x) = d else {
+        return refused(4, s);
+    };
+    let track = x.track;
+    let a = s.a;
+    let b = s.b;
+    let t = if track { b } else { a };
+    let other = if track { a } else { b };
+    let answer = judge_on_track(c, x, t, running_of(other));
+    let verdict = answer.verdict;
+    let after = answer.track;
+    if track {
         return Answer {
-            verdict: Verdict::Refused(6),
-            section: s,
+            verdict: verdict,
+            section: Section {
+                settings: c,
+                a: a,
+                b: after,
+            },
         };
     }
-    judging::judge_in_range(s, bytes)
+    Answer {
+        verdict: verdict,
+        section: Section {
+            settings: c,
+            a: after,
+            b: b,
+        },
+    }
 }

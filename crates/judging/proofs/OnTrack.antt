@@ -22,10 +22,12 @@ use Rattle.judging.specs.OnTrack.{trackAnswer}
 
 -- what the step leaves, put in its places
 pub put-back :
-    (c : Settings) (x : TrackStep) (t : Track) (other : Running) {p : ℕ} {j : Judged} {trains last : List ℕ} → p ≡ postOf (x .step)
-    → j ≡ judgedAt c (x .step) (siteFor x (postOn t p) (runningOf t) other) (t .trains) (t .last)
-    → trains ≡ trainsAt c (x .step) (siteFor x (postOn t p) (runningOf t) other) (t .trains) (t .last)
-    → last ≡ lastAt c (x .step) (siteFor x (postOn t p) (runningOf t) other) (t .trains) (t .last)
+    (c : Settings) (x : TrackStep) (t : Track) (other : Running) {p : ℕ} {r : Running} {j : Judged} {trains last : List ℕ}
+    → p ≡ postOf (x .step)
+    → r ≡ runningOf t
+    → j ≡ judgedAt c (x .step) (siteFor x (postOn t p) r other) (t .trains) (t .last)
+    → trains ≡ trainsAt c (x .step) (siteFor x (postOn t p) r other) (t .trains) (t .last)
+    → last ≡ lastAt c (x .step) (siteFor x (postOn t p) r other) (t .trains) (t .last)
     → record {
       verdict = j .verdict;
       track = record {
@@ -37,7 +39,7 @@ pub put-back :
       };
     } ≡ trackAnswer c x t other
 unfolding trackAnswer trackAt
-put-back c x t other ep ej et el = rw (ej, et, el, ep)
+put-back c x t other ep er ej et el = rw (ej, et, el, ep, er)
 
 -- the section with the track that is put back
 pub judged :

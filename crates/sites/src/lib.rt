@@ -2,10 +2,11 @@
 ghost use mathlib.Core.Path.{_≡_};
 ghost use Rattle.section.specs.Step.{postOf};
 ghost use Rattle.rules.specs.Site.{settledVns};
-ghost use Rattle.sites.specs.Running.{siteWith};
+ghost use Rattle.sites.specs.Running.{runningOf, siteWith};
 use rules::Site;
 use section::Post;
 use section::Step;
+use section::Track;
 use section::TrackStep;
 use section::Walk;
 
@@ -13,6 +14,16 @@ use section::Walk;
 pub struct Running {
     pub cvt: bool,
     pub walk: Walk,
+}
+
+pub fn running_of(t: Track) -> Running
+    ensures { λ r. ⌜ r ≡ runningOf t ⌝ }
+{
+    let walk = t.walk;
+    Running {
+        cvt: t.cvt,
+        walk: walk,
+    }
 }
 
 pub fn post_of(x: Step) -> u8

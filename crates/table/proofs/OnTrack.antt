@@ -32,11 +32,11 @@ use Rattle.sites.specs.Fit.{Fit}
 use Rattle.sites.proofs.Laws.{fit-on}
 use Rattle.table.specs.Judged.{judgedOf, cellsOf, judgedAt, trainsAt, lastAt, trackAt, siteFor, siteIn}
 
--- the site at the post that the code has found
+-- the site at the post, and of the track, that the code has found
 pub site-in :
-    (x : TrackStep) (t : Track) (other : Running) {p : ℕ} → p ≡ postOf (x .step)
-    → siteFor x (postOn t p) (runningOf t) other ≡ siteIn x t other
-site-in x t other ep = ap (λ (q : ℕ). siteFor x (postOn t q) (runningOf t) other) ep
+    (x : TrackStep) (t : Track) (other : Running) {p : ℕ} {r : Running} → p ≡ postOf (x .step) → r ≡ runningOf t
+    → siteFor x (postOn t p) r other ≡ siteIn x t other
+site-in x t other ep er = rw (ep, er)
 
 -- a track put back as it was
 same-track : (s : Section) (k : Bool) → withTrack s k (trackOf s k) ≡ s

@@ -130,7 +130,7 @@ module _
         let other = runningOf (trackOf s (not (x .track))) in
         let there : getD running (1 - k) settled ≡ other = ap (λ (i : ℕ). getD running (1 - i) settled) ek ∙ other-row (x .track) in
         ap (λ (t : Track). siteFor x (postOn t p) (runningOf t) (getD running (1 - k) settled)) here
-        ∙ (ap (siteFor x (postOn own p) (runningOf own)) there ∙ site-in x own other ep)
+        ∙ (ap (siteFor x (postOn own p) (runningOf own)) there ∙ site-in x own other ep refl)
 
     pub fit-at : inRange s ≡ true → Fit c site
     fit-at h = subst (Fit c) (sym site-at) (fit s bytes x well h (runningOf (trackOf s (not (x .track)))))

@@ -1,22 +1,127 @@
-use borrow.Author.Needs.{needs}
+-- 6 by the ranges; then the bytes say a step or none, and the step is judged on the track that the code has picked.
+use denote.Ref.{now}
+use mathlib.Core.Bool.{Bool, true, false, not}
+use mathlib.Core.Logic.{⊎-elim}
+use mathlib.Core.Path.{_≡_, _∙_, ap, sym, subst}
+use Rattle.section.specs.declared.Decoded.the-variants.{Well}
+use Rattle.section.specs.declared.Track.{Track}
+use Rattle.section.specs.Range.{inRange}
+use Rattle.section.specs.Step.{decoded}
+use Rattle.section.specs.Store.{trackOf}
 use Rattle.section.proofs.Told.{told-false, told-true}
 use Rattle.rules.specs.Judge.{judge}
+use Rattle.sites.specs.Fit.{Fit}
+use Rattle.sites.specs.Running.{runningOf}
+use Rattle.table.specs.Judged.{siteIn}
+use Rattle.table.proofs.OnTrack.{malformed, fit}
+use Rattle.judging.proofs.OnTrack.{judged}
+use borrow.Author.Needs.{needs}
 use Rattle.engine.proofs.judge.Statement.{statement}
 use Rattle.engine.proofs.judge.Tie as tie
+
+abbrev start : tie.After-running-of → tie.Start
+start c = c .before .before .before .before .before .before .before .before .before .before .before .before .before
+
+abbrev ranged : tie.After-running-of → tie.Else1
+ranged c = c .before .before .before .before .before .before .before .before .before .before
+
+abbrev well : tie.After-running-of → tie.After-d
+well c = c .before .before .before .before .before .before
+
+-- the ranges hold
+in-range : (c : tie.After-running-of) → inRange (start c .args .s) ≡ true
+in-range c = told-true (ranged c .before .in-range .ensures) (ranged c .if1 .left)
+
+-- the step's own track and the other, as the code picks them
+own-track : (c : tie.After-running-of) → c .before .before .if2 .t ≡ trackOf (start c .args .s) (well c .d .given .0 .0 .track)
+own-track c =
+    let s = start c .args .s in
+    ⊎-elim (λ w. w .1 ∙ ap (trackOf s) (sym (w .0 .taken))) (λ w. w .1 ∙ ap (trackOf s) (sym (w .0 .left))) (c .before .before .if2 .came)
+
+other-track :
+    (c : tie.After-running-of) → c .running-of .result ≡ runningOf (trackOf (start c .args .s) (not (well c .d .given .0 .0 .track)))
+other-track c =
+    let s = start c .args .s in
+    c .running-of .ensures
+    ∙ ap runningOf
+    (⊎-elim
+    (λ w. w .1 ∙ ap (λ (k : Bool). trackOf s (not k)) (sym (w .0 .taken)))
+    (λ w. w .1 ∙ ap (λ (k : Bool). trackOf s (not k)) (sym (w .0 .left)))
+    (c .before .if3 .came))
+
+-- the step that the bytes say
+says :
+    (c : tie.After-running-of) → decoded (start c .args .s .settings .posts) (now (start c .args .bytes)) ≡ Well (well c .d .given .0 .0)
+says c = sym (well c .before .before .decode .ensures) ∙ well c .d .given .1
 
 in-range-requires : tie.Need-in-range-requires
 in-range-requires c κs = search needs
 
+refused-requires : tie.Need-refused-requires
+refused-requires c κs = search needs
+
 returns : tie.Need-returns
 unfolding judge
-returns c = rw (told-false (c .before .in-range .ensures) (c .if1 .taken))
+returns c = rw (told-false (c .before .before .in-range .ensures) (c .before .if1 .taken)) (c .refused .ensures)
 
-judge-in-range-requires : tie.Need-judge-in-range-requires
-judge-in-range-requires c κs = told-true (c .before .in-range .ensures) (c .if1 .left)
+decode-requires : tie.Need-decode-requires
+decode-requires c κs = search needs
+
+enum-known-d : tie.Need-enum-known-d
+enum-known-d c = search needs
+
+enum-told : tie.Need-enum-told
+enum-told c = search needs
+
+refused-requires-2 : tie.Need-refused-requires-2
+refused-requires-2 c κs = search needs
 
 returns-2 : tie.Need-returns-2
 unfolding judge
-returns-2 c = rw (told-true (c .before .before .in-range .ensures) (c .before .if1 .left)) (c .judge-in-range .ensures)
+returns-2 c =
+    let told = c .before in
+    let left = told .before .before .before .before in
+    rw (told-true (left .before .in-range .ensures) (left .if1 .left))
+    (c .refused2 .ensures ∙ malformed _ _ (sym (told .before .before .decode .ensures) ∙ told .enum-told .given .1))
+
+running-of-requires : tie.Need-running-of-requires
+running-of-requires c κs = search needs
+
+judge-on-track-requires : tie.Need-judge-on-track-requires
+judge-on-track-requires c κs =
+    let x = well c .d .given .0 .0 in
+    subst
+    (λ (t : Track). Fit (start c .args .s .settings) (siteIn x t (c .running-of .result)))
+    (sym (own-track c))
+    (fit (start c .args .s) (now (start c .args .bytes)) x (says c) (in-range c) (c .running-of .result))
+
+returns-3 : tie.Need-returns-3
+unfolding judge
+returns-3 c =
+    let on-track = c .before .before in
+    let b = on-track .before in
+    rw (in-range b) (judged _ _ _ (says b) true (c .if4 .taken) (own-track b) (other-track b) (on-track .judge-on-track .ensures))
+
+returns-4 : tie.Need-returns-4
+unfolding judge
+returns-4 c =
+    let on-track = c .before .before in
+    let b = on-track .before in
+    rw (in-range b) (judged _ _ _ (says b) false (c .if4 .left) (own-track b) (other-track b) (on-track .judge-on-track .ensures))
 
 pub judge-spec : {M : Type 1} → statement M
-judge-spec = tie.close (tie.spec in-range-requires returns judge-in-range-requires returns-2)
+judge-spec =
+    tie.close
+    (tie.spec
+    in-range-requires
+    refused-requires
+    returns
+    decode-requires
+    enum-known-d
+    enum-told
+    refused-requires-2
+    returns-2
+    running-of-requires
+    judge-on-track-requires
+    returns-3
+    returns-4)
