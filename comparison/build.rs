@@ -3,7 +3,13 @@
 use std::path::Path;
 use std::{env, process};
 
-const LIBRARIES: [&str; 4] = ["capi_files", "capi", "capi_day", "capi_listing"];
+const LIBRARIES: [&str; 5] = [
+    "capi_files",
+    "capi",
+    "capi_day",
+    "capi_singly",
+    "capi_listing",
+];
 
 fn main() {
     let package = env::var("CARGO_MANIFEST_DIR").expect("cargo sets CARGO_MANIFEST_DIR");

@@ -1,7 +1,7 @@
 //! Times a judged step along a day of 4,096 steps.
 
 use comparison::engine::notes::{room_for, second_notes, NOTE_LENGTH};
-use comparison::proved;
+use comparison::proved::engine::{day, Way};
 use comparison::report::{run, same_bytes, Outcome, Run};
 use comparison::timing::{alternate, Times};
 use reference::dayfile::MOST_STEPS;
@@ -38,10 +38,12 @@ fn time_day(run: &Run, settings: &Settings) -> Outcome {
     let steps = busy_day(&mut run.rng(6), settings);
     let mut notes = vec![0; room_for(&steps)];
     let mut expected = notes.clone();
-    proved::engine::day(settings, &steps, &mut notes);
     second_notes(settings, &steps, &mut expected, judge_in_place);
-    let day = || format!("{settings:?}, a busy day");
-    same_bytes("the notes of a day", &notes, &expected, &day)?;
+    let input = || format!("{settings:?}, a busy day");
+    for way in [Way::Singly, Way::InPlace] {
+        day(way, settings, &steps, &mut notes);
+        same_bytes("the notes of a day", &notes, &expected, &input)?;
+    }
     println!("{}", kinds_accepted(settings, &steps));
     let form = ["telephone", "materialised"][usize::from(settings.form)];
     let accepted = notes.chunks_exact(NOTE_LENGTH).filter(|note| note[0] == 0);
@@ -50,16 +52,30 @@ fn time_day(run: &Run, settings: &Settings) -> Outcome {
         settings.n,
         accepted.count()
     );
-    time_against(run, settings, &steps, judge_in_range).print(&what, MOST_STEPS, "step");
-    let tested = format!("{what}, the second testing the ranges at each step");
-    time_against(run, settings, &steps, judge_in_place).print(&tested, MOST_STEPS, "step");
+    println!("{what}:");
+    let singly = time_ways(run, settings, &steps, Way::Singly, judge_in_place);
+    singly.print(
+        "  offered singly, both test the ranges each time",
+        MOST_STEPS,
+        "step",
+    );
+    let untested = time_ways(run, settings, &steps, Way::InPlace, judge_in_range);
+    untested.print("  the day in place, neither tests them", MOST_STEPS, "step");
+    let in_place = time_ways(run, settings, &steps, Way::InPlace, judge_in_place);
+    in_place.print(
+        "  the day in place, the second tests them each time",
+        MOST_STEPS,
+        "step",
+    );
     Ok(())
 }
 
-fn time_against(
+/// The proved engine one way, the second implementation by one of its functions.
+fn time_ways(
     run: &Run,
     settings: &Settings,
     steps: &[u8],
+    way: Way,
     judge: impl Fn(&mut Section, &[u8]) -> (u8, u8) + Copy,
 ) -> Times {
     let mut notes = vec![0; room_for(steps)];
@@ -68,7 +84,7 @@ fn time_against(
         run.times,
         CALLS,
         || {
-            proved::engine::day(settings, black_box(steps), black_box(&mut notes));
+            day(way, settings, black_box(steps), black_box(&mut notes));
         },
         || {
             second_notes(settings, black_box(steps), black_box(&mut of_second), judge);

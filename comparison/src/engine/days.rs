@@ -7,7 +7,7 @@ use super::tally::Tally;
 use crate::files::bounds::settings_at_bounds;
 use crate::image::{image_of, IMAGE_LENGTH, PERMISSION_B_0};
 use crate::lent::{same_buffers, Lent};
-use crate::proved;
+use crate::proved::{self, engine::Way};
 use crate::report::{hex, same, Comparison, Failure, Outcome};
 use reference::engine::judge_in_place;
 use reference::generate::{random_settings, Rng};
@@ -100,18 +100,21 @@ impl DayComparison {
         self.same_notes(&day)
     }
 
-    /// The proved walk over the whole day against the steps judged one by one, in a buffer as long, longer and too short.
+    /// The proved notes of the whole day, both ways, against the steps judged one by one, in a buffer as long, longer and too short.
     fn same_notes(&mut self, day: &Day) -> Outcome {
         let (settings, steps) = (&day.settings, &day.steps);
         let exact = room_for(steps);
         for room in [exact, exact + 9, exact.saturating_sub(1)] {
-            let mut notes = Lent::patterned(room);
-            let mut expected = notes.clone();
-            let input = || format!("{settings:?}, room {room}\nsteps: {}", hex(steps));
-            let proved = proved::engine::day(settings, steps, notes.part());
+            let lent = Lent::patterned(room);
+            let mut expected = lent.clone();
             let second = second_notes(settings, steps, expected.part(), judge_in_place);
-            same("the answer to a day's steps", proved, second, &input)?;
-            same_buffers("the notes of a day", &notes, &expected, &input)?;
+            for way in [Way::Singly, Way::InPlace] {
+                let mut notes = lent.clone();
+                let input = || format!("{settings:?}, {way:?}, room {room}\nsteps: {}", hex(steps));
+                let proved = proved::engine::day(way, settings, steps, notes.part());
+                same("the answer to a day's steps", proved, second, &input)?;
+                same_buffers("the notes of a day", &notes, &expected, &input)?;
+            }
         }
         self.days_noted += 1;
         Ok(())

@@ -17,6 +17,16 @@ extern "C" {
         notes: *mut u8,
         notes_length: usize,
     ) -> u8;
+    fn bsr_day_singly(
+        n: u8,
+        form: u8,
+        mask: u16,
+        line: u16,
+        steps: *const u8,
+        steps_length: usize,
+        notes: *mut u8,
+        notes_length: usize,
+    ) -> u8;
 }
 
 /// 0, or 5 for a buffer too short.
@@ -37,11 +47,24 @@ pub fn indications(image: &[u8], track: u8, post: u8) -> (u16, u16, u16) {
     (answer & 7, answer >> 3 & 7, answer >> 6)
 }
 
+/// How the steps of a day are judged.
+#[derive(Clone, Copy, Debug)]
+pub enum Way {
+    /// Each offered to `engine::judge`, which tests the ranges each time.
+    Singly,
+    /// As the listing judges them, the ranges tested once.
+    InPlace,
+}
+
 /// Notes the whole steps, offered one after another from fresh; 0 or a refusal.
-pub fn day(settings: &Settings, steps: &[u8], notes: &mut [u8]) -> u8 {
+pub fn day(way: Way, settings: &Settings, steps: &[u8], notes: &mut [u8]) -> u8 {
     let (n, form, mask, line) = arguments(settings);
+    let noting = match way {
+        Way::Singly => bsr_day_singly,
+        Way::InPlace => bsr_day,
+    };
     unsafe {
-        bsr_day(
+        noting(
             n,
             form,
             mask,

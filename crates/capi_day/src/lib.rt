@@ -7,8 +7,24 @@ ghost use Rattle.packed.specs.Settings.{settingsGiven};
 use notes::NOTE_LENGTH;
 use packed::settings_given;
 use section::STEP_LENGTH;
+use section::Settings;
+use whole_day::note_day;
 
-// Judges the whole steps, offered one after another from fresh, and writes the note of each, from the buffer's front on.
+// 6 for settings out of their ranges, then 5 for a buffer too short for the notes; else 0.
+pub fn day_answer(c: Settings, steps: &[u8], room: usize) -> u8
+    ensures { λ r. ⌜ r ≡ dayAnswer c (now (steps .entry)) room ⌝ }
+{
+    if !settings_range::settings_right(c) {
+        return 6;
+    }
+    if room < NOTE_LENGTH * (steps.len() / STEP_LENGTH) {
+        return 5;
+    }
+    0
+}
+
+// Judges the whole steps, offered one after another from fresh, and writes the note of each, from the buffer's front on. The day is judged in
+// place, as the listing judges it.
 #[no_mangle]
 pub extern "C" fn bsr_day(
     n: u8,
@@ -22,13 +38,9 @@ pub extern "C" fn bsr_day(
     ensures { λ _. ⌜ now (buffer .exit) ≡ dayNotes (settingsGiven n form mask line) (now (steps .entry)) (now (buffer .entry)) ⌝ }
 {
     let c = settings_given(n, form, mask, line);
-    if !settings_range::settings_right(c) {
-        return 6;
+    let answer = day_answer(c, steps, buffer.len());
+    if answer == 0 {
+        note_day(c, steps, steps.len() / STEP_LENGTH, buffer);
     }
-    let count = steps.len() / STEP_LENGTH;
-    if buffer.len() < NOTE_LENGTH * count {
-        return 5;
-    }
-    whole_day::note_day(c, steps, count, buffer);
-    0
+    answer
 }

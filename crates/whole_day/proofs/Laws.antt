@@ -1,5 +1,5 @@
 -- The steps of a day and their notes.
-use Prim.Native.Nat.{ℕ, zero, suc, _+_, _-_, _*_, _<_}
+use Prim.Native.Nat.{ℕ, zero, suc, _+_, _-_, _*_, _≤_, _<_}
 use mathlib.Core.Bool.{Bool, true, false}
 use mathlib.Core.List.{List, _++_, append-assoc}
 use mathlib.Core.Path.{_≡_, refl, _∙_, ap}
@@ -13,6 +13,7 @@ use lib.Seq.{take-at, drop-at}
 use Rattle.section.specs.declared.Answer.{Answer}
 use Rattle.section.specs.declared.Section.{Section}
 use Rattle.section.specs.declared.Settings.{Settings}
+use Rattle.section.specs.Fresh.{freshSection}
 use Rattle.section.specs.Numbers.{stepLength}
 use Rattle.section.specs.Range.{inRange}
 use Rattle.rules.specs.Judge.{judgeInRange, judge}
@@ -21,7 +22,8 @@ use Rattle.layout.specs.Layout.{stepAt}
 use Rattle.text.specs.Text.{written}
 use Rattle.text.proofs.Laws.{at-front}
 use Rattle.lines.specs.Text.{inTurn}
-use Rattle.notes.specs.Note.{noteLength}
+use Rattle.lines.proofs.Puts.{Putting, one-more-put}
+use Rattle.notes.specs.Note.{noteLength, note}
 use Rattle.notes.proofs.Laws.{note-length}
 use Rattle.whole_day.specs.Day.{sectionBefore, answerTo}
 use Rattle.whole_day.specs.Notes.{noteOn, notesOf}
@@ -70,6 +72,21 @@ note-on-length c steps i = note-length (answerTo _ steps i)
 
 pub notes-length : (c : Settings) (steps : List ℕ) (m : ℕ) → length (inTurn (noteOn c steps) m) ≡ m * noteLength
 notes-length c steps m = in-turn-whole (noteOn c steps) noteLength m (note-on-length c steps)
+
+-- ## One note more
+
+pub note-put :
+    (c : Settings) (steps lent : List ℕ) (count i : ℕ) {notes after : List ℕ} (answer : Answer) → i < count → noteLength * count ≤ length lent
+    → notes ≡ written lent 0 (inTurn (noteOn c steps) i) → answer ≡ answerTo (freshSection c) steps i
+    → after ≡ written notes (i * noteLength) (note answer) → after ≡ written lent 0 (inTurn (noteOn c steps) (i + 1))
+unfolding noteOn
+note-put c steps lent count i {notes} {after} answer more room noted told put =
+    let so-far : i * noteLength ≡ 0 + length (inTurn (noteOn c steps) i) = omega (arith, notes-length c steps i) in
+    let one : Putting notes (i * noteLength) (noteOn c steps i) _ after = (
+      refl,
+      put ∙ ap (λ (a : Answer). written notes (i * noteLength) (note a)) told,
+    ) in
+    one-more-put (noteOn c steps) lent notes after 0 i (i * noteLength) _ (omega (arith, notes-length c steps i, room)) (so-far, noted) one .1
 
 -- ## The note of a step, among those of the day
 

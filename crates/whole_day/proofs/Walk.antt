@@ -22,14 +22,14 @@ use Rattle.rules.specs.Judge.{judgeInRange}
 use Rattle.layout.specs.Layout.{stepAt}
 use Rattle.text.specs.Text.{written}
 use Rattle.lines.specs.Text.{trackLetter, inTurn}
-use Rattle.lines.proofs.Puts.{Putting, none-put, one-more-put}
+use Rattle.lines.proofs.Puts.{none-put}
 use Rattle.notes.specs.Note.{noteLength, noteWith, note}
 use Rattle.sites.specs.declared.Running.{Running}
 use Rattle.table.proofs.OnTrack.{malformed}
 use Rattle.whole_day.specs.Day.{sectionBefore, answerTo}
 use Rattle.whole_day.specs.Notes.{noteOn, notesOf}
 use Rattle.whole_day.specs.Rows.{freshPosts, settled, letterAt}
-use Rattle.whole_day.proofs.Laws.{step-after, answered, judged-in-range, range-kept, notes-length}
+use Rattle.whole_day.proofs.Laws.{step-after, answered, judged-in-range, range-kept, note-put}
 use Rattle.whole_day.proofs.Rows.{sectionIn, Two}
 
 -- after the first i steps
@@ -98,7 +98,7 @@ module _
       → notes′ ≡ written notes (i * noteLength) (noteWith v (letterAt running′ 0) (letterAt running′ 1))
       → length notes′ ≡ length notes → Two posts′ trains′ last′ running′ c
       → Walked c steps count lent posts′ trains′ last′ running′ notes′ (i + 1)
-  unfolding noteOn note trackLetter
+  unfolding note trackLetter
   goes-on posts′ trains′ last′ running′ v notes′ more told put kept two =
       let s = sectionIn posts trains last running c in
       let after : Answer = record { verdict = v; section = sectionIn posts′ trains′ last′ running′ c } in
@@ -106,18 +106,11 @@ module _
       answered (freshSection c) steps i s (stepAt steps i) after (w .before) refl (judged-in-range s (stepAt steps i) after (w .range) told) in
       let leaves : after .section ≡ sectionBefore (freshSection c) steps (i + 1) =
       ap (λ (a : Answer). a .section) answer ∙ step-after (freshSection c) steps i in
-      let so-far : i * noteLength ≡ 0 + length (inTurn (noteOn c steps) i) = omega (arith, notes-length c steps i) in
-      let one : Putting notes (i * noteLength) (noteOn c steps i) _ notes′ = (
-        refl,
-        put ∙ ap (λ (a : Answer). written notes (i * noteLength) (note a)) answer,
-      ) in
       record {
         within = omega arith;
         room = w .room;
         same-length = kept ∙ w .same-length;
-        noted =
-            one-more-put (noteOn c steps) lent notes notes′ 0 i (i * noteLength) _ (omega (arith, notes-length c steps i, w .room)) (so-far, w .noted) one
-            .1;
+        noted = note-put c steps lent count i after more (w .room) (w .noted) answer put;
         before = leaves;
         range = range-kept s (stepAt steps i) after (w .range) told;
         two = two;

@@ -1,72 +1,49 @@
 use native.Mathlib.Omega.{arith}
 use borrow.Author.Needs.{needs}
-use borrow.Author.Tests.{lt-ltb, le-ltb}
 use denote.Ref.{now}
-use mathlib.Core.Bool.{true}
-use mathlib.Core.Path.{_≡_, sym, _∙_, ap}
-use Rattle.section.specs.declared.Settings.{Settings}
-use Rattle.section.specs.Settings.{settingsRight}
-use Rattle.section.proofs.Told.{told-false, told-true}
-use Rattle.packed.specs.Settings.{settingsGiven}
-use Rattle.capi_day.proofs.Answers.{settings-wrong, no-room, noted}
+use mathlib.Core.Path.{sym, _∙_}
+use Rattle.capi_day.proofs.Answers.{right-settings, room-for-notes, noted, refused}
 use Rattle.capi_day.proofs.bsr_day.Statement.{statement}
 use Rattle.capi_day.proofs.bsr_day.Tie as tie
-
-abbrev given : tie.After-settings-right → Settings
-given c = let x = c .before .before .before .before .args in settingsGiven (x .n) (x .form) (x .mask) (x .line)
 
 settings-given-requires : tie.Need-settings-given-requires
 settings-given-requires c κs = search needs
 
-settings-right-requires : tie.Need-settings-right-requires
-settings-right-requires c κs = search needs
-
-returns : tie.Need-returns
-returns c =
-    let test = c .before in
-    let x = test .before .before .before .before .args in
-    settings-wrong (given test) (now (x .steps)) (now (x .buffer))
-    (ap settingsRight (sym (test .before .settings-given .ensures)) ∙ told-false (test .settings-right .ensures) (c .if1 .taken))
-
-right : (c : tie.Else1) → settingsRight (given (c .before)) ≡ true
-right c =
-    ap settingsRight (sym (c .before .before .settings-given .ensures)) ∙ told-true (c .before .settings-right .ensures) (c .if1 .left)
-
-mul-if2 : tie.Need-mul-if2
-mul-if2 c = omega arith
-
-returns-2 : tie.Need-returns-2
-returns-2 c =
-    let test = c .before .before in
-    let x = test .before .before .before .before .args in
-    no-room (given test) (now (x .steps)) (now (x .buffer)) (right (c .before)) (lt-ltb _ _ (c .if2 .taken))
+day-answer-requires : tie.Need-day-answer-requires
+day-answer-requires c κs = search needs
 
 note-day-requires : tie.Need-note-day-requires
 note-day-requires c κs =
-    let else = c .before in
-    (told-true (else .before .before .settings-right .ensures) (else .before .if1 .left), (omega arith, omega (arith, else .if2 .left)))
+    let then = c .before in
+    let answer = then .before in
+    let a = answer .before .before .before .before .args in
+    let given = answer .before .settings-given .result in
+    let told = sym (answer .day-answer .ensures) ∙ then .if1 .taken in
+    (right-settings given (now (a .steps)) (now (a .buffer)) told, (omega arith, room-for-notes given (now (a .steps)) (now (a .buffer)) told))
 
 same-length : tie.Need-same-length
 same-length c = search needs
 
-returns-3 : tie.Need-returns-3
-returns-3 c =
+returns : tie.Need-returns
+returns c =
     let day = c .before .before in
-    let else = day .before .before in
-    let test = else .before .before in
-    let x = test .before .before .before .before .args in
-    noted (given test) (now (x .steps)) (now (x .buffer)) (right (else .before)) (le-ltb _ _ (else .if2 .left))
-    (rw (test .before .settings-given .ensures) at (day .note-day .ensures))
+    let then = day .before .before in
+    let answer = then .before in
+    let a = answer .before .before .before .before .args in
+    rw (← answer .before .settings-given .ensures) (
+      answer .day-answer .ensures,
+      noted (answer .before .settings-given .result) (now (a .steps)) (now (a .buffer)) (sym (answer .day-answer .ensures) ∙ then .if1 .taken)
+          (day .note-day .ensures),
+    )
+
+returns-2 : tie.Need-returns-2
+returns-2 c =
+    let answer = c .before in
+    let a = answer .before .before .before .before .args in
+    rw (← answer .before .settings-given .ensures) (
+      answer .day-answer .ensures,
+      refused (answer .before .settings-given .result) (now (a .steps)) (now (a .buffer)) (λ e. c .if1 .left (answer .day-answer .ensures ∙ e)),
+    )
 
 pub bsr-day-spec : {M : Type 1} → statement M
-bsr-day-spec =
-    tie.close
-    (tie.spec
-    settings-given-requires
-    settings-right-requires
-    returns
-    mul-if2
-    returns-2
-    note-day-requires
-    same-length
-    returns-3)
+bsr-day-spec = tie.close (tie.spec settings-given-requires day-answer-requires note-day-requires same-length returns returns-2)

@@ -1,0 +1,138 @@
+-- After i turns the state is the section before step i, and the notes of the steps 0 .. i − 1 stand in the buffer.
+use Prim.Native.Nat.{_-_, _*_, _≤_}
+use mathlib.Core.Path.{_≡_, refl, sym, _∙_, ap}
+use native.Mathlib.Omega.{arith}
+use borrow.Author.Needs.{needs}
+use denote.Ref.{now}
+use lib.ListN.{length}
+use Rattle.section.specs.declared.Answer.{Answer}
+use Rattle.section.specs.declared.Section.{Section}
+use Rattle.section.specs.declared.Settings.{Settings}
+use Rattle.section.specs.Fresh.{freshSection}
+use Rattle.text.specs.Text.{written}
+use Rattle.lines.specs.Text.{inTurn}
+use Rattle.lines.proofs.Puts.{none-put}
+use Rattle.whole_day.specs.Day.{sectionBefore, answerTo}
+use Rattle.whole_day.specs.Notes.{noteOn, notesOf}
+use Rattle.whole_day.proofs.Laws.{step-part, step-after, answered, note-put}
+use Rattle.capi_singly.proofs.note_singly.Statement.{statement}
+use Rattle.capi_singly.proofs.note_singly.Tie as tie
+
+abbrev Inv-loop : tie.InvT-loop
+Inv-loop steps count notes₀ state₀ i₀ notes state i =
+    (i ≤ count)
+    × ((length notes ≡ length notes₀)
+    × ((state ≡ sectionBefore state₀ steps i) × (notes ≡ written notes₀ 0 (inTurn (noteOn (state₀ .settings) steps) i))))
+
+abbrev μ-loop : tie.MeasureT-loop
+μ-loop steps count notes₀ state₀ i₀ notes state i = count - i
+
+-- the fresh section keeps the settings
+settings-kept : (s : Section) (c : Settings) → s ≡ freshSection c → s .settings ≡ c
+unfolding freshSection
+settings-kept s c e = ap (λ (x : Section). x .settings) e
+
+fresh-again : (s : Section) (c : Settings) → s ≡ freshSection c → s ≡ freshSection (s .settings)
+fresh-again s c e = e ∙ ap freshSection (sym (settings-kept s c e))
+
+fresh-requires : tie.Need-fresh-requires Inv-loop μ-loop
+fresh-requires c κs = search needs
+
+loop-holds : tie.Need-loop-holds Inv-loop μ-loop
+unfolding sectionBefore
+loop-holds c =
+    let a = c .before .before .before .args in
+    (omega arith, (refl, (refl, none-put (noteOn (c .fresh .result .settings) (now (a .steps))) (now (a .notes)) 0 .1)))
+
+mul-start : tie.Need-mul-start Inv-loop μ-loop
+mul-start c = omega arith
+
+add-judge : tie.Need-add-judge Inv-loop μ-loop
+add-judge c = omega arith
+
+sub-judge : tie.Need-sub-judge Inv-loop μ-loop
+sub-judge c = omega arith
+
+part-judge-start : tie.Need-part-judge-start Inv-loop μ-loop
+part-judge-start c = omega arith
+
+part-judge-end : tie.Need-part-judge-end Inv-loop μ-loop
+part-judge-end c = omega arith
+
+judge-requires : tie.Need-judge-requires Inv-loop μ-loop
+judge-requires c κs = search needs
+
+mul-put-answer : tie.Need-mul-put-answer Inv-loop μ-loop
+mul-put-answer c = omega (arith, c .before .before .before .before .loop-test .taken)
+
+put-answer-requires : tie.Need-put-answer-requires Inv-loop μ-loop
+put-answer-requires c κs =
+    let in-loop = c .before .before .before .before in
+    let at-loop = in-loop .before in
+    omega (arith, in-loop .loop-test .taken, at-loop .loop .inv .1 .0, at-loop .before .before .before .before .pre .1)
+
+add-i : tie.Need-add-i Inv-loop μ-loop
+add-i c = omega (arith, c .before .before .before .before .before .before .before .loop-test .taken)
+
+loop-less : tie.Need-loop-less Inv-loop μ-loop
+loop-less c = omega arith
+
+loop-again : tie.Need-loop-again Inv-loop μ-loop
+loop-again c =
+    let put = c .before .before in
+    let at-judge = put .before .before .before in
+    let in-loop = at-judge .before .before in
+    let at-loop = in-loop .before in
+    let at-fresh = at-loop .before in
+    let entry = at-fresh .before .before .before in
+    let a = entry .args in
+    let f = at-fresh .fresh in
+    let h = at-loop .loop in
+    let j = at-judge .judge in
+    let told = answered (f .result) (now (a .steps)) (h .i) _ _ (j .result) (h .inv .1 .1 .0) (step-part (now (a .steps)) (h .i)) (j .ensures) in
+    let t = in-loop .loop-test .taken in (
+      omega (arith, t),
+      (
+        omega (arith, h .inv .1 .0, put .put-answer .kept),
+        (
+          ap (λ (x : Answer). x .section) told ∙ step-after (f .result) (now (a .steps)) (h .i),
+          note-put (f .result .settings) (now (a .steps)) (now (a .notes)) (a .count) (h .i) (j .result) t (entry .pre .1) (h .inv .1 .1 .1)
+              (told ∙ ap (λ (s : Section). answerTo s (now (a .steps)) (h .i)) (fresh-again (f .result) (a .c) (f .ensures)))
+              (put .put-answer .ensures),
+        ),
+      ),
+    )
+
+same-length : tie.Need-same-length Inv-loop μ-loop
+same-length c = search needs
+
+returns : tie.Need-returns Inv-loop μ-loop
+unfolding notesOf
+returns c =
+    let at-loop = c .before in
+    let at-fresh = at-loop .before in
+    let entry = at-fresh .before .before .before in
+    let e : at-loop .loop .i ≡ entry .args .count = omega arith in
+    rw (← settings-kept (at-fresh .fresh .result) (entry .args .c) (at-fresh .fresh .ensures), ← e) (at-loop .loop .inv .1 .1 .1)
+
+pub note-singly-spec : {M : Type 1} → statement M
+note-singly-spec =
+    tie.close
+    (tie.spec
+    Inv-loop
+    μ-loop
+    fresh-requires
+    loop-holds
+    mul-start
+    add-judge
+    sub-judge
+    part-judge-start
+    part-judge-end
+    judge-requires
+    mul-put-answer
+    put-answer-requires
+    add-i
+    loop-less
+    loop-again
+    same-length
+    returns)

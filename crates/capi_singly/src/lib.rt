@@ -1,0 +1,76 @@
+// The C interface to the steps of a day, each offered singly to the engine: for the comparison and the benchmark of `engine::judge`.
+// It is not stable: names and the notes' layout may change with any delivery.
+ghost use mathlib.Core.Path.{_≡_};
+ghost use Prim.Native.Nat.{_+_, _*_, _≤_};
+ghost use lib.ListN.{length};
+ghost use Rattle.section.specs.Numbers.{stepLength};
+ghost use Rattle.text.specs.Text.{written};
+ghost use Rattle.notes.specs.Note.{noteLength, note};
+ghost use Rattle.whole_day.specs.Notes.{notesOf};
+ghost use Rattle.capi_day.specs.Day.{dayAnswer, dayNotes};
+ghost use Rattle.packed.specs.Settings.{settingsGiven};
+use capi_day::day_answer;
+use notes::NOTE_LENGTH;
+use notes::letter;
+use notes::put_note;
+use packed::settings_given;
+use section::Answer;
+use section::STEP_LENGTH;
+use section::Settings;
+
+// Writes the note of an answer.
+fn put_answer(notes: &mut [u8], at: usize, answer: Answer)
+    requires { ⌜ at + noteLength ≤ length (now notes) ⌝ }
+    ensures { λ _. ⌜ now (notes .exit) ≡ written (now (notes .entry)) at (note answer) ⌝ }
+{
+    let s = answer.section;
+    let a = s.a;
+    let b = s.b;
+    let walk_a = a.walk;
+    let walk_b = b.walk;
+    let verdict = answer.verdict;
+    put_note(
+        notes,
+        at,
+        verdict,
+        letter(walk_a, a.cvt),
+        letter(walk_b, b.cvt),
+    );
+}
+
+// Notes the steps of a day, each offered singly to the engine, on the section that the one before left.
+fn note_singly(c: Settings, steps: &[u8], count: usize, notes: &mut [u8])
+    requires { ⌜ (stepLength * count ≤ length (now steps)) × (noteLength * count ≤ length (now notes)) ⌝ }
+    ensures { λ _. ⌜ now (notes .exit) ≡ written (now (notes .entry)) 0 (notesOf c (now (steps .entry)) count) ⌝ }
+{
+    let mut state = section::fresh(c);
+    let mut i: usize = 0;
+    while i < count {
+        let start = i * STEP_LENGTH;
+        let answer = engine::judge(state, &steps[start..start + STEP_LENGTH]);
+        state = answer.section;
+        put_answer(notes, i * NOTE_LENGTH, answer);
+        i += 1;
+    }
+}
+
+// What `bsr_day` does, the ranges tested at each step.
+#[no_mangle]
+pub extern "C" fn bsr_day_singly(
+    n: u8,
+    form: u8,
+    mask: u16,
+    line: u16,
+    steps: &[u8],
+    buffer: &mut [u8],
+) -> u8
+    ensures { λ r. ⌜ r ≡ dayAnswer (settingsGiven n form mask line) (now (steps .entry)) (length (now (buffer .entry))) ⌝ }
+    ensures { λ _. ⌜ now (buffer .exit) ≡ dayNotes (settingsGiven n form mask line) (now (steps .entry)) (now (buffer .entry)) ⌝ }
+{
+    let c = settings_given(n, form, mask, line);
+    let answer = day_answer(c, steps, buffer.len());
+    if answer == 0 {
+        note_singly(c, steps, steps.len() / STEP_LENGTH, buffer);
+    }
+    answer
+}
