@@ -39,6 +39,7 @@ pub fn judge(s: Section, bytes: &[u8]) -> Answer
     let answer = judge_on_track(c, x, t, running_of(other));
     let verdict = answer.verdict;
     let after = answer.track;
+    // Put together in each branch: one that is put together after them is copied once more.
     if track {
         return Answer {
             verdict: verdict,

@@ -16,8 +16,10 @@ ghost use Rattle.sheets.specs.declared.Sheet.{Sheet};
 ghost use Rattle.sheets.specs.Printed.{lines, printedRead, printed};
 ghost use Rattle.sheets.specs.Sheet.{lineOn, lineRoom, room};
 use dayfile::Reading;
+use layout::MOST_STEPS;
 use lines::put_header;
 use lines::put_refused;
+use notes::NOTE_LENGTH;
 use panel_lines::put_panel;
 use section::STEP_LENGTH;
 use section::Settings;
@@ -30,11 +32,13 @@ pub enum Sheet {
     OfPosts,
 }
 
+const NOTES_ROOM: usize = NOTE_LENGTH * MOST_STEPS;
+
 // Room for the notes of the longest day.
-fn room_for_notes() -> [u8; 16384]
+fn room_for_notes() -> [u8; NOTES_ROOM]
     ensures { λ r. ⌜ noteLength * mostSteps ≡ length r ⌝ }
 {
-    [0; 16384]
+    [0; NOTES_ROOM]
 }
 
 // Writes the listing's lines of all steps, from the notes taken of them, and returns the next place.
