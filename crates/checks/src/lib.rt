@@ -5,18 +5,13 @@ ghost use Rattle.conditions.specs.VerdictAt.{verdictAt};
 use rules::Site;
 use section::Settings;
 use section::Step;
+use section::Trains;
 
 mod post_steps;
 mod train_steps;
 
 // The verdict of the table on a step at a site.
-pub fn verdict(
-    c: Settings,
-    x: Step,
-    e: Site,
-    trains: &[u16; 15],
-    last: &[u16; 15],
-) -> section::Verdict
+pub fn verdict(c: Settings, x: Step, e: Site, trains: &Trains, last: &Trains) -> section::Verdict
     requires { ⌜ Placed c e ⌝ }
     ensures { λ r. ⌜ r ≡ verdictAt c x e (now (trains .entry)) (now (last .entry)) ⌝ }
 {

@@ -12,13 +12,14 @@ use occupancy::train_before;
 use rules::Site;
 use section::Said;
 use section::Settings;
+use section::Trains;
 use section::Verdict;
 use site_positions::at_receiving_end;
 use site_positions::at_sending_end;
 use stretches::pass_occupied;
 use stretches::stretch_occupied;
 
-pub fn start(c: Settings, e: Site, number: u16, trains: &[u16; 15]) -> Verdict
+pub fn start(c: Settings, e: Site, number: u16, trains: &Trains) -> Verdict
     requires { ⌜ Placed c e ⌝ }
     ensures { λ r. ⌜ r ≡ verdictAt c (Start (e .post) number) e (now (trains .entry)) [] ⌝ }
 {
@@ -41,7 +42,7 @@ pub fn start(c: Settings, e: Site, number: u16, trains: &[u16; 15]) -> Verdict
     Verdict::Accepted(Said::Nothing)
 }
 
-pub fn pass(c: Settings, e: Site, number: u16, trains: &[u16; 15]) -> Verdict
+pub fn pass(c: Settings, e: Site, number: u16, trains: &Trains) -> Verdict
     requires { ⌜ Placed c e ⌝ }
     ensures { λ r. ⌜ r ≡ verdictAt c (Pass (e .post) number) e (now (trains .entry)) [] ⌝ }
 {
@@ -57,7 +58,7 @@ pub fn pass(c: Settings, e: Site, number: u16, trains: &[u16; 15]) -> Verdict
     Verdict::Accepted(Said::Nothing)
 }
 
-pub fn leave(c: Settings, e: Site, number: u16, trains: &[u16; 15]) -> Verdict
+pub fn leave(c: Settings, e: Site, number: u16, trains: &Trains) -> Verdict
     requires { ⌜ Placed c e ⌝ }
     ensures { λ r. ⌜ r ≡ verdictAt c (Leave (e .post) number) e (now (trains .entry)) [] ⌝ }
 {

@@ -15,10 +15,11 @@ use section::Act;
 use section::MOST_SEALS;
 use section::Said;
 use section::Settings;
+use section::Trains;
 use section::Verdict;
 use site_positions::at_receiving_end;
 
-pub fn release(c: Settings, e: Site, number: u16, trains: &[u16; 15], last: &[u16; 15]) -> Verdict
+pub fn release(c: Settings, e: Site, number: u16, trains: &Trains, last: &Trains) -> Verdict
     requires { ⌜ Placed c e ⌝ }
     ensures { λ r. ⌜ r ≡ verdictAt c (Release (e .post) number) e (now (trains .entry)) (now (last .entry)) ⌝ }
 {
@@ -40,7 +41,7 @@ pub fn release(c: Settings, e: Site, number: u16, trains: &[u16; 15], last: &[u1
     Verdict::Accepted(Said::Nothing)
 }
 
-pub fn key(c: Settings, e: Site, trains: &[u16; 15]) -> Verdict
+pub fn key(c: Settings, e: Site, trains: &Trains) -> Verdict
     requires { ⌜ Placed c e ⌝ }
     ensures { λ r. ⌜ r ≡ verdictAt c (Key (e .post)) e (now (trains .entry)) [] ⌝ }
 {

@@ -3,9 +3,14 @@
 ghost use mathlib.Core.Path.{_≡_};
 ghost use Prim.Native.Nat.{_+_, _≤_};
 ghost use lib.ListN.{length};
+ghost use Rattle.section.specs.Numbers.{mostPosts};
 ghost use Rattle.image.specs.Image.{trackLength, postLength, postsLength, postRight, postsRight, trackRight, imageRight};
+use section::MOST_POSTS;
 
 pub const IMAGE_LENGTH: usize = 392;
+
+// Every post that a track can keep, also past n.
+pub const POSTS_HELD: usize = MOST_POSTS as usize;
 
 pub const POST_LENGTH: usize = 8;
 
@@ -46,9 +51,9 @@ fn post_right(bytes: &[u8], at: usize) -> bool
 // Of all sixteen posts, from the last one down.
 fn posts_right(bytes: &[u8], at: usize) -> bool
     requires { ⌜ at + postsLength ≤ length (now bytes) ⌝ }
-    ensures { λ r. ⌜ r ≡ postsRight (now (bytes .entry)) at 16 ⌝ }
+    ensures { λ r. ⌜ r ≡ postsRight (now (bytes .entry)) at mostPosts ⌝ }
 {
-    let mut i = 16;
+    let mut i = POSTS_HELD;
     while i > 0 {
         i -= 1;
         if !post_right(bytes, at + POST_LENGTH * i) {

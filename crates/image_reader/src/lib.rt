@@ -2,19 +2,24 @@
 ghost use mathlib.Core.Path.{_≡_};
 ghost use Prim.Native.Nat.{_+_, _≤_};
 ghost use lib.ListN.{length};
+ghost use Rattle.section.specs.Numbers.{mostPosts, mostBlocks};
 ghost use Rattle.image.specs.Image.{imageLength, trackLength, postLength, postsLength, numberLength, numbersLength};
 ghost use Rattle.image.specs.Image.{numberAt, postAt, postsFrom, numbersFrom, walkOf, trackAt, sectionOf};
 use image::LAST_TRAINS;
 use image::NUMBER_LENGTH;
 use image::POST_LENGTH;
 use image::POSTS;
+use image::POSTS_HELD;
 use image::TRACK_A;
 use image::TRACK_B;
 use image::TRAINS;
 use section::Act;
+use section::MOST_BLOCKS;
 use section::Post;
+use section::Posts;
 use section::Section;
 use section::Track;
+use section::Trains;
 use section::Walk;
 
 fn number_at(bytes: &[u8], at: usize) -> u16
@@ -41,26 +46,26 @@ fn post_at(bytes: &[u8], at: usize) -> Post
     }
 }
 
-fn posts_from(bytes: &[u8], at: usize) -> [Post; 16]
+fn posts_from(bytes: &[u8], at: usize) -> Posts
     requires { ⌜ at + postsLength ≤ length (now bytes) ⌝ }
-    ensures { λ r. ⌜ r ≡ postsFrom (now (bytes .entry)) at 16 ⌝ }
+    ensures { λ r. ⌜ r ≡ postsFrom (now (bytes .entry)) at mostPosts ⌝ }
 {
-    let mut posts = [section::blank(); 16];
+    let mut posts = [section::blank(); POSTS_HELD];
     let mut i = 0;
-    while i < 16 {
+    while i < POSTS_HELD {
         posts[i] = post_at(bytes, at + POST_LENGTH * i);
         i += 1;
     }
     posts
 }
 
-fn numbers_from(bytes: &[u8], at: usize) -> [u16; 15]
+fn numbers_from(bytes: &[u8], at: usize) -> Trains
     requires { ⌜ at + numbersLength ≤ length (now bytes) ⌝ }
-    ensures { λ r. ⌜ r ≡ numbersFrom (now (bytes .entry)) at 15 ⌝ }
+    ensures { λ r. ⌜ r ≡ numbersFrom (now (bytes .entry)) at mostBlocks ⌝ }
 {
-    let mut numbers = [0; 15];
+    let mut numbers = [0; MOST_BLOCKS];
     let mut i = 0;
-    while i < 15 {
+    while i < MOST_BLOCKS {
         numbers[i] = number_at(bytes, at + NUMBER_LENGTH * i);
         i += 1;
     }

@@ -2,13 +2,18 @@
 ghost use mathlib.Core.Path.{_≡_};
 ghost use Prim.Native.Nat.{_+_, _*_, _≤_};
 ghost use lib.ListN.{length};
+ghost use Rattle.section.specs.Numbers.{mostPosts, mostBlocks};
 ghost use Rattle.text.specs.Text.{written};
 ghost use Rattle.image.specs.Image.{imageLength, trackLength, postsLength, numbersLength, flag, faultsByte, postImage, postsImage};
 ghost use Rattle.image.specs.Image.{numbersImage, actNumber, walkImage, trackHead, trackImage, imageOf};
+use image::POSTS_HELD;
 use section::Act;
+use section::MOST_BLOCKS;
 use section::Post;
+use section::Posts;
 use section::Section;
 use section::Track;
+use section::Trains;
 use section::Walk;
 
 fn flag(x: bool) -> u8
@@ -68,14 +73,14 @@ fn track_head(t: Track) -> [u8; 4]
     [flag(t.cvt), turn[0], turn[1], 0]
 }
 
-fn put_posts(buffer: &mut [u8], at: usize, posts: [Post; 16]) -> usize
+fn put_posts(buffer: &mut [u8], at: usize, posts: Posts) -> usize
     requires { ⌜ at + postsLength ≤ length (now buffer) ⌝ }
     ensures { λ r. ⌜ r ≡ at + postsLength ⌝ }
-    ensures { λ _. ⌜ now (buffer .exit) ≡ written (now (buffer .entry)) at (postsImage 16 posts) ⌝ }
+    ensures { λ _. ⌜ now (buffer .exit) ≡ written (now (buffer .entry)) at (postsImage mostPosts posts) ⌝ }
 {
     let mut next = at;
     let mut i = 0;
-    while i < 16 {
+    while i < POSTS_HELD {
         let bytes = post_bytes(posts[i]);
         next = text::put_text(buffer, next, &bytes);
         i += 1;
@@ -83,14 +88,14 @@ fn put_posts(buffer: &mut [u8], at: usize, posts: [Post; 16]) -> usize
     next
 }
 
-fn put_numbers(buffer: &mut [u8], at: usize, numbers: [u16; 15]) -> usize
+fn put_numbers(buffer: &mut [u8], at: usize, numbers: Trains) -> usize
     requires { ⌜ at + numbersLength ≤ length (now buffer) ⌝ }
     ensures { λ r. ⌜ r ≡ at + numbersLength ⌝ }
-    ensures { λ _. ⌜ now (buffer .exit) ≡ written (now (buffer .entry)) at (numbersImage 15 numbers) ⌝ }
+    ensures { λ _. ⌜ now (buffer .exit) ≡ written (now (buffer .entry)) at (numbersImage mostBlocks numbers) ⌝ }
 {
     let mut next = at;
     let mut i = 0;
-    while i < 15 {
+    while i < MOST_BLOCKS {
         let bytes = layout::pair_bytes(numbers[i]);
         next = text::put_text(buffer, next, &bytes);
         i += 1;

@@ -2,6 +2,7 @@
 ghost use mathlib.Core.Bool.{true, false, not, _&&_, _||_, cond};
 ghost use mathlib.Core.Path.{_≡_};
 ghost use Prim.Native.Nat.{_≤_, _<_};
+ghost use Rattle.section.specs.Numbers.{mostPosts};
 ghost use Rattle.section.specs.Range.{walkFits, trackFits};
 ghost use Rattle.section.specs.Settings.{isMaterialised, settingsRight};
 ghost use Rattle.rules.specs.Site.{siteOn, upAt, rankAt};
@@ -14,6 +15,7 @@ use section::Indications;
 use section::Section;
 use section::Settings;
 use section::Track;
+use section::Trains;
 use section::Walk;
 
 // CIRCULATION, in the paper's numbers.
@@ -36,7 +38,7 @@ const RED: u8 = 2;
 
 // How many posts, from the sending end on, have set in this reversal.
 fn set_count(n: u8, up: bool, walk: Walk) -> u8
-    requires { ⌜ (n ≤ 16) × (walkFits n up walk ≡ true) ⌝ }
+    requires { ⌜ (n ≤ mostPosts) × (walkFits n up walk ≡ true) ⌝ }
     ensures { λ r. ⌜ r ≡ setCount n up walk ⌝ }
 {
     match walk {
@@ -109,7 +111,7 @@ fn number(x: bool) -> u8
 }
 
 // What the post of a site shows.
-fn shown_at(c: Settings, e: Site, trains: &[u16; 15]) -> Indications
+fn shown_at(c: Settings, e: Site, trains: &Trains) -> Indications
     requires { ⌜ Fit c e ⌝ }
     ensures { λ r. ⌜ r ≡ shownAt c e (now (trains .entry)) ⌝ }
 {

@@ -115,7 +115,7 @@ pub fn settings_bytes(c: Settings) -> [u8; 8]
 }
 
 // The trailer of a file with so many steps.
-pub fn trailer(count: usize) -> [u8; 16]
+pub fn trailer(count: usize) -> [u8; TRAILER_LENGTH]
     requires { ⌜ count ≤ mostSteps ⌝ }
     ensures { λ r. ⌜ r ≡ trailer count ⌝ }
 {

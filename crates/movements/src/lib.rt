@@ -10,6 +10,7 @@ ghost use Rattle.movements.specs.Blocks.{HasBefore, HasBlocks};
 use rules::Movement;
 use rules::Site;
 use section::Settings;
+use section::Trains;
 
 pub fn block_ahead(c: Settings, e: Site) -> usize
     requires { ⌜ (Placed c e) × (HasAhead c e) ⌝ }
@@ -34,7 +35,7 @@ pub fn block_before(c: Settings, e: Site) -> usize
 }
 
 // Moves the train from and into its block sections.
-pub fn move_train(c: Settings, m: Movement, e: Site, trains: &mut [u16; 15])
+pub fn move_train(c: Settings, m: Movement, e: Site, trains: &mut Trains)
     requires { ⌜ (Placed c e) × (HasBlocks c e m) ⌝ }
     ensures { λ _. ⌜ now (trains .exit) ≡ trainsAfter c m e (now (trains .entry)) ⌝ }
 {
@@ -58,7 +59,7 @@ pub fn move_train(c: Settings, m: Movement, e: Site, trains: &mut [u16; 15])
 }
 
 // Notes the train as the last one of the block section that it enters.
-pub fn note_last(c: Settings, m: Movement, e: Site, last: &mut [u16; 15])
+pub fn note_last(c: Settings, m: Movement, e: Site, last: &mut Trains)
     requires { ⌜ (Placed c e) × (HasBlocks c e m) ⌝ }
     ensures { λ _. ⌜ now (last .exit) ≡ lastAfter c m e (now (last .entry)) ⌝ }
 {

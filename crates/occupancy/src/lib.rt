@@ -3,12 +3,14 @@ ghost use mathlib.Core.Bool.{true, false, cond};
 ghost use mathlib.Core.Path.{_≡_};
 ghost use Prim.Native.Nat.{_+_, _-_, _<_, _≤_};
 ghost use lib.ListN.{getD};
+ghost use Rattle.section.specs.Numbers.{mostBlocks, mostPosts};
 ghost use Rattle.section.specs.Geometry.{block};
 ghost use Rattle.section.specs.Settings.{isMaterialised};
 ghost use Rattle.rules.specs.Site.{anyTrain, hasNumber, atSendingEnd, atReceivingEnd, blockAhead, blockBefore, watchedOccupied};
 ghost use Rattle.site_positions.specs.Placed.{Placed};
 use rules::Site;
 use section::Settings;
+use section::Trains;
 use site_positions::at_receiving_end;
 use site_positions::rank_at;
 
@@ -19,8 +21,8 @@ fn widened(number: u16) -> u64
 }
 
 // The train, or the last train, of block section i, widened: the only place where a cell is read.
-pub fn train_in(cells: &[u16; 15], i: u8) -> u64
-    requires { ⌜ i < 15 ⌝ }
+pub fn train_in(cells: &Trains, i: u8) -> u64
+    requires { ⌜ i < mostBlocks ⌝ }
     ensures { λ r. ⌜ r ≡ getD (now (cells .entry)) i 0 ⌝ }
 {
     let at = i as usize;
@@ -28,16 +30,16 @@ pub fn train_in(cells: &[u16; 15], i: u8) -> u64
 }
 
 // The same of the block section that follows the post of rank j.
-pub fn train_after(cells: &[u16; 15], n: u8, up: bool, j: u8) -> u64
-    requires { ⌜ (j + 1 < n) × (n ≤ 16) ⌝ }
+pub fn train_after(cells: &Trains, n: u8, up: bool, j: u8) -> u64
+    requires { ⌜ (j + 1 < n) × (n ≤ mostPosts) ⌝ }
     ensures { λ r. ⌜ r ≡ getD (now (cells .entry)) (block n up j) 0 ⌝ }
 {
     train_in(cells, positions::block(n, up, j))
 }
 
 // A train in one of the first m block sections.
-pub fn any_train(m: u8, trains: &[u16; 15]) -> bool
-    requires { ⌜ m ≤ 15 ⌝ }
+pub fn any_train(m: u8, trains: &Trains) -> bool
+    requires { ⌜ m ≤ mostBlocks ⌝ }
     ensures { λ r. ⌜ r ≡ anyTrain m (now (trains .entry)) ⌝ }
 {
     let mut i = m;
@@ -51,8 +53,8 @@ pub fn any_train(m: u8, trains: &[u16; 15]) -> bool
 }
 
 // That number in one of the first m block sections.
-pub fn has_number(m: u8, number: u64, trains: &[u16; 15]) -> bool
-    requires { ⌜ m ≤ 15 ⌝ }
+pub fn has_number(m: u8, number: u64, trains: &Trains) -> bool
+    requires { ⌜ m ≤ mostBlocks ⌝ }
     ensures { λ r. ⌜ r ≡ hasNumber m number (now (trains .entry)) ⌝ }
 {
     let mut i = m;
@@ -66,7 +68,7 @@ pub fn has_number(m: u8, number: u64, trains: &[u16; 15]) -> bool
 }
 
 // The train in the block section before the post.
-pub fn train_before(c: Settings, e: Site, trains: &[u16; 15]) -> u64
+pub fn train_before(c: Settings, e: Site, trains: &Trains) -> u64
     requires { ⌜ (Placed c e) × (atSendingEnd c e ≡ false) ⌝ }
     ensures { λ r. ⌜ r ≡ getD (now (trains .entry)) (blockBefore c e) 0 ⌝ }
 {
@@ -79,7 +81,7 @@ pub fn train_before(c: Settings, e: Site, trains: &[u16; 15]) -> u64
 }
 
 // The train, or the last train, of the block section ahead.
-pub fn train_ahead(c: Settings, e: Site, cells: &[u16; 15]) -> u64
+pub fn train_ahead(c: Settings, e: Site, cells: &Trains) -> u64
     requires { ⌜ (Placed c e) × (atReceivingEnd c e ≡ false) ⌝ }
     ensures { λ r. ⌜ r ≡ getD (now (cells .entry)) (blockAhead c e) 0 ⌝ }
 {
@@ -92,7 +94,7 @@ pub fn train_ahead(c: Settings, e: Site, cells: &[u16; 15]) -> u64
 }
 
 // A train in the part that the post watches.
-pub fn watched_occupied(c: Settings, e: Site, trains: &[u16; 15]) -> bool
+pub fn watched_occupied(c: Settings, e: Site, trains: &Trains) -> bool
     requires { ⌜ Placed c e ⌝ }
     ensures { λ r. ⌜ r ≡ watchedOccupied c e (now (trains .entry)) ⌝ }
 {
@@ -103,7 +105,7 @@ pub fn watched_occupied(c: Settings, e: Site, trains: &[u16; 15]) -> bool
 }
 
 // 13 of order: by telephone a train anywhere on the track, materialised one in the part that the post watches.
-pub fn order_occupied(c: Settings, e: Site, trains: &[u16; 15]) -> bool
+pub fn order_occupied(c: Settings, e: Site, trains: &Trains) -> bool
     requires { ⌜ Placed c e ⌝ }
     ensures { λ r. ⌜ r ≡ cond (isMaterialised c) (watchedOccupied c e (now (trains .entry))) (anyTrain (c .posts - 1) (now (trains .entry))) ⌝ }
 {

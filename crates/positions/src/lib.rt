@@ -1,6 +1,7 @@
 // Positions on a track, and which posts are signalled.
 ghost use mathlib.Core.Path.{_≡_};
 ghost use Prim.Native.Nat.{_+_, _<_};
+ghost use Rattle.section.specs.Numbers.{mostPosts};
 ghost use Rattle.section.specs.Geometry.{upward, rank, block, isFirst, isLast};
 ghost use Rattle.section.specs.Settings.{bit};
 
@@ -45,7 +46,7 @@ pub fn is_last(n: u8, up: bool, p: u8) -> bool
 
 // Whether post p is signalled: bit p of the mask.
 pub fn is_signalled(mask: u16, p: u8) -> bool
-    requires { ⌜ p < 16 ⌝ }
+    requires { ⌜ p < mostPosts ⌝ }
     ensures { λ r. ⌜ r ≡ bit mask p ⌝ }
 {
     (mask >> p) & 1 == 1

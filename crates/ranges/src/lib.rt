@@ -3,7 +3,7 @@ ghost use mathlib.Core.Path.{_≡_};
 ghost use mathlib.Core.Bool.{_&&_};
 ghost use Prim.Native.Nat.{_-_, _<_, _≤_};
 ghost use lib.Dec.{leb};
-ghost use Rattle.section.specs.Numbers.{largestTrain, mostSeals};
+ghost use Rattle.section.specs.Numbers.{largestTrain, mostSeals, leastPosts, mostPosts};
 ghost use Rattle.section.specs.Range.{sealsFit, numbersFit, actFits, walkFits, trackFits, inRange};
 use positions::is_first;
 use positions::is_last;
@@ -31,7 +31,7 @@ fn post_and_block_fit(seals: u16, train: u16, last: u16) -> bool
 
 // Every post and block section of a track, in one loop from the last post down.
 fn cells_fit(n: u8, t: Track) -> bool
-    requires { ⌜ (2 ≤ n) × (n ≤ 16) ⌝ }
+    requires { ⌜ (leastPosts ≤ n) × (n ≤ mostPosts) ⌝ }
     ensures { λ r. ⌜ r ≡ (sealsFit n (t .posts) && (numbersFit (n - 1) (t .trains) && numbersFit (n - 1) (t .last))) ⌝ }
 {
     let mut i = (n - 1) as usize;
@@ -75,7 +75,7 @@ fn walk_fits(n: u8, up: bool, walk: Walk) -> bool
 }
 
 fn track_fits(n: u8, track: bool, t: Track) -> bool
-    requires { ⌜ (2 ≤ n) × (n ≤ 16) ⌝ }
+    requires { ⌜ (leastPosts ≤ n) × (n ≤ mostPosts) ⌝ }
     ensures { λ r. ⌜ r ≡ trackFits n track t ⌝ }
 {
     if !cells_fit(n, t) {

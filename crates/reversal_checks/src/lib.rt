@@ -16,10 +16,11 @@ use rules::Site;
 use section::Act;
 use section::Said;
 use section::Settings;
+use section::Trains;
 use section::Verdict;
 use site_positions::at_sending_end;
 
-pub fn order(c: Settings, e: Site, trains: &[u16; 15]) -> Verdict
+pub fn order(c: Settings, e: Site, trains: &Trains) -> Verdict
     requires { ⌜ Placed c e ⌝ }
     ensures { λ r. ⌜ r ≡ verdictAt c (Order (e .post)) e (now (trains .entry)) [] ⌝ }
 {
@@ -39,7 +40,7 @@ pub fn order(c: Settings, e: Site, trains: &[u16; 15]) -> Verdict
     Verdict::Accepted(Said::Nothing) // the reversal begins
 }
 
-pub fn set(c: Settings, e: Site, trains: &[u16; 15]) -> Verdict
+pub fn set(c: Settings, e: Site, trains: &Trains) -> Verdict
     requires { ⌜ Placed c e ⌝ }
     ensures { λ r. ⌜ r ≡ verdictAt c (Set (e .post)) e (now (trains .entry)) [] ⌝ }
 {

@@ -3,6 +3,7 @@ ghost use mathlib.Core.Path.{_≡_};
 ghost use mathlib.Core.Bool.{cond};
 ghost use Prim.Native.Nat.{_-_};
 ghost use Rattle.section.specs.Fresh.{freshTrack, freshSection};
+use crate::MOST_BLOCKS;
 use crate::MOST_POSTS;
 use crate::Section;
 use crate::Settings;
@@ -26,7 +27,7 @@ pub fn fresh_start(n: u8, track: bool) -> u8
 pub fn fresh_track(n: u8, track: bool) -> Track
     ensures { λ r. ⌜ r ≡ freshTrack n track ⌝ }
 {
-    let mut posts = [blank(); 16];
+    let mut posts = [blank(); MOST_POSTS as usize];
     let start = fresh_start(n, track);
     if start < MOST_POSTS {
         let i = start as usize;
@@ -34,8 +35,8 @@ pub fn fresh_track(n: u8, track: bool) -> Track
     }
     Track {
         posts: posts,
-        trains: [0; 15],
-        last: [0; 15],
+        trains: [0; MOST_BLOCKS],
+        last: [0; MOST_BLOCKS],
         cvt: false,
         walk: Walk::Settled,
     }

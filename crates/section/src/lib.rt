@@ -11,6 +11,9 @@ pub const LEAST_POSTS: u8 = 2;
 
 pub const MOST_POSTS: u8 = 16;
 
+// Block sections: one fewer.
+pub const MOST_BLOCKS: usize = MOST_POSTS as usize - 1;
+
 pub const LARGEST_LINE: u16 = 999;
 
 pub const LARGEST_TRAIN: u16 = 9999;
@@ -88,11 +91,17 @@ pub enum Walk {
     Turn(u8, Act),
 }
 
+// The records of a track's posts.
+pub type Posts = [Post; MOST_POSTS as usize];
+
+// The numbers of trains, one a block section: the trains there, or the last that entered.
+pub type Trains = [u16; MOST_BLOCKS];
+
 // A track. `cvt`: its running direction is CVT. Block section i lies between posts i and i + 1.
 pub struct Track {
-    pub posts: [Post; 16],
-    pub trains: [u16; 15],
-    pub last: [u16; 15],
+    pub posts: Posts,
+    pub trains: Trains,
+    pub last: Trains,
     pub cvt: bool,
     pub walk: Walk,
 }

@@ -1,6 +1,7 @@
 // Whether settings are in their ranges: refusal 3.
 ghost use mathlib.Core.Path.{_≡_};
 ghost use Prim.Native.Nat.{_≤_};
+ghost use Rattle.section.specs.Numbers.{mostPosts};
 ghost use Rattle.section.specs.Settings.{noneFrom, settingsRight};
 use positions::is_signalled;
 use section::LARGEST_LINE;
@@ -10,7 +11,7 @@ use section::Settings;
 
 // No bit at n or above. (At 16 bits a shift by 16 is an error, so the mask is widened.)
 fn none_from(mask: u16, n: u8) -> bool
-    requires { ⌜ n ≤ 16 ⌝ }
+    requires { ⌜ n ≤ mostPosts ⌝ }
     ensures { λ r. ⌜ r ≡ noneFrom mask n ⌝ }
 {
     (mask as u32) >> n == 0

@@ -2,17 +2,19 @@
 ghost use mathlib.Core.Bool.{_&&_};
 ghost use mathlib.Core.Path.{_≡_};
 ghost use Prim.Native.Nat.{suc, _-_, _<_, _≤_};
+ghost use Rattle.section.specs.Numbers.{mostPosts};
 ghost use Rattle.rules.specs.Site.{rankAt, stretchEnds, stretchHolds, trainAt};
 ghost use Rattle.site_positions.specs.Placed.{Placed};
 ghost use Rattle.stretches.specs.Stretch.{stretchOccupied};
 use occupancy::train_after;
 use rules::Site;
 use section::Settings;
+use section::Trains;
 use site_positions::rank_at;
 
 // Whether a stretch ends at the post of rank j: in VNS at every post, in CVT at a signalled one.
 pub fn stretch_ends(c: Settings, track: bool, cvt: bool, j: u8) -> bool
-    requires { ⌜ (j < c .posts) × (c .posts ≤ 16) ⌝ }
+    requires { ⌜ (j < c .posts) × (c .posts ≤ mostPosts) ⌝ }
     ensures { λ r. ⌜ r ≡ stretchEnds c track cvt j ⌝ }
 {
     if !cvt {
@@ -25,8 +27,8 @@ pub fn stretch_ends(c: Settings, track: bool, cvt: bool, j: u8) -> bool
 }
 
 // A train in the stretch that begins at the post of rank `from`.
-pub fn stretch_holds(c: Settings, track: bool, cvt: bool, from: u8, trains: &[u16; 15]) -> bool
-    requires { ⌜ (from < c .posts) × (c .posts ≤ 16) ⌝ }
+pub fn stretch_holds(c: Settings, track: bool, cvt: bool, from: u8, trains: &Trains) -> bool
+    requires { ⌜ (from < c .posts) × (c .posts ≤ mostPosts) ⌝ }
     ensures { λ r. ⌜ r ≡ stretchHolds (stretchEnds c track cvt) (trainAt c track cvt (now (trains .entry))) (c .posts - suc from) from ⌝ }
 {
     let n = c.posts;
@@ -44,7 +46,7 @@ pub fn stretch_holds(c: Settings, track: bool, cvt: bool, from: u8, trains: &[u1
     false
 }
 
-pub fn stretch_occupied(c: Settings, e: Site, trains: &[u16; 15]) -> bool
+pub fn stretch_occupied(c: Settings, e: Site, trains: &Trains) -> bool
     requires { ⌜ Placed c e ⌝ }
     ensures { λ r. ⌜ r ≡ stretchOccupied c e (now (trains .entry)) ⌝ }
 {
@@ -52,7 +54,7 @@ pub fn stretch_occupied(c: Settings, e: Site, trains: &[u16; 15]) -> bool
 }
 
 // 13 of pass: a train in the stretch that begins at the post, if one does.
-pub fn pass_occupied(c: Settings, e: Site, trains: &[u16; 15]) -> bool
+pub fn pass_occupied(c: Settings, e: Site, trains: &Trains) -> bool
     requires { ⌜ Placed c e ⌝ }
     ensures { λ r. ⌜ r ≡ (stretchEnds c (e .track) (e .cvt) (rankAt c e) && stretchOccupied c e (now (trains .entry))) ⌝ }
 {

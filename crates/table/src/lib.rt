@@ -7,6 +7,7 @@ use section::Post;
 use section::Settings;
 use section::Step;
 use section::TrackStep;
+use section::Trains;
 use section::Verdict;
 use sites::Running;
 
@@ -34,7 +35,7 @@ fn as_before(verdict: Verdict, e: Site) -> Judged
 }
 
 // Judges a step at its site, and moves its train where it is accepted.
-fn judge_at(c: Settings, x: Step, e: Site, trains: &mut [u16; 15], last: &mut [u16; 15]) -> Judged
+fn judge_at(c: Settings, x: Step, e: Site, trains: &mut Trains, last: &mut Trains) -> Judged
     requires { ⌜ Fit c e ⌝ }
     ensures { λ r. ⌜ r ≡ judgedAt c x e (now (trains .entry)) (now (last .entry)) ⌝ }
     ensures { λ _. ⌜ now (trains .exit) ≡ trainsAt c x e (now (trains .entry)) (now (last .entry)) ⌝ }
@@ -69,8 +70,8 @@ pub fn judge_step(
     own: Post,
     running: Running,
     other: Running,
-    trains: &mut [u16; 15],
-    last: &mut [u16; 15],
+    trains: &mut Trains,
+    last: &mut Trains,
 ) -> Judged
     requires { ⌜ Fit c (siteFor x own running other) ⌝ }
     ensures { λ r. ⌜ r ≡ judgedAt c (x .step) (siteFor x own running other) (now (trains .entry)) (now (last .entry)) ⌝ }

@@ -16,9 +16,11 @@ ghost use Rattle.whole_day.specs.Rows.{row, freshPosts, settled, letterA
 use notes::NOTE_LENGTH;
 use notes::put_note;
 use section::Decoded;
-use section::Post;
+use section::MOST_BLOCKS;
+use section::Posts;
 use section::STEP_LENGTH;
 use section::Settings;
+use section::Trains;
 use section::Verdict;
 use section::Walk;
 use sites::Running;
@@ -33,7 +35,7 @@ fn row_of(track: bool) -> usize
 }
 
 // The posts' records of a fresh section.
-fn fresh_posts(c: Settings) -> [[Post; 16]; 2]
+fn fresh_posts(c: Settings) -> [Posts; 2]
     ensures { λ r. ⌜ r ≡ freshPosts c ⌝ }
 {
     let fresh = section::fresh(c);
@@ -82,14 +84,14 @@ fn note_verdict(notes: &mut [u8], i: usize, verdict: Verdict, running: [Running;
 }
 
 // Notes the steps of a day, which begins with those records, free block sections and both tracks settled on VNS.
-fn note_from(c: Settings, fresh: [[Post; 16]; 2], steps: &[u8], count: usize, notes: &mut [u8])
+fn note_from(c: Settings, fresh: [Posts; 2], steps: &[u8], count: usize, notes: &mut [u8])
     requires { ⌜ (settingsRight c ≡ true) × (fresh ≡ freshPosts c) ⌝ }
     requires { ⌜ (stepLength * count ≤ length (now steps)) × (noteLength * count ≤ length (now notes)) ⌝ }
     ensures { λ _. ⌜ now (notes .exit) ≡ written (now (notes .entry)) 0 (notesOf c (now (steps .entry)) count) ⌝ }
 {
     let mut posts = fresh;
-    let mut trains: [[u16; 15]; 2] = [[0; 15]; 2];
-    let mut last: [[u16; 15]; 2] = [[0; 15]; 2];
+    let mut trains: [Trains; 2] = [[0; MOST_BLOCKS]; 2];
+    let mut last: [Trains; 2] = [[0; MOST_BLOCKS]; 2];
     let mut running = both_settled();
     let mut i: usize = 0;
     while i < count {
