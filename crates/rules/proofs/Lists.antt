@@ -4,7 +4,7 @@ use mathlib.Core.Bool.{Bool, true, false, cond, not}
 use mathlib.Core.Path.{_≡_, refl, sym, ap, _∙_}
 use mathlib.Core.List.{List, [], _∷_, _++_, append-nil}
 use lib.Dec.{T}
-use Rattle.rules.specs.Demand3.{Taken, keep, All, Perm, none-left, same, swapped, chained, isOfPost, isOfTrain, isAnnouncement}
+use Rattle.rules.specs.Demand3.{Taken, keep, All, Perm, none-left, same, swapped, chained, isOfPost, isStepOfTrain, isAnnouncement}
 
 module _ {A : Type 0} where
   -- ## All
@@ -68,12 +68,13 @@ module _ {A : Type 0} where
 
 -- whose steps are to stay in sequence: a post's, a train's, and the announcements
 pub data Owner : Type 0 where
-  aPost aTrain : Bool → ℕ → Owner
+  aPost : Bool → ℕ → Owner
+  aTrain : ℕ → Owner
   announcers : Owner
 
 abbrev pub owns : Owner → Taken → Bool
 owns (aPost b p) = isOfPost b p
-owns (aTrain b z) = isOfTrain b z
+owns (aTrain z) = isStepOfTrain z
 owns announcers = isAnnouncement
 
 pub record Reordered (ds new : List Taken) : Type 0 where

@@ -19,7 +19,7 @@ use Rattle.section.specs.Geometry.{upward}
 use Rattle.section.specs.Store.{trackOf}
 use Rattle.rules.specs.Site.{isSettled, isTurn, siteOn, otherSettledOnVns, atSendingEnd, atReceivingEnd, nextPost}
 use Rattle.rules.specs.Table.{checks, effect, trackAfter}
-use Rattle.rules.specs.Demand3.{Taken, All, keep, isOfPost, isOfTrain, isSpoken}
+use Rattle.rules.specs.Demand3.{Taken, All, keep, isOfPost, isStepOfTrain, isSpoken}
 use Rattle.rules.proofs.Facts.{and-l, and-r, or-false, true-T, ne→neqb, by-track, next-rank}
 use Rattle.rules.proofs.View.{Reversal, order, setDevice, announce, acknowledge, key, Motion, start, pass, leave, Condition, View, walks, runs}
 use Rattle.rules.proofs.View.{notes, releases, flat, post-flat, on}
@@ -31,7 +31,7 @@ use Rattle.rules.proofs.Swap.{onward-facts}
 use Rattle.rules.proofs.Exchange.{here-after, there-after, calm-walk, calm-cvt, calm-walks, calm-cvts, calm-word, Exchanged, exchange-note}
 use Rattle.rules.proofs.Exchange.{exchange-onward, exchange-other}
 use Rattle.rules.proofs.Reached.{Reached, fresh-settled}
-use Rattle.rules.proofs.TrainSteps.{ofTrain, train-test}
+use Rattle.rules.proofs.TrainSteps.{ofTrain, own-test}
 use Rattle.rules.proofs.Lists.{all-last, all-map, keep-none, Owner, aPost, aTrain, announcers, owns, Reordered, reordered-nil, reordered-last}
 use Rattle.rules.proofs.Lists.{reordered-insert}
 use Rattle.rules.proofs.Perform.{AcceptedStep, stepOf, takenOf, taken-last, taken-all, Performed, done, performed-append, performed-one}
@@ -141,17 +141,14 @@ module _ (c : Settings) where
   post-test b i b′ p′ =
       ap₂ (λ w q. Bool·beq w b′ && eqb q p′) (sym (i .says .track-is)) (sym (i .says .fields .post-is) ∙ post-flat (i .post) (i .kind))
 
-  still-no-train : (b : Bool) (i : AcceptedStep c b) → T (still (i .kind)) → (b′ : Bool) (z : ℕ) → T (not (isOfTrain b′ z (i .taken)))
-  still-no-train b i j b′ z = rw (train-test (c .posts) (i .taken) (stepOf c b i) (i .says) b′ z) (go (i .kind) (Bool·beq b b′) j)
+  still-no-train : (b : Bool) (i : AcceptedStep c b) → T (still (i .kind)) → (z : ℕ) → T (not (isStepOfTrain z (i .taken)))
+  still-no-train b i j z = rw (own-test (c .posts) (i .taken) (stepOf c b i) (i .says) z) (go (i .kind) j)
     where
-      go : (k : View) (w : Bool) → T (still k) → T (not (w && ofTrain z k))
-      go (walks r) true j = tt
-      go (walks r) false j = tt
-      go (runs m y) w j = absurd j
-      go (notes k) true j = tt
-      go (notes k) false j = tt
-      go (releases y) true j = tt
-      go (releases y) false j = tt
+      go : (k : View) → T (still k) → T (not (ofTrain z k))
+      go (walks r) j = tt
+      go (runs m y) j = absurd j
+      go (notes k) j = tt
+      go (releases y) j = tt
 
   -- a step is of another post, or of another track, than a late one
   abbrev Apart : (b : Bool) → AcceptedStep c b → (d : Bool) → AcceptedStep c d → Type 0
@@ -180,10 +177,10 @@ module _ (c : Settings) where
     no-owner b x j said h (aPost b′ p′) t =
         keep-none (isOfPost b′ p′) (takenOf c (g .track) (g .late))
         (taken-all c (g .track) (Apart b x (g .track)) (λ d. T (not (isOfPost b′ p′ d))) (λ i f. f b′ p′ t) (g .late) h)
-    no-owner b x j said h (aTrain b′ z) t =
-        keep-none (isOfTrain b′ z) (takenOf c (g .track) (g .late))
-        (taken-all c (g .track) (λ (i : AcceptedStep c (g .track)). T (still (i .kind))) (λ d. T (not (isOfTrain b′ z d)))
-        (λ i f. still-no-train (g .track) i f b′ z) (g .late)
+    no-owner b x j said h (aTrain z) t =
+        keep-none (isStepOfTrain z) (takenOf c (g .track) (g .late))
+        (taken-all c (g .track) (λ (i : AcceptedStep c (g .track)). T (still (i .kind))) (λ d. T (not (isStepOfTrain z d)))
+        (λ i f. still-no-train (g .track) i f z) (g .late)
         (late-still c (g .track) (g .late) (g .base) s (g .held)))
     no-owner b x j said h announcers t =
         absurd (subst (λ w. T (isSpoken w)) (sym said ∙ calm-word c s b (x .post) (x .kind) j) t)

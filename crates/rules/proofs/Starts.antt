@@ -1,8 +1,9 @@
 -- At most one post of a track may start trains: the sending end.
 use Prim.Native.Nat.{ℕ, _<_}
-use mathlib.Core.Bool.{Bool, true, false}
-use mathlib.Core.Path.{_≡_, sym, ap, _∙_, subst}
+use mathlib.Core.Bool.{Bool, true, false, not}
+use mathlib.Core.Path.{_≡_, refl, sym, ap, _∙_, subst}
 use native.Mathlib.Omega.{arith}
+use lib.Dec.{T}
 use Rattle.section.specs.declared.Settings.{Settings}
 use Rattle.section.specs.declared.Said.{Said}
 use Rattle.section.specs.declared.Verdict.{Verdict}
@@ -11,15 +12,15 @@ use Rattle.section.specs.declared.Walk.{Walk}
 use Rattle.section.specs.declared.Walk.the-variants.{Settled, Turn}
 use Rattle.section.specs.declared.Track.{Track}
 use Rattle.section.specs.declared.Section.{Section}
-use Rattle.section.specs.Geometry.{upward}
+use Rattle.section.specs.Geometry.{upward, rank}
 use Rattle.section.specs.Settings.{settingsRight}
 use Rattle.section.specs.Step.{kindOf}
 use Rattle.section.specs.Store.{trackOf}
-use Rattle.rules.specs.Site.{otherSettledOnVns}
+use Rattle.rules.specs.Site.{isSettled, otherSettledOnVns}
 use Rattle.rules.specs.Table.{checks}
 use Rattle.rules.specs.Judge.{judge}
-use Rattle.rules.specs.Demand3.{Taken, track, post, kind, MayStart, permission, start}
-use Rattle.rules.proofs.Facts.{rank-inj, first-rank}
+use Rattle.rules.specs.Demand3.{Taken, track, post, kind, sendingEnd, MayStart, permission, start}
+use Rattle.rules.proofs.Facts.{rank-rank, rank-inj, first-rank}
 use Rattle.rules.proofs.View.{order, setDevice, announce, acknowledge, key, pass, leave, measures, fault, View, walks, runs, notes, releases}
 use Rattle.rules.proofs.View.{flat, post-flat, Seen, shown}
 use Rattle.rules.proofs.View as view
@@ -31,14 +32,15 @@ use Rattle.rules.proofs.Reached.{Reached, reached-in-range}
 
 module _ (c : Settings) where
   -- a step of kind 5 is a start
-  start-first : (v b : Bool) (p : ℕ) (k : View) (t : Track) → kindOf (flat p k) ≡ 5 → Passes c v b p k t → rankOn c b (t .cvt) p ≡ 0
+  start-first : (v b : Bool) (p : ℕ) (k : View) (t : Track) → kindOf (flat p k) ≡ 5 → Passes c v b p k t
+      → (rankOn c b (t .cvt) p ≡ 0) × T (isSettled (t .walk))
   unfolding checks flat kindOf
   start-first v b p (walks order) t e h = absurd (omega arith)
   start-first v b p (walks setDevice) t e h = absurd (omega arith)
   start-first v b p (walks announce) t e h = absurd (omega arith)
   start-first v b p (walks acknowledge) t e h = absurd (omega arith)
   start-first v b p (walks key) t e h = absurd (omega arith)
-  start-first v b p (runs view.start z) t e h = first-rank (c .posts) (upward b (t .cvt)) p (h .held .1 .0)
+  start-first v b p (runs view.start z) t e h = (first-rank (c .posts) (upward b (t .cvt)) p (h .held .1 .0), h .held .0)
   start-first v b p (runs pass z) t e h = absurd (omega arith)
   start-first v b p (runs leave z) t e h = absurd (omega arith)
   start-first v b p (notes (measures true)) t e h = absurd (omega arith)
@@ -48,7 +50,7 @@ module _ (c : Settings) where
   start-first v b p (releases z) t e h = absurd (omega arith)
 
   abbrev Sends : Section → Bool → ℕ → Type 0
-  Sends s b p = (p < c .posts) × (rankOn c b (trackOf s b .cvt) p ≡ 0)
+  Sends s b p = (p < c .posts) × ((rankOn c b (trackOf s b .cvt) p ≡ 0) × T (isSettled (trackOf s b .walk)))
 
   not-refused : (v : Verdict) (w : Said) (k : ℕ) → v ≡ Accepted w → v ≡ Refused k → ⊥
   not-refused v w k e f = let z : _≡_ {A = ℕ} 0 1 = cc in omega arith
@@ -62,8 +64,8 @@ module _ (c : Settings) where
   may-start-sends : settingsRight c ≡ true → (s : Section) (b : Bool) (p : ℕ) → Reached c s → MayStart c s b p → Sends s b p
   may-start-sends right s b p r (permission p<n h) = (p<n, go (trackOf s b .walk) (r .sound b .permits p p<n h))
     where
-      go : (w : Walk) → MayHold c b w (rankOn c b (trackOf s b .cvt) p) → rankOn c b (trackOf s b .cvt) p ≡ 0
-      go Settled e = e
+      go : (w : Walk) → MayHold c b w (rankOn c b (trackOf s b .cvt) p) → (rankOn c b (trackOf s b .cvt) p ≡ 0) × T (isSettled w)
+      go Settled e = (e, tt)
       go (Turn q a) e = absurd e
   may-start-sends right s b p r (start d ek et ep ev) =
       subst (λ b. Sends s b p) et (subst (Sends s (track d)) ep (go (judged c s (r .settings) (reached-in-range c right s r) (d .bytes))))
@@ -76,4 +78,18 @@ module _ (c : Settings) where
   one-starter right s b r p q f g =
       let a = may-start-sends right s b p r f in
       let d = may-start-sends right s b q r g in
-      rank-inj (c .posts) (upward b (trackOf s b .cvt)) p q (a .0) (d .0) (a .1 ∙ sym (d .1))
+      rank-inj (c .posts) (upward b (trackOf s b .cvt)) p q (a .0) (d .0) (a .1 .0 ∙ sym (d .1 .0))
+
+  -- the sending end, on a settled track
+  pub starter : settingsRight c ≡ true → (s : Section) (b : Bool) → Reached c s → (p : ℕ) → MayStart c s b p
+      → {under : Bool} → under ≡ not (isSettled (trackOf s b .walk)) → (p ≡ sendingEnd c b (trackOf s b)) × (under ≡ false)
+  starter right s b r p f agrees =
+      let a = may-start-sends right s b p r f in
+      (
+        sym (rank-rank (c .posts) (upward b (trackOf s b .cvt)) p (a .0)) ∙ ap (rank (c .posts) (upward b (trackOf s b .cvt))) (a .1 .0),
+        agrees ∙ go (isSettled (trackOf s b .walk)) (a .1 .1),
+      )
+    where
+      go : (w : Bool) → T w → not w ≡ false
+      go true t = refl
+      go false t = absurd t

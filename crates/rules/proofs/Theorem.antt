@@ -22,7 +22,7 @@ use Rattle.rules.proofs.Lists.{aPost, aTrain, announcers}
 use Rattle.rules.proofs.UnderWay.{Agrees, agrees-kept, fresh-agrees, under-way}
 use Rattle.rules.proofs.Perform.{performed-performs}
 use Rattle.rules.proofs.Sort.{Progress, progress, fresh-progress, Sorted, sorted}
-use Rattle.rules.proofs.Starts.{one-starter}
+use Rattle.rules.proofs.Starts.{one-starter, starter}
 
 module _ (c : Settings) (right : settingsRight c ≡ true) where
   -- ## Along the list
@@ -70,6 +70,7 @@ module _ (c : Settings) (right : settingsRight c ≡ true) where
           one-after-another = runs .one-after-another;
           kept = runs .kept;
           one-starter = one-starter c right end b (reached-throughout offered);
+          starter = λ p may. starter c right end b (reached-throughout offered) p may (under-way c end steps (all-kept offered .agrees) b);
           walk-agrees = under-way c end steps (all-kept offered .agrees) b;
         }
 
@@ -78,7 +79,7 @@ module _ (c : Settings) (right : settingsRight c ≡ true) where
       order = o .order;
       each-once = o .kept .each-once;
       posts-in-sequence = λ b p. o .kept .in-sequence (aPost b p);
-      trains-in-sequence = λ b z. o .kept .in-sequence (aTrain b z);
+      trains-in-sequence = λ z. o .kept .in-sequence (aTrain z);
       announcements = o .kept .in-sequence announcers;
       performs = performed-performs c right [] (fresh-reached c (posts-right c right .0) (posts-right c right .1)) (fresh-agrees c) (o .performed);
     }

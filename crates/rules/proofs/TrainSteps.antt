@@ -6,7 +6,7 @@ use mathlib.Core.List.{List}
 use lib.Dec.{T, eqb}
 use Rattle.section.specs.Bytes.{within}
 use Rattle.section.specs.Step.{kindOf, numberOf}
-use Rattle.rules.specs.Demand3.{Taken, kind, post, number, isOfTrain, Run, noteStep}
+use Rattle.rules.specs.Demand3.{Taken, kind, post, number, isStepOfTrain, isOfTrain, Run, noteStep}
 use Rattle.rules.proofs.View.{order, setDevice, announce, acknowledge, key, Motion, start, pass, leave, measures, fault}
 use Rattle.rules.proofs.View.{View, walks, runs, notes, releases, flat, post-flat, Seen, shown}
 use Rattle.rules.proofs.Reading.{Says}
@@ -54,10 +54,12 @@ module _ (n : ℕ) (d : Taken) (x : Seen) (h : Says n (d .bytes) (shown x)) wher
   post-said : post d ≡ x .post
   post-said = sym (h .fields .post-is) ∙ post-flat (x .post) (x .kind)
 
+  pub own-test : (z : ℕ) → isStepOfTrain z d ≡ ofTrain z (x .kind)
+  own-test z =
+      rw (← h .fields .kind-is) (train-kind (x .post) z (number d) (x .kind) (rw (← h .fields .kind-is) at (h .fields .number-is)))
+
   pub train-test : (b : Bool) (z : ℕ) → isOfTrain b z d ≡ (Bool·beq (x .track) b && ofTrain z (x .kind))
-  train-test b z =
-      rw (← h .track-is, ← h .fields .kind-is)
-      (ap (λ w. Bool·beq (x .track) b && w) (train-kind (x .post) z (number d) (x .kind) (rw (← h .fields .kind-is) at (h .fields .number-is))))
+  train-test b z = rw (← h .track-is) (ap (λ w. Bool·beq (x .track) b && w) (own-test z))
 
   -- one that is of no train counts for nothing
   pub note-test : (b : Bool) (z : ℕ) (rs : List Run)

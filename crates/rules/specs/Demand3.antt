@@ -57,10 +57,15 @@ post d = byte (d .bytes) 2
 abbrev pub number : Taken → ℕ
 number d = pair (byte (d .bytes) 4) (byte (d .bytes) 5)
 
--- "A train's own steps are its starts, passes and leaves; every step, these too, is its post's own.": on one track
-abbrev pub isOfTrain : Bool → ℕ → Taken → Bool
-isOfTrain b z d = Bool·beq (track d) b && (within 5 7 (kind d) && eqb (number d) z)
+-- "A train's own steps are its starts, passes and leaves"
+abbrev pub isStepOfTrain : ℕ → Taken → Bool
+isStepOfTrain z d = within 5 7 (kind d) && eqb (number d) z
 
+-- those on one track
+abbrev pub isOfTrain : Bool → ℕ → Taken → Bool
+isOfTrain b z d = Bool·beq (track d) b && isStepOfTrain z d
+
+-- "every step, these too, is its post's own": on one track
 abbrev pub isOfPost : Bool → ℕ → Taken → Bool
 isOfPost b p d = Bool·beq (track d) b && eqb (post d) p
 
@@ -229,6 +234,8 @@ module _ (c : Settings) where
     pub one-after-another : (z : ℕ) → OneAfterAnother (runsOf b z ds)
     pub kept : (i : ℕ) → suc i < c .posts → (getD (trackOf s b .trains) i 0 ≡ 0) ⊎ TrainThere b (trackOf s b) ds i
     pub one-starter : (p q : ℕ) → MayStart s b p → MayStart s b q → p ≡ q
+    -- that post is the sending end, and there is none while a reversal is under way
+    pub starter : (p : ℕ) → MayStart s b p → (p ≡ sendingEnd b (trackOf s b)) × (underWay (c .posts) b ds ≡ false)
     -- "under way", over the accepted steps, agrees with the walk that the state keeps
     pub walk-agrees : underWay (c .posts) b ds ≡ not (isSettled (trackOf s b .walk))
 
@@ -251,9 +258,10 @@ module _ (c : Settings) where
     pub order : List Taken
     -- "each accepted step stands once and nothing else does"
     pub each-once : Perm order ds
-    -- per track, each post's and each train's own steps in sequence
+    -- per track, each post's own steps in sequence
     pub posts-in-sequence : (b : Bool) (p : ℕ) → keep (isOfPost b p) order ≡ keep (isOfPost b p) ds
-    pub trains-in-sequence : (b : Bool) (z : ℕ) → keep (isOfTrain b z) order ≡ keep (isOfTrain b z) ds
+    -- each train's own steps in sequence, those of both tracks together
+    pub trains-in-sequence : (z : ℕ) → keep (isStepOfTrain z) order ≡ keep (isStepOfTrain z) ds
     -- the announcements in the same sequence
     pub announcements : keep isAnnouncement order ≡ keep isAnnouncement ds
     -- "It begins on the same fresh section; the end state is the same in every field"
