@@ -16,10 +16,11 @@ use Rattle.section.specs.Geometry.{upward, block}
 use Rattle.section.specs.Numbers.{leastPosts, mostPosts, mostBlocks}
 use Rattle.section.specs.Settings.{settingsRight}
 use Rattle.section.specs.Store.{trackOf}
+use Rattle.section.proofs.Laws.{block-lt}
 use Rattle.rules.specs.Site.{otherSettledOnVns, trainAt, stretchEnds}
 use Rattle.rules.specs.Demand3.{stateAfter, Taken, acceptedSteps, kind, post, isOfTrain, keep, All, Run, noteStep, runsFrom, runsOf}
 use Rattle.rules.specs.Demand3.{OneAfterAnother, TrainThere, Fate}
-use Rattle.rules.proofs.Facts.{by-track, beq-same, beq-other, block-lt}
+use Rattle.rules.proofs.Facts.{by-track, beq-same, beq-other}
 use Rattle.rules.proofs.View.{Seen, shown}
 use Rattle.rules.proofs.Reading.{Says}
 use Rattle.rules.proofs.Accept.{Passes, moved, Ok, next}

@@ -19,12 +19,13 @@ use Rattle.section.specs.declared.Track.{Track}
 use Rattle.section.specs.Geometry.{upward, block, isLast}
 use Rattle.section.specs.Numbers.{mostPosts, mostBlocks}
 use Rattle.section.specs.Post.{blank}
+use Rattle.section.proofs.Laws.{rank-lt, rank-inj, block-inj, block-lt, block-block}
 use Rattle.rules.specs.declared.Site.{Site}
 use Rattle.rules.specs.Site.{siteOn, isTurn, atSendingEnd, atReceivingEnd, blockAhead, blockBefore, nextPost, trainAt, watchedOccupied}
 use Rattle.rules.specs.Site.{occupancyAt}
 use Rattle.rules.specs.Table.{checks, effect, trainsAfter, trackAfter}
 use Rattle.rules.specs.Indications.{setCount}
-use Rattle.rules.proofs.Facts.{true-T, false-T, notnot, nor-l, nor-r, rank-lt, rank-inj, block-inj, block-lt, block-block, first-rank}
+use Rattle.rules.proofs.Facts.{true-T, false-T, notnot, nor-l, nor-r, first-rank}
 use Rattle.rules.proofs.Facts.{not-first-rank, last-rank, not-last-rank, next-rank, far-end, set-zero}
 use Rattle.rules.proofs.View.{order, setDevice, announce, acknowledge, key, start, pass, leave, View, walks, runs, notes, releases, flat}
 use Rattle.rules.proofs.Frame.{is-turn, is-settled, still, calm, calm-effect, still-train, trains-length, last-length}

@@ -13,10 +13,11 @@ use lib.Dec.{T, eqb, eqb→eq}
 use Rattle.section.specs.declared.Settings.{Settings}
 use Rattle.section.specs.declared.Track.{Track}
 use Rattle.section.specs.Geometry.{upward, rank, block}
+use Rattle.section.proofs.Laws.{block-lt, block-block}
 use Rattle.rules.specs.Demand3.{Taken, All, Run, notePass, noteLeave, latest, runsOf, hasEnded, OneAfterAnother, otherEnd}
 use Rattle.rules.specs.Demand3.{placeOf, BetweenThePosts, TrainThere, inTurn, LeftAtTheFarEnd, Fate}
 use Rattle.rules.specs.Site.{trainAt}
-use Rattle.rules.proofs.Facts.{neqb→ne, ne→neqb, T-false, true-T, false-T, block-lt, block-block}
+use Rattle.rules.proofs.Facts.{neqb→ne, ne→neqb, T-false, true-T, false-T}
 use Rattle.rules.proofs.View.{Motion, start, pass, leave}
 use Rattle.rules.proofs.Stretches.{TrainEnters, TrainMoves, TrainLeaves}
 

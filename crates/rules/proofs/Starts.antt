@@ -16,11 +16,12 @@ use Rattle.section.specs.Geometry.{upward, rank}
 use Rattle.section.specs.Settings.{settingsRight}
 use Rattle.section.specs.Step.{kindOf}
 use Rattle.section.specs.Store.{trackOf}
+use Rattle.section.proofs.Laws.{rank-rank, rank-inj}
 use Rattle.rules.specs.Site.{isSettled, otherSettledOnVns}
 use Rattle.rules.specs.Table.{checks}
 use Rattle.rules.specs.Judge.{judge}
 use Rattle.rules.specs.Demand3.{Taken, track, post, kind, sendingEnd, MayStart, permission, start}
-use Rattle.rules.proofs.Facts.{rank-rank, rank-inj, first-rank}
+use Rattle.rules.proofs.Facts.{first-rank}
 use Rattle.rules.proofs.View.{order, setDevice, announce, acknowledge, key, pass, leave, measures, fault, View, walks, runs, notes, releases}
 use Rattle.rules.proofs.View.{flat, post-flat, Seen, shown}
 use Rattle.rules.proofs.View as view
@@ -84,8 +85,7 @@ module _ (c : Settings) where
   pub starter : settingsRight c ≡ true → (s : Section) (b : Bool) → Reached c s → (p : ℕ) → MayStart c s b p
       → {under : Bool} → under ≡ not (isSettled (trackOf s b .walk)) → (p ≡ sendingEnd c b (trackOf s b)) × (under ≡ false)
   starter right s b r p f agrees =
-      let a = may-start-sends right s b p r f in
-      (
+      let a = may-start-sends right s b p r f in (
         sym (rank-rank (c .posts) (upward b (trackOf s b .cvt)) p (a .0)) ∙ ap (rank (c .posts) (upward b (trackOf s b .cvt))) (a .1 .0),
         agrees ∙ go (isSettled (trackOf s b .walk)) (a .1 .1),
       )

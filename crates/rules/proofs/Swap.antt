@@ -17,11 +17,12 @@ use Rattle.section.specs.Post.{blank}
 use Rattle.section.specs.Settings.{isMaterialised}
 use Rattle.section.specs.Step.{numberOf}
 use Rattle.section.specs.Store.{postOn, withPost}
+use Rattle.section.proofs.Laws.{rank-lt, rank-inj, block-inj, block-lt}
 use Rattle.rules.specs.declared.Site.{Site}
 use Rattle.rules.specs.Site.{siteOn, Occupancy, occupancyAt, anyTrain, watchedOccupied, atSendingEnd, atReceivingEnd, blockAhead, blockBefore}
 use Rattle.rules.specs.Site.{trainAt}
 use Rattle.rules.specs.Table.{checks, effect, trainsAfter, lastAfter, trackAfter}
-use Rattle.rules.proofs.Facts.{eq→eqb, nor-l, nor-r, notnot, T-true, false-T, rank-lt, rank-inj, block-inj, block-lt, not-first-rank}
+use Rattle.rules.proofs.Facts.{eq→eqb, nor-l, nor-r, notnot, T-true, false-T, not-first-rank}
 use Rattle.rules.proofs.Facts.{last-rank, not-last-rank, set-zero, any-zero}
 use Rattle.rules.proofs.View.{order, setDevice, announce, acknowledge, key, Motion, start, pass, leave, Condition, measures, fault, View}
 use Rattle.rules.proofs.View.{walks, runs, notes, releases, flat}

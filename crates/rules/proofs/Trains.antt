@@ -14,11 +14,12 @@ use Rattle.section.specs.declared.Track.{Track}
 use Rattle.section.specs.Geometry.{upward, rank, block}
 use Rattle.section.specs.Numbers.{mostPosts, mostBlocks}
 use Rattle.section.specs.Step.{numberOf}
+use Rattle.section.proofs.Laws.{rank-rank, block-inj, block-lt}
 use Rattle.rules.specs.declared.Site.{Site}
 use Rattle.rules.specs.Site.{siteOn, isTurn, atSendingEnd, atReceivingEnd, stretchEnds, stretchHolds, trainAt, occupancyAt}
 use Rattle.rules.specs.Table.{checks, effect, trainsAfter, trackAfter}
 use Rattle.rules.specs.Demand3.{Run}
-use Rattle.rules.proofs.Facts.{nor-l, nor-r, nand-r, true-T, T-false, ne→neqb, rank-rank, block-inj, block-lt, first-rank, not-first-rank}
+use Rattle.rules.proofs.Facts.{nor-l, nor-r, nand-r, true-T, T-false, ne→neqb, first-rank, not-first-rank}
 use Rattle.rules.proofs.Facts.{last-rank}
 use Rattle.rules.proofs.Facts.{not-last-rank, number-none}
 use Rattle.rules.proofs.View.{Reversal, order, setDevice, announce, acknowledge, key, start, pass, leave, View, walks, runs, notes, releases}

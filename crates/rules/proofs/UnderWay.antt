@@ -17,11 +17,12 @@ use Rattle.section.specs.Fresh.{freshTrack, freshSection}
 use Rattle.section.specs.Geometry.{upward, rank, isLast}
 use Rattle.section.specs.Step.{kindOf}
 use Rattle.section.specs.Store.{trackOf}
+use Rattle.section.proofs.Laws.{rank-rank}
 use Rattle.rules.specs.Site.{isSettled, isTurn, siteOn, otherSettledOnVns, atReceivingEnd}
 use Rattle.rules.specs.Table.{checks, effect, trackAfter}
 use Rattle.rules.specs.Demand3.{Taken, track, post, kind, keep, otherEnd, endsAt, noteReversal, reversalFrom, runs?, underWay}
 use Rattle.rules.proofs.Facts.{T-true, T-false, true-T, false-T, eq→eqb, ne→neqb, by-track, beq-same, beq-other}
-use Rattle.rules.proofs.Facts.{rank-rank, first-rank, last-rank, not-last-rank}
+use Rattle.rules.proofs.Facts.{first-rank, last-rank, not-last-rank}
 use Rattle.rules.proofs.View.{order, setDevice, announce, acknowledge, key, start, pass, leave, measures, fault, View, walks, runs, notes}
 use Rattle.rules.proofs.View.{releases, flat, post-flat, Seen, shown}
 use Rattle.rules.proofs.Reading.{Says}

@@ -13,10 +13,10 @@ use Rattle.section.specs.Fresh.{freshSection}
 use Rattle.section.specs.Geometry.{upward}
 use Rattle.section.specs.Settings.{settingsRight}
 use Rattle.section.specs.Store.{trackOf}
+use Rattle.section.proofs.Laws.{rank-lt}
 use Rattle.rules.specs.Indications.{setCount}
 use Rattle.rules.specs.Demand3.{stateAfter}
 use Rattle.rules.specs.VoieOccupee.{FreeToAnnounce, VoieOccupeeNeverSaid}
-use Rattle.rules.proofs.Facts.{rank-lt}
 use Rattle.rules.proofs.Ranges.{rankOn, TurnFits}
 use Rattle.rules.proofs.Invariant.{Low, Sound}
 use Rattle.rules.proofs.Theorem.{reached-throughout}
