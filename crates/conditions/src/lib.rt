@@ -2,7 +2,7 @@
 ghost use mathlib.Core.Bool.{_||_};
 ghost use mathlib.Core.Path.{_≡_};
 ghost use Rattle.rules.specs.Site.{isSettled, sameAct, isTurn, atSendingEnd, atReceivingEnd};
-ghost use Rattle.rules.specs.Table.{releaseInTurn, confirmed};
+ghost use Rattle.rules.specs.Table.{orderAllowed, releaseInTurn, secured, confirmed};
 ghost use Rattle.site_positions.specs.Placed.{Placed};
 use rules::Site;
 use section::Act;
@@ -71,7 +71,7 @@ pub fn at_end(c: Settings, e: Site) -> bool
 
 // 14: an order to CVT needs the other track settled on VNS.
 pub fn order_allowed(e: Site) -> bool
-    ensures { λ r. ⌜ r ≡ (e .cvt || e .vns) ⌝ }
+    ensures { λ r. ⌜ r ≡ orderAllowed e ⌝ }
 {
     if e.cvt {
         return true;
@@ -96,7 +96,7 @@ pub fn release_in_turn(c: Settings, e: Site) -> bool
 
 // 16: a device goes to CVT with measures only.
 pub fn secured(e: Site) -> bool
-    ensures { λ r. ⌜ r ≡ (e .cvt || e .own .measures) ⌝ }
+    ensures { λ r. ⌜ r ≡ secured e ⌝ }
 {
     if e.cvt {
         return true;

@@ -20,7 +20,6 @@ use Rattle.section.proofs.Laws.{turn-right}
 use Rattle.rules.specs.declared.Site.{Site}
 use Rattle.rules.specs.Site.{siteOn, upAt, rankAt, atReceivingEnd, watchedOccupied}
 use Rattle.rules.specs.Indications.{setCount, isNextToSet, lampsAt, circulation, troncon, shown, dark, indicationsOn, indications}
-use Rattle.lamps.specs.LampsAt.{shownAt}
 
 pub next-first : (count j : ℕ) → j ≡ 0 → false ≡ isNextToSet count j
 unfolding isNextToSet
@@ -56,7 +55,7 @@ is-materialised c h = eq-eqb (c .form) 1 h
 -- the indications of a section by its tracks
 pub shown-is :
     (s : Section) (track post : ℕ) (b : Bool) → inRange s ≡ true → track < 2 → post < s .settings .posts → eqb track 1 ≡ b
-    → shownAt (s .settings) (siteOn true b post (trackOf s b)) (trackOf s b .trains) ≡ indications s track post
+    → shown (lampsAt (s .settings) (siteOn true b post (trackOf s b)) (trackOf s b .trains)) ≡ indications s track post
 unfolding indications indicationsOn lampsAt watchedOccupied
 shown-is s track post b range t p e = rw (range, lt-ltb track 2 t, lt-ltb post (s .settings .posts) p, e)
 
@@ -98,6 +97,6 @@ pub shown-parts :
     → flashing ≡ (isMaterialised c && isNextToSet (setCount (c .posts) (upAt c e) (e .walk)) (rankAt c e))
     → r₂ ≡ cond (not last) (cond (e .own .fault1 || occupied) 2 1) 0 → last ≡ atReceivingEnd c e → occupied ≡ watchedOccupied c e trains
     → r₃ ≡ cond (e .own .permission) 1 0
-    → _≡_ {A = Indications} (record { circulation = r₁; troncon = r₂; permission = r₃ }) (shownAt c e trains)
-unfolding shown circulation troncon
+    → _≡_ {A = Indications} (record { circulation = r₁; troncon = r₂; permission = r₃ }) (shown (lampsAt c e trains))
+unfolding lampsAt shown circulation troncon
 shown-parts c e trains r₁ r₂ r₃ flashing last occupied e₁ f e₂ l o e₃ = rw (e₁, f, e₂, l, o, e₃)

@@ -1,14 +1,13 @@
 // What a post shows: CIRCULATION, TRONÇON, start permission.
-ghost use mathlib.Core.Bool.{true, false, not, _&&_, _||_, cond};
+ghost use mathlib.Core.Bool.{true, _&&_, _||_, cond};
 ghost use mathlib.Core.Path.{_≡_};
 ghost use Prim.Native.Nat.{_≤_, _<_};
 ghost use Rattle.section.specs.Numbers.{mostPosts};
 ghost use Rattle.section.specs.Range.{walkFits, trackFits};
 ghost use Rattle.section.specs.Settings.{isMaterialised, settingsRight};
 ghost use Rattle.rules.specs.Site.{siteOn, upAt, rankAt};
-ghost use Rattle.rules.specs.Indications.{setCount, isNextToSet, circulation, troncon, dark, indications};
+ghost use Rattle.rules.specs.Indications.{setCount, isNextToSet, shown, lampsAt, dark, indications};
 ghost use Rattle.sites.specs.Fit.{Fit};
-ghost use Rattle.lamps.specs.LampsAt.{shownAt};
 use rules::Site;
 use section::Act;
 use section::Indications;
@@ -113,7 +112,7 @@ fn number(x: bool) -> u8
 // What the post of a site shows.
 fn shown_at(c: Settings, e: Site, trains: &Trains) -> Indications
     requires { ⌜ Fit c e ⌝ }
-    ensures { λ r. ⌜ r ≡ shownAt c e (now (trains .entry)) ⌝ }
+    ensures { λ r. ⌜ r ≡ shown (lampsAt c e (now (trains .entry))) ⌝ }
 {
     let own = e.own;
     Indications {
@@ -130,7 +129,7 @@ fn shown_at(c: Settings, e: Site, trains: &Trains) -> Indications
 // What a post of a track in its ranges shows.
 fn shown_on(c: Settings, track: bool, post: u8, t: Track) -> Indications
     requires { ⌜ (settingsRight c ≡ true) × (trackFits (c .posts) track t ≡ true) × (post < c .posts) ⌝ }
-    ensures { λ r. ⌜ r ≡ shownAt c (siteOn true track post t) (t .trains) ⌝ }
+    ensures { λ r. ⌜ r ≡ shown (lampsAt c (siteOn true track post t) (t .trains)) ⌝ }
 {
     let at = post as usize;
     let own = t.posts[at];

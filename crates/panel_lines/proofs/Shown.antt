@@ -47,7 +47,7 @@ pub one-digit : (s : Section) (track p : ℕ) → OneDigit (indications s track 
 unfolding indications indicationsOn
 one-digit s track p =
     chosen (inRange s && (ltb track 2 && ltb p (s .settings .posts)))
-    (lampsAt (s .settings) (siteOn (otherSettledOnVns s (eqb track 1)) (eqb track 1) p (trackOf s (eqb track 1))) (trackOf s (eqb track 1)))
+    (lampsAt (s .settings) (siteOn (otherSettledOnVns s (eqb track 1)) (eqb track 1) p (trackOf s (eqb track 1))) (trackOf s (eqb track 1) .trains))
 
 -- ## Six bytes each
 

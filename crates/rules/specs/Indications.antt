@@ -1,12 +1,12 @@
 -- What a post shows (document 01). The indications are a function of eight bits of the state.
 use Prim.Native.Nat.{ℕ, zero, suc}
 use mathlib.Core.Bool.{Bool, false, cond, not, _&&_, _||_}
+use mathlib.Core.List.{List}
 use lib.Dec.{eqb, ltb}
 use Rattle.section.specs.declared.Settings.{Settings}
 use Rattle.section.specs.declared.Act.the-variants.{Set, Announce, Acknowledge}
 use Rattle.section.specs.declared.Walk.{Walk}
 use Rattle.section.specs.declared.Walk.the-variants.{Settled, Turn}
-use Rattle.section.specs.declared.Track.{Track}
 use Rattle.section.specs.declared.Section.{Section}
 use Rattle.section.specs.declared.Indications.{Indications}
 use Rattle.section.specs.Geometry.{rank}
@@ -51,14 +51,15 @@ troncon l = cond (l .commands) (cond (l .fault1 || l .occupied) 2 1) 0
 unfoldable pub shown : Lamps → Indications
 shown l = record { circulation = circulation l; troncon = troncon l; permission = cond (l .permission) 1 0 }
 
-unfoldable pub lampsAt : Settings → Site → Track → Lamps
-lampsAt c e t = record {
+-- at a site, with the trains of its track
+unfoldable pub lampsAt : Settings → Site → List ℕ → Lamps
+lampsAt c e trains = record {
   materialised = isMaterialised c;
   cvt = e .own .cvt;
-  nextToSet = isNextToSet (setCount (c .posts) (upAt c e) (t .walk)) (rankAt c e);
+  nextToSet = isNextToSet (setCount (c .posts) (upAt c e) (e .walk)) (rankAt c e);
   fault1 = e .own .fault1;
   fault3 = e .own .fault3;
-  occupied = watchedOccupied c e (t .trains);
+  occupied = watchedOccupied c e trains;
   commands = not (atReceivingEnd c e);
   permission = e .own .permission;
 }
@@ -68,7 +69,7 @@ dark = record { circulation = 0; troncon = 0; permission = 0 }
 
 unfoldable pub indicationsOn : Section → Bool → ℕ → Indications
 indicationsOn s track p =
-    shown (lampsAt (s .settings) (siteOn (otherSettledOnVns s track) track p (trackOf s track)) (trackOf s track))
+    shown (lampsAt (s .settings) (siteOn (otherSettledOnVns s track) track p (trackOf s track)) (trackOf s track .trains))
 
 -- all 0 for a state that gives 6, and for a track or a post that the section has not
 unfoldable pub indications : Section → ℕ → ℕ → Indications

@@ -43,9 +43,17 @@ cleared One o = marked false (faulty One false o)
 cleared Two o = faulty Two false o
 cleared Three o = faulty Three false o
 
-module _ (c : Settings) where
-  -- ## What the refusals ask
+-- ## What the refusals ask
 
+-- 14: "order to CVT while the other track isn't settled on VNS (art. 915)"; to CVT, since the running direction is VNS
+abbrev pub orderAllowed : Site → Bool
+orderAllowed e = e .cvt || e .vns
+
+-- 16: "set or key to CVT without measures"
+abbrev pub secured : Site → Bool
+secured e = e .cvt || e .own .measures
+
+module _ (c : Settings) where
   -- 13 of order: "telephone form: a train anywhere on the track (art. 907); materialised: one in the block section ahead"
   abbrev pub orderOccupied : Occupancy → Bool
   orderOccupied g = cond (isMaterialised c) (g .watched) (g .anywhere)
@@ -54,17 +62,9 @@ module _ (c : Settings) where
   abbrev pub passOccupied : Site → Occupancy → Bool
   passOccupied e g = stretchEnds c (e .track) (e .cvt) (rankAt c e) && g .stretch
 
-  -- 14: "order to CVT while the other track isn't settled on VNS (art. 915)"; to CVT, since the running direction is VNS
-  abbrev pub orderAllowed : Site → Bool
-  orderAllowed e = e .cvt || e .vns
-
   -- 15: "Release is in turn where set is, or at the sending end with no reversal under way."
   abbrev pub releaseInTurn : Site → Bool
   releaseInTurn e = isTurn (e .walk) (e .post) act.Set || (isSettled (e .walk) && atSendingEnd c e)
-
-  -- 16: "set or key to CVT without measures"
-  abbrev pub secured : Site → Bool
-  secured e = e .cvt || e .own .measures
 
   -- 18: "fault 1 without a mark (never at the last post)"
   abbrev pub confirmed : Site → Bool
