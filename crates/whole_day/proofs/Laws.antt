@@ -1,8 +1,8 @@
 -- The steps of a day and their notes.
 use Prim.Native.Nat.{ℕ, zero, suc, _+_, _-_, _*_, _≤_, _<_}
 use mathlib.Core.Bool.{Bool, true, false}
-use mathlib.Core.List.{List, _++_, append-assoc}
-use mathlib.Core.Path.{_≡_, refl, _∙_, ap}
+use mathlib.Core.List.{List, [], _∷_, _++_, append-assoc}
+use mathlib.Core.Path.{_≡_, refl, sym, _∙_, ap}
 use native.Mathlib.Omega.{arith}
 use native.Mathlib.Nat.{add-sub-cancel-left}
 use native.Mathlib.Numerals.{add-one}
@@ -16,6 +16,7 @@ use Rattle.section.specs.declared.Settings.{Settings}
 use Rattle.section.specs.Fresh.{freshSection}
 use Rattle.section.specs.Numbers.{stepLength}
 use Rattle.section.specs.Range.{inRange}
+use Rattle.rules.specs.Demand3.{stateAfter}
 use Rattle.rules.specs.Judge.{judgeInRange, judge}
 use Rattle.rules.proofs.RangeLaw.{ranges-kept}
 use Rattle.layout.specs.Layout.{stepAt}
@@ -25,7 +26,7 @@ use Rattle.lines.specs.Text.{inTurn}
 use Rattle.lines.proofs.Puts.{Putting, one-more-put}
 use Rattle.notes.specs.Note.{noteLength, note}
 use Rattle.notes.proofs.Laws.{note-length}
-use Rattle.whole_day.specs.Day.{sectionBefore, answerTo}
+use Rattle.whole_day.specs.Day.{sectionBefore, answerTo, offeredOf, DayIsOffered}
 use Rattle.whole_day.specs.Notes.{noteOn, notesOf}
 
 -- the step's bytes, as the code takes them
@@ -58,6 +59,24 @@ judged-in-range s bytes after h e = rw h e
 
 pub range-kept : (s : Section) (bytes : List ℕ) (after : Answer) → inRange s ≡ true → after ≡ judgeInRange s bytes → inRange (after .section) ≡ true
 range-kept s bytes after h e = rw (judged-in-range s bytes after h e) (ranges-kept s bytes h)
+
+-- ## A day is a list that is offered
+
+state-append : (s : Section) (offered : List (List ℕ)) (bytes : List ℕ) → stateAfter s (offered ++ (bytes ∷ [])) ≡ judge (stateAfter s offered) bytes .section
+unfolding stateAfter
+state-append s [] bytes = refl
+state-append s (x ∷ offered) bytes = state-append (judge s x .section) offered bytes
+
+state-none : (s : Section) → s ≡ stateAfter s []
+unfolding stateAfter
+state-none s = refl
+
+pub day-is-offered : DayIsOffered
+unfolding sectionBefore offeredOf
+day-is-offered first steps zero = state-none first
+day-is-offered first steps (suc i) =
+    ap (λ (s : Section). judge s (stepAt steps i) .section) (day-is-offered first steps i)
+    ∙ sym (state-append first (offeredOf steps i) (stepAt steps i))
 
 -- ## How long the notes are
 

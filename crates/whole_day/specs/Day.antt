@@ -1,8 +1,10 @@
 -- The steps of a day, offered one after another.
 use Prim.Native.Nat.{ℕ, zero, suc}
-use mathlib.Core.List.{List}
+use mathlib.Core.Path.{_≡_}
+use mathlib.Core.List.{List, [], _∷_, _++_}
 use Rattle.section.specs.declared.Answer.{Answer}
 use Rattle.section.specs.declared.Section.{Section}
+use Rattle.rules.specs.Demand3.{stateAfter}
 use Rattle.rules.specs.Judge.{judge}
 use Rattle.layout.specs.Layout.{stepAt}
 
@@ -13,3 +15,12 @@ sectionBefore first steps (suc i) = judge (sectionBefore first steps i) (stepAt 
 
 unfoldable pub answerTo : Section → List ℕ → ℕ → Answer
 answerTo first steps i = judge (sectionBefore first steps i) (stepAt steps i)
+
+-- the first i steps, as the list that demand 3 speaks of
+unfoldable pub offeredOf : List ℕ → ℕ → List (List ℕ)
+offeredOf steps zero = []
+offeredOf steps (suc i) = offeredOf steps i ++ (stepAt steps i ∷ [])
+
+-- so the theorems over lists hold along every day (`day-is-offered`, proofs/Laws.antt)
+abbrev pub DayIsOffered : Type 0
+DayIsOffered = (first : Section) (steps : List ℕ) (i : ℕ) → sectionBefore first steps i ≡ stateAfter first (offeredOf steps i)
