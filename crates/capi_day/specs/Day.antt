@@ -1,4 +1,4 @@
--- What the call returns, and the lent buffer afterwards.
+-- What a call returns that notes the steps of a day, and the lent buffer afterwards.
 use Prim.Native.Nat.{ℕ, _*_, _/_}
 use mathlib.Core.Bool.{Bool, cond}
 use mathlib.Core.List.{List}

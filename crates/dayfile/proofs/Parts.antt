@@ -14,7 +14,7 @@ use Rattle.section.specs.declared.Settings.{Settings}
 use Rattle.section.specs.Bytes.{byte, pair, within, AllBytes}
 use Rattle.section.specs.Numbers.{leastPosts, mostPosts, largestLine}
 use Rattle.section.specs.Settings.{bit, noneFrom, settingsRight}
-use Rattle.layout.specs.Layout.{mostSteps, settingsLength, trailerLength, settingsDistance, stepsDistance, mark, pairBytes, four, fourBytes}
+use Rattle.layout.specs.Layout.{mostSteps, settingsLength, trailerLength, settingsDistance, stepsDistance, mark, pairBytes, fourBytes}
 use Rattle.layout.specs.Layout.{fourAt, settingsBytes, trailer, fromEnd, trailerIn, settingsIn, stepsIn, settingsOf}
 use Rattle.file_tests.specs.Tests.{markRight, trailerRight, zerosRight, settingsBytesRight}
 use Rattle.layout.proofs.Numbers.{pair-number, four-number, pair-bytes, four-bytes, listed}

@@ -11,7 +11,6 @@ use lib.Dec.{eqb, ltb}
 use borrow.Author.Tests.{lt-ltb, le-ltb, ltb-false, not-false}
 use Rattle.section.specs.declared.Settings.{Settings}
 use Rattle.section.specs.Settings.{settingsRight}
-use Rattle.section.specs.Bytes.{byte}
 use Rattle.section.specs.Numbers.{stepLength}
 use Rattle.layout.specs.Layout.{mostSteps, settingsLength, stepsDistance}
 use Rattle.layout.specs.Layout.{settingsBytes, trailer, stepCount, fileOf}

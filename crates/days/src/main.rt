@@ -5,7 +5,7 @@ use agreement::sheet_room;
 use libc::STDOUT_FILENO;
 use sheets::Sheet;
 
-// Opens the file whose name has this ending, and answers a descriptor, or -1.
+// Opens the file whose name has this ending, and answers a descriptor, or -1; so too for a name that does not fit the buffer for a path.
 fn open(name: &[u8], ending: &[u8]) -> i32 {
     if name.len() > 4000 {
         return -1;

@@ -4,7 +4,6 @@ use mathlib.Core.Bool.{Bool, true, false, cond, _&&_, Bool·beq}
 use mathlib.Core.Path.{_≡_, refl}
 use mathlib.Core.List.{List, [], _∷_, _++_}
 use Rattle.section.specs.declared.Settings.{Settings}
-use Rattle.section.specs.declared.Step.{Step}
 use Rattle.section.specs.declared.Step.the-variants.{Order, Set, Announce, Acknowledge, MeasuresOn}
 use Rattle.section.specs.declared.Track.{Track}
 use Rattle.section.specs.declared.TrackStep.{TrackStep}

@@ -5,9 +5,9 @@ ghost use Prim.Native.Nat.{_+_, _≤_};
 ghost use lib.ListN.{length};
 ghost use Rattle.section.specs.Numbers.{mostPosts};
 ghost use Rattle.image.specs.Image.{trackLength, postLength, postsLength, postRight, postsRight, trackRight, imageRight};
+use layout::SETTINGS_LENGTH;
+use section::MOST_BLOCKS;
 use section::MOST_POSTS;
-
-pub const IMAGE_LENGTH: usize = 392;
 
 // Every post that a track can keep, also past n.
 pub const POSTS_HELD: usize = MOST_POSTS as usize;
@@ -16,17 +16,21 @@ pub const POST_LENGTH: usize = 8;
 
 pub const NUMBER_LENGTH: usize = 2;
 
-// Where each track stands in a section's image.
-pub const TRACK_A: usize = 8;
-
-pub const TRACK_B: usize = 200;
-
 // Where the posts, the trains and the last trains stand in a track's image.
 pub const POSTS: usize = 4;
 
-pub const TRAINS: usize = 132;
+pub const TRAINS: usize = POSTS + POST_LENGTH * POSTS_HELD;
 
-pub const LAST_TRAINS: usize = 162;
+pub const LAST_TRAINS: usize = TRAINS + NUMBER_LENGTH * MOST_BLOCKS;
+
+const TRACK_LENGTH: usize = LAST_TRAINS + NUMBER_LENGTH * MOST_BLOCKS;
+
+// Where each track stands in a section's image.
+pub const TRACK_A: usize = SETTINGS_LENGTH;
+
+pub const TRACK_B: usize = TRACK_A + TRACK_LENGTH;
+
+pub const IMAGE_LENGTH: usize = TRACK_B + TRACK_LENGTH;
 
 // Of a post: device, permission, measures, faults, mark.
 fn post_right(bytes: &[u8], at: usize) -> bool

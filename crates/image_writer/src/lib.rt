@@ -1,6 +1,6 @@
 // A section into its image.
 ghost use mathlib.Core.Path.{_≡_};
-ghost use Prim.Native.Nat.{_+_, _*_, _≤_};
+ghost use Prim.Native.Nat.{_+_, _≤_};
 ghost use lib.ListN.{length};
 ghost use Rattle.section.specs.Numbers.{mostPosts, mostBlocks};
 ghost use Rattle.text.specs.Text.{written};

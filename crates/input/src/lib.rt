@@ -19,7 +19,7 @@ fn read_once(rest: &mut [u8]) -> Input
     Input::Bytes(io::count(got, rest))
 }
 
-// Reads until the input ends or the buffer is full.
+// Reads until the input ends or the buffer is full. No contract can say what the input holds: only that what is read is within the buffer.
 pub fn read_whole(buffer: &mut [u8]) -> Input
     ensures { λ r. ⌜ Within r (now (buffer .exit)) ⌝ }
 {

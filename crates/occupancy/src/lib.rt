@@ -1,5 +1,5 @@
 // The trains in the block sections. Cells and numbers are compared at 64 bits.
-ghost use mathlib.Core.Bool.{true, false, cond};
+ghost use mathlib.Core.Bool.{false, cond};
 ghost use mathlib.Core.Path.{_≡_};
 ghost use Prim.Native.Nat.{_+_, _-_, _<_, _≤_};
 ghost use lib.ListN.{getD};
@@ -20,7 +20,7 @@ fn widened(number: u16) -> u64
     number as u64
 }
 
-// The train, or the last train, of block section i, widened: the only place where a cell is read.
+// The train, or the last train, of block section i, widened: the only place where judging reads a cell.
 pub fn train_in(cells: &Trains, i: u8) -> u64
     requires { ⌜ i < mostBlocks ⌝ }
     ensures { λ r. ⌜ r ≡ getD (now (cells .entry)) i 0 ⌝ }

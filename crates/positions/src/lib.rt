@@ -12,7 +12,7 @@ pub fn is_upward(track: bool, cvt: bool) -> bool
     track == cvt
 }
 
-// How many posts behind the sending end post p stands.
+// A post's distance from the sending end, in posts; also the post at that distance.
 pub fn rank(n: u8, up: bool, p: u8) -> u8
     requires { ⌜ p < n ⌝ }
     ensures { λ r. ⌜ r ≡ rank n up p ⌝ }

@@ -10,9 +10,9 @@ use native.Mathlib.Omega.{arith}
 use lib.ListN.{getD, set, replicate, getD-replicate}
 use lib.Dec.{ltb, leb, lit≤}
 use borrow.Author.Count.{below-more}
-use borrow.Author.Tests.{leb-true, le-leb, ltb-true, lt-ltb, not-true}
+use borrow.Author.Tests.{leb-true, le-leb, ltb-true, not-true}
 use Rattle.section.specs.declared.Act.{Act}
-use Rattle.section.specs.declared.Act.the-variants.{Announce, Acknowledge}
+use Rattle.section.specs.declared.Act.the-variants.{Announce}
 use Rattle.section.specs.declared.Post.{Post}
 use Rattle.section.specs.declared.Section.{Section}
 use Rattle.section.specs.declared.Settings.{Settings}
@@ -20,7 +20,7 @@ use Rattle.section.specs.declared.Track.{Track}
 use Rattle.section.specs.declared.Walk.the-variants.{Turn}
 use Rattle.section.specs.Bytes.{within}
 use Rattle.section.specs.Fresh.{freshTrack, freshSection}
-use Rattle.section.specs.Geometry.{upward, rank, block, isFirst, isLast}
+use Rattle.section.specs.Geometry.{upward, rank, block, isLast}
 use Rattle.section.specs.Numbers.{mostPosts, mostBlocks, mostSeals, largestTrain}
 use Rattle.section.specs.Post.{blank, permitted}
 use Rattle.section.specs.Range.{sealsFit, numbersFit, actFits, walkFits, trackFits, inRange}
@@ -224,18 +224,10 @@ module _ (n : ℕ) (up : Bool) (p : ℕ) (act : Act) where
       let parts = and-eq-true-iff (ltb p n) (actFits n up p act) .0 h in
       (ltb-true _ _ (parts .0), parts .1)
 
-  pub turn-fits : p < n → actFits n up p act ≡ true → walkFits n up (Turn p act) ≡ true
-  unfolding walkFits
-  turn-fits h k = both (lt-ltb _ _ h) k
-
 module _ (n : ℕ) (up : Bool) (p : ℕ) where
   pub announce-right : actFits n up p Announce ≡ true → isLast n up p ≡ false
   unfolding actFits
   announce-right h = not-true (isLast n up p) h
-
-  pub acknowledge-right : actFits n up p Acknowledge ≡ true → isFirst n up p ≡ false
-  unfolding actFits
-  acknowledge-right h = not-true (isFirst n up p) h
 
 -- a section in its ranges: its settings, and each track
 module _ (s : Section) where

@@ -1,4 +1,4 @@
--- The paper's number for each case of an answer.
+-- A number for each case of an answer: the paper's refusal, and for what is said the number that notes and C functions give.
 use Prim.Native.Nat.{ℕ}
 use Rattle.section.specs.declared.Said.{Said}
 use Rattle.section.specs.declared.Said.the-variants.{Nothing, Cvt, Cvtz, Vns, Vnsz}

@@ -12,7 +12,7 @@ use section::Settings;
 use section::Trains;
 use site_positions::rank_at;
 
-// Whether a stretch ends at the post of rank j: in VNS at every post, in CVT at a signalled one.
+// Whether a stretch ends at the post of rank j: in VNS at every post, in CVT at a signalled one. The rank of a rank is the post.
 pub fn stretch_ends(c: Settings, track: bool, cvt: bool, j: u8) -> bool
     requires { ⌜ (j < c .posts) × (c .posts ≤ mostPosts) ⌝ }
     ensures { λ r. ⌜ r ≡ stretchEnds c track cvt j ⌝ }

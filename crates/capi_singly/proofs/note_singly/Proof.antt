@@ -1,5 +1,5 @@
 -- After i turns the state is the section before step i, and the notes of the steps 0 .. i − 1 stand in the buffer.
-use Prim.Native.Nat.{_-_, _*_, _≤_}
+use Prim.Native.Nat.{_-_, _≤_}
 use mathlib.Core.Path.{_≡_, refl, sym, _∙_, ap}
 use native.Mathlib.Omega.{arith}
 use borrow.Author.Needs.{needs}

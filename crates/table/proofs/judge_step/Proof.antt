@@ -1,7 +1,6 @@
 -- The site is the one that the step's post and the two tracks make.
 use mathlib.Core.Path.{_≡_, _∙_, ap, subst, sym}
 use Prim.Native.Nat.{ℕ}
-use Rattle.rules.specs.declared.Site.{Site}
 use Rattle.sites.specs.Fit.{Fit}
 use Rattle.sites.specs.Running.{siteWith}
 use Rattle.table.specs.Judged.{siteFor}
