@@ -43,7 +43,7 @@ cleared One o = marked false (faulty One false o)
 cleared Two o = faulty Two false o
 cleared Three o = faulty Three false o
 
--- ## What the refusals ask
+-- ## What the refusals ask: first those that need no settings
 
 -- 14: "order to CVT while the other track isn't settled on VNS (art. 915)"; to CVT, since the running direction is VNS
 abbrev pub orderAllowed : Site → Bool
