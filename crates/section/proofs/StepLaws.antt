@@ -1,4 +1,4 @@
--- Laws of `Step`: when bytes are well formed, and which fields a step gives back. The theorems are in `Codec`.
+-- Laws of a step and its bytes: when bytes are well formed, and which fields a step gives back. The theorems are in `Codec`.
 use Prim.Native.Nat.{ℕ, zero, suc, _≤_, _<_, _/_, _%_}
 use mathlib.Core.Path.{_≡_, refl, sym, _∙_, ap}
 use mathlib.Core.Bool.{Bool, true, false, cond, _&&_}
@@ -16,8 +16,9 @@ use Rattle.section.specs.declared.TrackStep.{TrackStep}
 use Rattle.section.specs.declared.Decoded.the-variants.{Well, Malformed}
 use Rattle.section.specs.Bytes.{byte, pair, within, AllBytes}
 use Rattle.section.specs.Numbers.{largestTrain, stepLength}
-use Rattle.section.specs.Step.{faultRight, numberRight, placeRight, fieldsRight, faultOf, stepOf, trackStepOf, fromFields, decoded, isWell, wellFormed}
-use Rattle.section.specs.Step.{kindOf, postOf, faultNumber, faultByte, numberOf, trackNumber}
+use Rattle.section.specs.Step.{faultRight, numberRight, placeRight, fieldsRight, faultOf, stepOf, fromFields, decoded, isWell, wellFormed}
+use Rattle.section.specs.Step.{stepSaid, kindOf, postOf, faultNumber, faultByte, numberOf, trackNumber}
+use Rattle.section.proofs.Laws.{and-left, and-right}
 
 -- ## Well-formed bytes
 
@@ -25,10 +26,6 @@ use Rattle.section.specs.Step.{kindOf, postOf, faultNumber, faultByte, n
 unfoldable pub bytesRight : ℕ → List ℕ → Bool
 bytesRight n s =
     fieldsRight n (byte s 0) (byte s 1) (byte s 2) (byte s 3) (pair (byte s 4) (byte s 5)) (pair (byte s 6) (byte s 7))
-
--- the step that eight bytes say, right or not
-unfoldable pub stepSaid : List ℕ → TrackStep
-stepSaid s = trackStepOf (byte s 0) (byte s 1) (byte s 2) (byte s 3) (pair (byte s 4) (byte s 5))
 
 pub decoded-chosen : (n : ℕ) (s : List ℕ) → decoded n s ≡ cond (eqb (length s) stepLength) (cond (bytesRight n s) (Well (stepSaid s)) Malformed) Malformed
 unfolding decoded fromFields bytesRight stepSaid
@@ -60,15 +57,6 @@ malformed n s e = decoded-chosen n s ∙ both-malformed (eqb (length s) stepLeng
 
 pub well-said : (n : ℕ) (s : List ℕ) → wellFormed n s ≡ true → decoded n s ≡ Well (stepSaid s)
 well-said n s e = decoded-chosen n s ∙ both-said (eqb (length s) stepLength) (bytesRight n s) (stepSaid s) (sym (well-formed-is n s) ∙ e)
-
--- a test of two parts that holds
-pub and-left : (p q : Bool) → (p && q) ≡ true → p ≡ true
-and-left true q e = refl
-and-left false q e = e
-
-pub and-right : (p q : Bool) → (p && q) ≡ true → q ≡ true
-and-right true q e = e
-and-right false q e = let z : _≡_ {A = ℕ} 0 1 = cc in absurd (omega arith)
 
 pub well-length : (n : ℕ) (s : List ℕ) → wellFormed n s ≡ true → length s ≡ stepLength
 well-length n s e = eqb-true (length s) stepLength (and-left (eqb (length s) stepLength) (bytesRight n s) (sym (well-formed-is n s) ∙ e))
