@@ -1,7 +1,7 @@
--- The plain reversal is accepted to its end: for n = 2, 3 and 16, on each track and in each direction.
+-- The plain reversal, on each track and in each direction. That it is accepted to its end for n = 2, 3 and 16 is proved in
+-- proofs/PlainReversal.antt.
 use Prim.Native.Nat.{ℕ, zero, suc, _-_, _^_}
 use mathlib.Core.Bool.{Bool, true, false, cond, _&&_, Bool·beq}
-use mathlib.Core.Path.{_≡_, refl}
 use mathlib.Core.List.{List, [], _∷_, _++_}
 use Rattle.section.specs.declared.Settings.{Settings}
 use Rattle.section.specs.declared.Step.the-variants.{Order, Set, Announce, Acknowledge, MeasuresOn}
@@ -69,6 +69,6 @@ rowsOf n =
     record { posts = n; track = false; cvt = true } ∷ record { posts = n; track = false; cvt = false }
     ∷ record { posts = n; track = true; cvt = true } ∷ record { posts = n; track = true; cvt = false } ∷ []
 
-pub plain-reversals-complete : allComplete (rowsOf 2 ++ rowsOf 3 ++ rowsOf 16) ≡ true
-unfolding allComplete rowsOf
-plain-reversals-complete = refl
+unfoldable pub rows : List Row
+unfolding rowsOf
+rows = rowsOf 2 ++ rowsOf 3 ++ rowsOf 16

@@ -1,0 +1,57 @@
+-- Annex 5's day, by computation: its answers, its accepted steps, and the new order that `demand3` gives. Its own order will not do: the train is
+-- on the track in the reversal.
+use Prim.Native.Nat.{ℕ}
+use native.Mathlib.Omega.{arith}
+use mathlib.Core.Bool.{Bool, true, false}
+use mathlib.Core.Path.{_≡_, refl, sym, _∙_, ap}
+use mathlib.Core.List.{List}
+use lib.ListN.{getD, take}
+use Rattle.section.specs.declared.Step.the-variants.{Set}
+use Rattle.section.specs.Fresh.{freshSection}
+use Rattle.section.specs.Settings.{settingsRight}
+use Rattle.section.specs.Step.{kindOf, bytesOf, encoded}
+use Rattle.rules.specs.Demand3.{Taken, kind, stateAfter, acceptedSteps, underWay, NoTrainInReversal, Demand3}
+use Rattle.rules.proofs.Theorem.{demand3, newOrder}
+use Rattle.examples.specs.Days.{refusals, fresh}
+use Rattle.examples.specs.Annex5.{settings, day, answers, quiet, accepted, reordered}
+
+pub answered : refusals (fresh settings) day ≡ answers
+unfolding refusals fresh settings day answers
+answered = refl
+
+pub accepts : acceptedSteps (freshSection settings) day ≡ accepted
+unfolding refusals fresh settings day acceptedSteps accepted
+accepts = refl
+
+-- ## The claim, and its new order
+
+pub settings-right : settingsRight settings ≡ true
+unfolding refusals settings
+settings-right = refl
+
+pub claim : Demand3 settings day
+claim = demand3 settings settings-right day
+
+pub ended : (b : Bool) → underWay (settings .posts) b (acceptedSteps (freshSection settings) day) ≡ false
+unfolding refusals fresh settings day underWay acceptedSteps
+ended true = refl
+ended false = refl
+
+pub new-order : newOrder settings settings-right day ended ≡ reordered
+unfolding newOrder refusals fresh settings day reordered
+new-order = refl
+
+-- ## Its own order will not do
+
+-- after its order the reversal runs, and train 2410 is in block section 1
+pub train-in-reversal :
+    NoTrainInReversal settings (acceptedSteps (freshSection settings) (take 7 day)) (stateAfter (freshSection settings) (take 7 day)) → ⊥
+unfolding refusals fresh settings day underWay acceptedSteps stateAfter
+train-in-reversal h = let e : _≡_ {A = ℕ} 2410 0 = h .empty false refl 1 (omega arith) in omega arith
+
+-- its sixth step is a leave, and no order
+pub another-order : newOrder settings settings-right day ended ≡ acceptedSteps (freshSection settings) day → ⊥
+unfolding encoded bytesOf kindOf accepted reordered
+another-order e =
+    let f : _≡_ {A = ℕ} 7 1 = ap (λ (l : List Taken). kind (getD l 5 (quiet (Set 0)))) (sym new-order ∙ e ∙ accepts) in
+    omega arith
