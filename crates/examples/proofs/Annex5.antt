@@ -12,33 +12,38 @@ use Rattle.section.specs.Settings.{settingsRight}
 use Rattle.section.specs.Step.{kindOf, bytesOf, encoded}
 use Rattle.rules.specs.Demand3.{Taken, kind, stateAfter, acceptedSteps, underWay, NoTrainInReversal, Demand3}
 use Rattle.rules.proofs.Theorem.{demand3, newOrder}
-use Rattle.examples.specs.Days.{refusals, fresh}
-use Rattle.examples.specs.Annex5.{settings, day, answers, quiet, accepted, reordered}
+use Rattle.examples.specs.Days.{offeredAs, refusals, fresh}
+use Rattle.examples.specs.Annex5.{settings, steps, day, answers, quiet, accepted, reordered}
+
+-- unfolded, the day computes
+unfoldable computed : List ℕ
+unfolding refusals fresh settings day steps offeredAs
+computed = refusals (fresh settings) day
 
 pub answered : refusals (fresh settings) day ≡ answers
-unfolding refusals fresh settings day answers
+unfolding computed answers
 answered = refl
 
 pub accepts : acceptedSteps (freshSection settings) day ≡ accepted
-unfolding refusals fresh settings day acceptedSteps accepted
+unfolding computed acceptedSteps accepted
 accepts = refl
 
 -- ## The claim, and its new order
 
 pub settings-right : settingsRight settings ≡ true
-unfolding refusals settings
+unfolding computed
 settings-right = refl
 
 pub claim : Demand3 settings day
 claim = demand3 settings settings-right day
 
 pub ended : (b : Bool) → underWay (settings .posts) b (acceptedSteps (freshSection settings) day) ≡ false
-unfolding refusals fresh settings day underWay acceptedSteps
+unfolding computed underWay acceptedSteps
 ended true = refl
 ended false = refl
 
 pub new-order : newOrder settings settings-right day ended ≡ reordered
-unfolding newOrder refusals fresh settings day reordered
+unfolding newOrder computed reordered
 new-order = refl
 
 -- ## Its own order will not do
@@ -46,7 +51,7 @@ new-order = refl
 -- after its order the reversal runs, and train 2410 is in block section 1
 pub train-in-reversal :
     NoTrainInReversal settings (acceptedSteps (freshSection settings) (take 7 day)) (stateAfter (freshSection settings) (take 7 day)) → ⊥
-unfolding refusals fresh settings day underWay acceptedSteps stateAfter
+unfolding computed underWay acceptedSteps stateAfter
 train-in-reversal h = let e : _≡_ {A = ℕ} 2410 0 = h .empty false refl 1 (omega arith) in omega arith
 
 -- its sixth step is a leave, and no order

@@ -23,7 +23,6 @@ steps =
     ∷ Leave 2 2410 ∷ Set 1 ∷ Announce 1 ∷ Acknowledge 2 ∷ Set 2 ∷ []
 
 unfoldable pub day : List (List ℕ)
-unfolding steps offeredAs
 day = offeredAs (map (on false) steps)
 
 -- two steps are refused with 13: the first order, with the train in the block section ahead, and the first set at post 1
