@@ -25,11 +25,11 @@ refusalIndex (Day count) = 0
 refusalIndex (Refused number index) = index
 
 unfoldable pub writerRefusalNumber : Written → ℕ
-writerRefusalNumber (Bytes length) = 0
+writerRefusalNumber (Bytes size) = 0
 writerRefusalNumber (NotWritten number index) = number
 
 unfoldable pub writerRefusalIndex : Written → ℕ
-writerRefusalIndex (Bytes length) = 0
+writerRefusalIndex (Bytes size) = 0
 writerRefusalIndex (NotWritten number index) = index
 
 -- ## The reader

@@ -1,7 +1,7 @@
--- The plain reversal is accepted to its end: for n = 2, 3 and 16, on each track and in each direction.
+-- The plain reversal, on each track and in each direction. That it is accepted to its end for n = 2, 3 and 16 is proved in
+-- proofs/PlainReversal.antt.
 use Prim.Native.Nat.{ℕ, zero, suc, _-_, _^_}
 use mathlib.Core.Bool.{Bool, true, false, cond, _&&_, Bool·beq}
-use mathlib.Core.Path.{_≡_, refl}
 use mathlib.Core.List.{List, [], _∷_, _++_}
 use Rattle.section.specs.declared.Settings.{Settings}
 use Rattle.section.specs.declared.Step.the-variants.{Order, Set, Announce, Acknowledge, MeasuresOn}
@@ -32,18 +32,16 @@ module _ (track : Bool) where
 
   -- on a line of n posts, from this running direction
   unfoldable pub plainReversal : ℕ → Bool → List TrackStep
-  unfolding turns
   plainReversal n cvt = on track (Order (rank n (upward track cvt) 0)) ∷ turns (rank n (upward track cvt)) 0 (n - 1)
 
 -- what is asked: the number of posts, the track, and the direction that the last reversal is to
-pub record Row : Type 0 where
+pub record Reversal : Type 0 where
   pub posts : ℕ
   pub track : Bool
   pub cvt : Bool
 
 -- to CVT from fresh, with the measures on first; to VNS after that
-unfoldable pub dayOf : Row → List TrackStep
-unfolding measuresOn plainReversal
+unfoldable pub dayOf : Reversal → List TrackStep
 dayOf r =
     measuresOn (r .track) (r .posts) ++ plainReversal (r .track) (r .posts) false
     ++ cond (r .cvt) [] (plainReversal (r .track) (r .posts) true)
@@ -52,23 +50,20 @@ dayOf r =
 unfoldable pub endsOn : ℕ → Bool → Bool → Track → Bool
 endsOn n track cvt t = isSettled (t .walk) && (Bool·beq (t .cvt) cvt && postOn t (rank n (upward track cvt) 0) .permission)
 
-unfoldable pub completes : Row → Bool
-unfolding lineOf dayOf offeredAs refusals allZero fresh stateAfter endsOn
+unfoldable pub completes : Reversal → Bool
 completes r =
     let day = offeredAs (dayOf r) in
     allZero (refusals (fresh (lineOf (r .posts))) day)
     && endsOn (r .posts) (r .track) (r .cvt) (trackOf (stateAfter (fresh (lineOf (r .posts))) day) (r .track))
 
-unfoldable pub allComplete : List Row → Bool
-unfolding completes
+unfoldable pub allComplete : List Reversal → Bool
 allComplete [] = true
 allComplete (r ∷ rs) = completes r && allComplete rs
 
-unfoldable pub rowsOf : ℕ → List Row
-rowsOf n =
+unfoldable pub reversalsOf : ℕ → List Reversal
+reversalsOf n =
     record { posts = n; track = false; cvt = true } ∷ record { posts = n; track = false; cvt = false }
     ∷ record { posts = n; track = true; cvt = true } ∷ record { posts = n; track = true; cvt = false } ∷ []
 
-pub plain-reversals-complete : allComplete (rowsOf 2 ++ rowsOf 3 ++ rowsOf 16) ≡ true
-unfolding allComplete rowsOf
-plain-reversals-complete = refl
+unfoldable pub reversals : List Reversal
+reversals = reversalsOf 2 ++ reversalsOf 3 ++ reversalsOf 16

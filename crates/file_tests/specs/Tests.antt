@@ -11,7 +11,7 @@ use Rattle.layout.specs.Layout.{settingsDistance, stepsDistance, longestFile, m
 
 -- "length below 24, above 32,792 or not a multiple of 8"
 unfoldable pub lengthWrong : ℕ → Bool
-lengthWrong length = ltb length settingsDistance || (ltb longestFile length || not (eqb (length % stepLength) 0))
+lengthWrong size = ltb size settingsDistance || (ltb longestFile size || not (eqb (size % stepLength) 0))
 
 unfoldable pub markRight : List ℕ → Bool
 markRight t =

@@ -10,16 +10,16 @@ use layout::SETTINGS_DISTANCE;
 use section::STEP_LENGTH;
 
 // Below 24, above 32,792 or not a multiple of 8.
-pub fn length_wrong(length: usize) -> bool
-    ensures { λ r. ⌜ r ≡ lengthWrong length ⌝ }
+pub fn length_wrong(size: usize) -> bool
+    ensures { λ r. ⌜ r ≡ lengthWrong size ⌝ }
 {
-    if length < SETTINGS_DISTANCE {
+    if size < SETTINGS_DISTANCE {
         return true;
     }
-    if length > LONGEST_FILE {
+    if size > LONGEST_FILE {
         return true;
     }
-    length % STEP_LENGTH != 0
+    size % STEP_LENGTH != 0
 }
 
 // Whether the trailer's first four bytes are the mark.

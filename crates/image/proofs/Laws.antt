@@ -20,7 +20,7 @@ use Rattle.section.specs.Numbers.{mostPosts, mostBlocks}
 use Rattle.section.specs.Post.{blank}
 use Rattle.section.proofs.Laws.{and-left}
 use Rattle.layout.specs.Layout.{settingsLength, pairBytes, settingsBytes}
-use Rattle.text.specs.Text.{digits, written}
+use Rattle.text.specs.Text.{decimalDigits, written}
 use Rattle.text.proofs.Laws.{Put, put-nothing, put-then, written-length}
 use Rattle.image.specs.Image.{trackA, trackB, numberLength, postLength, postsLength}
 use Rattle.image.specs.Image.{numbersLength, headLength, trackLength, imageLength}
@@ -94,7 +94,7 @@ numbers-more m l = rw (add-one m)
 -- ## Pieces put one after another
 
 pub nothing-put : (l : List ℕ) (at : ℕ) → Put l at [] at l
-unfolding digits
+unfolding decimalDigits
 nothing-put l at = put-nothing l at 0 0 refl
 
 module _ {l b s : List ℕ} {at next : ℕ} (p : Put l at s next b) where

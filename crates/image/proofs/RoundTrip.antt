@@ -14,21 +14,18 @@ use Rattle.section.specs.declared.Section.{Section}
 use Rattle.section.specs.declared.Track.{Track}
 use Rattle.section.specs.declared.Walk.{Walk}
 use Rattle.section.specs.declared.Walk.the-variants.{Settled, Turn}
-use Rattle.section.specs.Bytes.{byte, pair}
+use Rattle.section.specs.Bytes.{byte}
 use Rattle.section.specs.Numbers.{mostPosts, mostBlocks}
 use Rattle.section.specs.Post.{blank}
 use Rattle.layout.specs.Layout.{pairBytes, settingsBytes, settingsOf}
+use Rattle.layout.proofs.Numbers.{pair-number}
 use Rattle.image.specs.Image.{numberLength, postLength, postsLength, numbersLength, headLength, imageLength, trackA, trackB}
 use Rattle.image.specs.Image.{flag, faultsByte, postImage, postsImage, numbersImage, actNumber, walkImage, trackHead, trackImage, imageOf}
 use Rattle.image.specs.Image.{numberAt, postAt, postsFrom, numbersFrom, walkOf, trackAt, sectionOf, postRight, postsRight, trackRight, imageRight}
 use Rattle.image.specs.RoundTrip.{Small, TrackHeld, SectionHeld, ReadsBack}
 use Rattle.image.proofs.Laws.{posts-length, numbers-length, settings-length, head-length, track-length, image-length}
 
--- ## Numbers and flags
-
-pair-back : (x : ℕ) → Small x → pair (x % 256) (x / 256 % 256) ≡ x
-unfolding pair
-pair-back x h = omega arith
+-- ## Flags
 
 flag-back : (x : Bool) → eqb (flag x) 1 ≡ x
 unfolding flag
@@ -75,7 +72,7 @@ module _ (front rest : List ℕ) {at : ℕ} (here : length front ≡ at) where
 module _ (front : List ℕ) {at : ℕ} (here : length front ≡ at) (rest : List ℕ) where
   number-back : (x : ℕ) → Small x → numberAt (front ++ (pairBytes x ++ rest)) at ≡ x
   unfolding numberAt pairBytes
-  number-back x h = rw (past-none front (pairBytes x ++ rest) here, past front (pairBytes x ++ rest) here 1) (pair-back x h)
+  number-back x h = rw (past-none front (pairBytes x ++ rest) here, past front (pairBytes x ++ rest) here 1) (pair-number x h)
 
   module _ (o : Post) where
     post-right : postRight (front ++ (postImage o ++ rest)) at ≡ true
@@ -117,7 +114,7 @@ module _ (front : List ℕ) {at : ℕ} (here : length front ≡ at) (rest : List
           faults .second,
           faults .third,
           flag-back (o .mark),
-          pair-back (o .seals) h,
+          pair-number (o .seals) h,
         )
 
 -- ## Numbers and posts, one after another
@@ -285,7 +282,7 @@ module _ (front : List ℕ) {at : ℕ} (here : length front ≡ at) (rest : List
 module _ (s : Section) where
   settings-back : Small (s .settings .mask) → Small (s .settings .line) → settingsOf (imageOf s) ≡ s .settings
   unfolding settingsOf imageOf settingsBytes pairBytes
-  settings-back m l = rw (pair-back (s .settings .mask) m, pair-back (s .settings .line) l)
+  settings-back m l = rw (pair-number (s .settings .mask) m, pair-number (s .settings .line) l)
 
   b-apart : imageOf s ≡ (settingsBytes (s .settings) ++ trackImage (s .a)) ++ (trackImage (s .b) ++ [])
   unfolding imageOf

@@ -7,7 +7,7 @@ use lib.ListN.{length, take, drop, length-drop, length-take}
 use lib.Seq.{length-take-le}
 use Rattle.input.specs.declared.Input.{Input}
 use Rattle.input.specs.declared.Input.the-variants.{Bytes}
-use Rattle.input.specs.Within.{Within}
+use Rattle.input.specs.LiesIn.{LiesIn}
 use Rattle.io.specs.Counts.{Counts}
 
 pub counted : (n : ℕ) (buffer : List ℕ) → n ≤ length buffer → Counts n buffer
@@ -18,5 +18,5 @@ pub part-length : (done : ℕ) (buffer : List ℕ) → length (take (length buff
 part-length done buffer = simp (length-take, length-drop) (omega arith)
 
 -- what a caller knows of the buffer that was read into
-pub bytes-read : (r : Input) (n : ℕ) (buffer : List ℕ) → Within r buffer → r ≡ Bytes n → Counts n buffer
+pub bytes-read : (r : Input) (n : ℕ) (buffer : List ℕ) → LiesIn r buffer → r ≡ Bytes n → Counts n buffer
 bytes-read r n buffer w e = rw e at w

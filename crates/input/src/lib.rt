@@ -1,5 +1,5 @@
 // Standard input, read whole.
-ghost use Rattle.input.specs.Within.{Within};
+ghost use Rattle.input.specs.LiesIn.{LiesIn};
 use libc::STDIN_FILENO;
 
 // What reading gave: so many bytes at the front of the buffer, or an error, which errno tells.
@@ -10,7 +10,7 @@ pub enum Input {
 
 // Reads once. No bytes: the input has ended.
 fn read_once(rest: &mut [u8]) -> Input
-    ensures { λ r. ⌜ Within r (now (rest .exit)) ⌝ }
+    ensures { λ r. ⌜ LiesIn r (now (rest .exit)) ⌝ }
 {
     let got = libc::read(STDIN_FILENO, rest);
     if got < 0 {
@@ -21,7 +21,7 @@ fn read_once(rest: &mut [u8]) -> Input
 
 // Reads until the input ends or the buffer is full. No contract can say what the input holds: only that what is read is within the buffer.
 pub fn read_whole(buffer: &mut [u8]) -> Input
-    ensures { λ r. ⌜ Within r (now (buffer .exit)) ⌝ }
+    ensures { λ r. ⌜ LiesIn r (now (buffer .exit)) ⌝ }
 {
     let mut done = 0;
     while done < buffer.len() {

@@ -1,7 +1,7 @@
--- The ten marked instances of document 01 ("Marked instances"), proved together, as one table.
+-- The ten marked instances of document 01 ("Marked instances"), as one table. `marked-instances` (proofs/Marked.antt) proves it.
 use Prim.Native.Nat.{ℕ, zero, suc, _-_}
 use mathlib.Core.Bool.{false}
-use mathlib.Core.Path.{_≡_, refl}
+use mathlib.Core.Path.{_≡_}
 use mathlib.Core.List.{List, [], _∷_, map}
 use lib.ListN.{length, getD}
 use Rattle.section.specs.declared.Fault.the-variants.{Two}
@@ -11,21 +11,14 @@ use Rattle.section.specs.declared.Section.{Section}
 use Rattle.section.specs.declared.Step.{Step}
 use Rattle.section.specs.declared.Step.the-variants.{Order, Set, Start, Pass, MeasuresOn, FaultOn, Key}
 use Rattle.section.specs.Post.{sealed}
-use Rattle.section.specs.Step.{isWell, wellFormed}
 use Rattle.section.specs.Store.{postOn, withPost, withTrack}
-use Rattle.layout.specs.Layout.{four, fourAt, stepCount, fromEnd, trailerIn, settingsIn, stepsIn, settingsOf, stepAt}
-use Rattle.file_tests.specs.Tests.{lengthWrong, markRight, trailerRight, zerosRight, settingsBytesRight}
-use Rattle.dayfile.specs.Answers.{refusalNumber}
-use Rattle.file_tests.specs.Tests.{wellAt, leading, firstMalformed, someMalformed}
-use Rattle.dayfile.specs.Answers.{readVerdict, readOf}
+use Rattle.dayfile.specs.Answers.{refusalNumber, readOf}
 use Rattle.examples.specs.Days.{on, offeredAs, refusals, fresh}
 
 -- ## What is asked
 
 -- a file given to the reader: 0 where it is read, or the refusal
 unfoldable pub reading : List ℕ → ℕ
-unfolding refusals refusalNumber readOf readVerdict lengthWrong trailerRight markRight settingsBytesRight zerosRight someMalformed firstMalformed leading wellAt
-    wellFormed isWell stepCount stepsIn trailerIn settingsIn fromEnd settingsOf stepAt fourAt four
 reading file = refusalNumber (readOf file .reading)
 
 -- the trailer of a day with no step: "BSR1", 24, 24, 0
@@ -48,7 +41,6 @@ materialised = 1
 
 -- steps on track A offered one after another: what the last one is answered, 0 or the refusal
 unfoldable pub answer : Section → List Step → ℕ
-unfolding refusals offeredAs fresh
 answer s day = getD (refusals s (offeredAs (map (on false) day))) (length day - 1) 0
 
 unfoldable pub sealedTimes : ℕ → Post → Post
@@ -57,7 +49,6 @@ sealedTimes (suc count) o = sealed (sealedTimes count o)
 
 -- a fresh section, but post 0 on A has this seal count
 unfoldable pub sealedSection : ℕ → Section
-unfolding fresh sealedTimes
 sealedSection count =
     let s = fresh (line telephone) in
     withTrack s false (withPost (s .a) 0 (sealedTimes count (postOn (s .a) 0)))
@@ -74,7 +65,6 @@ abbrev pub _gives_ : ℕ → ℕ → Instance
 asked gives number = record { given = asked; paper = number }
 
 unfoldable pub instances : List Instance
-unfolding reading answer sealedSection
 instances =
     -- (1) "an empty file gives 1"
     (reading [] gives 1)
@@ -103,6 +93,5 @@ instances =
     ∷ []
 
 -- every instance gives what the paper says
-pub marked-instances : map (λ (i : Instance). i .given) instances ≡ map (λ (i : Instance). i .paper) instances
-unfolding instances
-marked-instances = refl
+abbrev pub GivesWhatThePaperSays : List Instance → Type 0
+GivesWhatThePaperSays table = map (λ (i : Instance). i .given) table ≡ map (λ (i : Instance). i .paper) table

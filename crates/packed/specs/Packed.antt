@@ -20,7 +20,7 @@ packedSettings c = c .posts + c .form * 2 ^ 8 + c .mask * 2 ^ 16 + c .line * 2 ^
 
 -- the refusal, and 256 × the file's length or the refusal's index, of which the lowest 32 bits are kept
 unfoldable pub packedWritten : Written → ℕ
-packedWritten (Bytes length) = length % 2 ^ 32 * 256
+packedWritten (Bytes size) = size % 2 ^ 32 * 256
 packedWritten (NotWritten number index) = number + index % 2 ^ 32 * 256
 
 -- CIRCULATION, 8 × TRONÇON and 64 × the permission
@@ -29,5 +29,5 @@ packedIndications i = i .circulation + i .troncon * 8 + i .permission * 64
 
 -- the length and 1, or 0 for a buffer too short
 unfoldable pub packedHanded : Handed → ℕ
-packedHanded (HandedBytes length) = length + 1
+packedHanded (HandedBytes size) = size + 1
 packedHanded TooShort = 0

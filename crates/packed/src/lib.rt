@@ -47,7 +47,7 @@ pub fn packed_written(done: Written) -> u64
     ensures { λ r. ⌜ r ≡ packedWritten done ⌝ }
 {
     match done {
-        Written::Bytes(length) => ((length % 4294967296) as u64) * 256,
+        Written::Bytes(size) => ((size % 4294967296) as u64) * 256,
         Written::Refused(number, index) => (number as u64) + ((index % 4294967296) as u64) * 256,
     }
 }
@@ -65,7 +65,7 @@ pub fn packed_handed(done: Handed) -> u64
     ensures { λ r. ⌜ r ≡ packedHanded done ⌝ }
 {
     match done {
-        Handed::Bytes(length) => (length as u64) + 1,
+        Handed::Bytes(size) => (size as u64) + 1,
         Handed::TooShort => 0,
     }
 }

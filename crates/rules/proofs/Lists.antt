@@ -3,8 +3,9 @@ use Prim.Native.Nat.{ℕ}
 use mathlib.Core.Bool.{Bool, true, false, cond, not}
 use mathlib.Core.Path.{_≡_, refl, sym, ap, _∙_}
 use mathlib.Core.List.{List, [], _∷_, _++_, append-nil}
+use mathlib.Core.List.{Perm, Perm·nil, Perm·cons, Perm·symm, Perm·trans, Perm·append-right, perm-append-singleton}
 use lib.Dec.{T}
-use Rattle.rules.specs.Demand3.{Taken, keep, All, Perm, none-left, same, swapped, chained, isOfPost, isStepOfTrain, isAnnouncement}
+use Rattle.rules.specs.Demand3.{Taken, keep, All, isOfPost, isStepOfTrain, isAnnouncement}
 
 module _ {A : Type 0} where
   -- ## All
@@ -19,23 +20,9 @@ module _ {A : Type 0} where
 
   -- ## Perm
 
-  perm-refl : (l : List A) → Perm l l
-  perm-refl [] = none-left
-  perm-refl (x ∷ l) = same x (perm-refl l)
-
-  perm-right : (c : List A) {a b : List A} → Perm a b → Perm (a ++ c) (b ++ c)
-  perm-right c none-left = perm-refl c
-  perm-right c (same x h) = same x (perm-right c h)
-  perm-right c (swapped x y l) = swapped x y (l ++ c)
-  perm-right c (chained h k) = chained (perm-right c h) (perm-right c k)
-
-  perm-last : (x : A) (l : List A) → Perm (x ∷ l) (l ++ x ∷ [])
-  perm-last x [] = perm-refl (x ∷ [])
-  perm-last x (y ∷ l) = chained (swapped x y l) (same y (perm-last x l))
-
   perm-insert : (x : A) (a l : List A) → Perm ((a ++ x ∷ []) ++ l) ((a ++ l) ++ x ∷ [])
-  perm-insert x [] l = perm-last x l
-  perm-insert x (y ∷ a) l = same y (perm-insert x a l)
+  perm-insert x [] l = Perm·symm (perm-append-singleton x l)
+  perm-insert x (y ∷ a) l = Perm·cons y (perm-insert x a l)
 
   -- ## keep
 
@@ -82,12 +69,12 @@ pub record Reordered (ds new : List Taken) : Type 0 where
   pub in-sequence : (o : Owner) → keep (owns o) new ≡ keep (owns o) ds
 
 pub reordered-nil : Reordered [] []
-reordered-nil = record { each-once = none-left; in-sequence = λ o. refl }
+reordered-nil = record { each-once = Perm·nil; in-sequence = λ o. refl }
 
 -- one more step, last in both
 pub reordered-last : (ds new : List Taken) (x : Taken) → Reordered ds new → Reordered (ds ++ x ∷ []) (new ++ x ∷ [])
 reordered-last ds new x r = record {
-  each-once = perm-right (x ∷ []) (r .each-once);
+  each-once = Perm·append-right (x ∷ []) (r .each-once);
   in-sequence = λ o. keep-append (owns o) new (x ∷ []) ∙ ap (λ l. l ++ keep (owns o) (x ∷ [])) (r .in-sequence o) ∙ sym (keep-append (owns o) ds (x ∷ []));
 }
 
@@ -95,6 +82,6 @@ reordered-last ds new x r = record {
 pub reordered-insert : (ds a l : List Taken) (x : Taken) → ((o : Owner) → T (owns o x) → keep (owns o) l ≡ []) → Reordered ds (a ++ l)
     → Reordered (ds ++ x ∷ []) ((a ++ x ∷ []) ++ l)
 reordered-insert ds a l x h r = record {
-  each-once = chained (perm-insert x a l) (perm-right (x ∷ []) (r .each-once));
+  each-once = Perm·trans (perm-insert x a l) (Perm·append-right (x ∷ []) (r .each-once));
   in-sequence = λ o. keep-insert (owns o) x a l (h o) ∙ ap (λ m. m ++ keep (owns o) (x ∷ [])) (r .in-sequence o) ∙ sym (keep-append (owns o) ds (x ∷ []));
 }

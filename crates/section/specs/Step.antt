@@ -60,6 +60,10 @@ stepOf kind post fault number =
 unfoldable pub trackStepOf : ℕ → ℕ → ℕ → ℕ → ℕ → TrackStep
 trackStepOf kind track post fault number = record { track = eqb track 1; step = stepOf kind post fault number }
 
+-- the step that eight bytes say, right or not
+unfoldable pub stepSaid : List ℕ → TrackStep
+stepSaid s = trackStepOf (byte s 0) (byte s 1) (byte s 2) (byte s 3) (pair (byte s 4) (byte s 5))
+
 unfoldable pub fromFields : ℕ → ℕ → ℕ → ℕ → ℕ → ℕ → ℕ → Decoded
 fromFields n kind track post fault number zeros =
     cond (fieldsRight n kind track post fault number zeros) (Well (trackStepOf kind track post fault number)) Malformed

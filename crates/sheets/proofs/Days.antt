@@ -17,8 +17,7 @@ use Rattle.section.specs.Fresh.{freshSection}
 use Rattle.section.specs.Numbers.{leastPosts, mostPosts, stepLength}
 use Rattle.section.specs.Range.{inRange}
 use Rattle.section.specs.Settings.{settingsRight}
-use Rattle.section.specs.StepLaws.{and-left, and-right}
-use Rattle.section.proofs.Laws.{fresh-in-range}
+use Rattle.section.proofs.Laws.{and-left, and-right, fresh-in-range}
 use Rattle.rules.specs.Judge.{judge}
 use Rattle.rules.proofs.RangeLaw.{ranges-kept}
 use Rattle.layout.specs.Layout.{mostSteps, settingsOf, settingsIn, stepAt, stepsIn, stepsPart}

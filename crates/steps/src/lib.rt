@@ -2,9 +2,8 @@
 ghost use mathlib.Core.Path.{_≡_};
 ghost use lib.ListN.{length};
 ghost use Rattle.section.specs.Numbers.{stepLength};
-ghost use Rattle.section.specs.Step.{faultOf, stepOf, decoded};
+ghost use Rattle.section.specs.Step.{faultOf, stepOf, stepSaid, decoded};
 ghost use Rattle.section.specs.Step.{faultNumber, trackNumber, bytesOf, encoded};
-ghost use Rattle.section.specs.StepLaws.{stepSaid};
 use section::Decoded;
 use section::Fault;
 use section::Step;

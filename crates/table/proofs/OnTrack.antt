@@ -15,11 +15,11 @@ use Rattle.section.specs.declared.Verdict.the-variants.{Accepted, Refused}
 use Rattle.section.specs.declared.TrackStep.{TrackStep}
 use Rattle.section.specs.declared.Decoded.{Decoded}
 use Rattle.section.specs.declared.Decoded.the-variants.{Well, Malformed}
-use Rattle.section.specs.Codec.{decoded-post-below}
 use Rattle.section.specs.Post.{blank}
 use Rattle.section.specs.Range.{inRange}
 use Rattle.section.specs.Step.{decoded, postOf}
 use Rattle.section.specs.Store.{trackOf, withTrack, postOn}
+use Rattle.section.proofs.Codec.{decoded-post-below}
 use Rattle.section.proofs.Laws.{settings-in-range, track-in-range}
 use Rattle.rules.specs.declared.Site.{Site}
 use Rattle.rules.specs.Site.{settledVns}

@@ -9,7 +9,7 @@ use lib.ListN.{length, take, drop, set, take-append-drop, length-append, length-
 use lib.Seq.{length-take-le, take-length, drop-length, take-at, drop-drop, set-split, drop-append-add}
 use lib.Dec.{ltb}
 use borrow.Author.Tests.{lt-ltb, le-ltb}
-use Rattle.text.specs.Text.{digit, digits, mostDigits, decimal, written}
+use Rattle.text.specs.Text.{digit, decimalDigits, mostDigits, decimal, written}
 
 -- a text at the front
 pub at-front : (l s : List ℕ) → written l 0 s ≡ s ++ drop (length s) l
@@ -88,27 +88,27 @@ put-then {l} {m} {k} {at} {r} {q} {s} {t} a room b = record {
 
 -- ## The digits of a number
 
-pub small : (most x : ℕ) → 0 < most → x < 10 → digits most x ≡ digit x ∷ []
-unfolding digits
+pub small : (most x : ℕ) → 0 < most → x < 10 → decimalDigits most x ≡ digit x ∷ []
+unfolding decimalDigits
 small zero x p h = absurd (omega arith)
 small (suc most) x p h = rw (lt-ltb x 10 h)
 
-pub large : (most x : ℕ) → 0 < most → 10 ≤ x → digits most x ≡ digits (most - 1) (x / 10) ++ (digit (x % 10) ∷ [])
-unfolding digits
+pub large : (most x : ℕ) → 0 < most → 10 ≤ x → decimalDigits most x ≡ decimalDigits (most - 1) (x / 10) ++ (digit (x % 10) ∷ [])
+unfolding decimalDigits
 large zero x p h = absurd (omega arith)
 large (suc most) x p h =
     let e : suc most - 1 ≡ most = omega arith in
     rw (le-ltb x 10 h, e)
 
 -- at most so many digits
-pub digits-length : (most x : ℕ) → length (digits most x) ≤ most
-unfolding digits
+pub digits-length : (most x : ℕ) → length (decimalDigits most x) ≤ most
+unfolding decimalDigits
 digits-length zero x = omega arith
 digits-length (suc most) x = go (ltb x 10) (digits-length most (x / 10))
   where
     go :
-        (b : Bool) → length (digits most (x / 10)) ≤ most
-        → length (cond b (digit x ∷ []) (digits most (x / 10) ++ (digit (x % 10) ∷ []))) ≤ suc most
+        (b : Bool) → length (decimalDigits most (x / 10)) ≤ most
+        → length (cond b (digit x ∷ []) (decimalDigits most (x / 10) ++ (digit (x % 10) ∷ []))) ≤ suc most
     go true h = omega arith
     go false h = simp length-append (omega arith)
 
@@ -118,8 +118,8 @@ decimal-length x = digits-length mostDigits x
 
 -- a number written, by how many digits may be left
 
-pub put-nothing : (l : List ℕ) (at most x : ℕ) → most ≡ 0 → Put l at (digits most x) at l
-unfolding digits written
+pub put-nothing : (l : List ℕ) (at most x : ℕ) → most ≡ 0 → Put l at (decimalDigits most x) at l
+unfolding decimalDigits written
 put-nothing l at most x e = rw e (record { next = omega arith; after = sym (whole l at) })
   where
     whole : (k : List ℕ) (i : ℕ) → take i k ++ drop (i + 0) k ≡ k
@@ -127,15 +127,15 @@ put-nothing l at most x e = rw e (record { next = omega arith; after = sym (whol
 
 pub put-small :
     (l : List ℕ) (at most x r : ℕ) (m : List ℕ) → 0 < most → x < 10 → r ≡ at + 1 → m ≡ written l at ((48 + x % 10) ∷ [])
-    → Put l at (digits most x) r m
+    → Put l at (decimalDigits most x) r m
 put-small l at most x r m p h e w =
     let k : x % 10 ≡ x = mod-eq-of-lt h in
     rw (small most x p h) (record { next = e; after = w ∙ ap (λ (j : ℕ). written l at ((48 + j) ∷ [])) k })
 
 pub put-large :
     (l : List ℕ) (at most x next r : ℕ) (m₁ m : List ℕ) → 0 < most → 10 ≤ x → at + most ≤ length l
-    → next ≡ at + length (digits (most - 1) (x / 10)) → m₁ ≡ written l at (digits (most - 1) (x / 10))
-    → r ≡ next + 1 → m ≡ written m₁ next ((48 + x % 10) ∷ []) → Put l at (digits most x) r m
+    → next ≡ at + length (decimalDigits (most - 1) (x / 10)) → m₁ ≡ written l at (decimalDigits (most - 1) (x / 10))
+    → r ≡ next + 1 → m ≡ written m₁ next ((48 + x % 10) ∷ []) → Put l at (decimalDigits most x) r m
 put-large l at most x next r m₁ m p h room e₁ w₁ e w =
     let n = digits-length (most - 1) (x / 10) in
     rw (large most x p h)
@@ -143,9 +143,9 @@ put-large l at most x next r m₁ m p h room e₁ w₁ e w =
 
 -- there is room for the last digit
 pub room-for-digit :
-    (l m₁ : List ℕ) (at most x next : ℕ) → 0 < most → at + most ≤ length l → next ≡ at + length (digits (most - 1) (x / 10))
-    → m₁ ≡ written l at (digits (most - 1) (x / 10)) → next < length m₁
+    (l m₁ : List ℕ) (at most x next : ℕ) → 0 < most → at + most ≤ length l → next ≡ at + length (decimalDigits (most - 1) (x / 10))
+    → m₁ ≡ written l at (decimalDigits (most - 1) (x / 10)) → next < length m₁
 room-for-digit l m₁ at most x next p room e w =
     let n = digits-length (most - 1) (x / 10) in
-    let q : length m₁ ≡ length l = ap length w ∙ written-length l at (digits (most - 1) (x / 10)) (omega arith) in
+    let q : length m₁ ≡ length l = ap length w ∙ written-length l at (decimalDigits (most - 1) (x / 10)) (omega arith) in
     omega arith

@@ -17,9 +17,9 @@ abbrev pub digit : ℕ → ℕ
 digit x = 48 + x
 
 -- a number in at most so many digits, without leading zeros
-unfoldable pub digits : ℕ → ℕ → List ℕ
-digits zero x = []
-digits (suc most) x = cond (ltb x 10) (digit x ∷ []) (digits most (x / 10) ++ (digit (x % 10) ∷ []))
+unfoldable pub decimalDigits : ℕ → ℕ → List ℕ
+decimalDigits zero x = []
+decimalDigits (suc most) x = cond (ltb x 10) (digit x ∷ []) (decimalDigits most (x / 10) ++ (digit (x % 10) ∷ []))
 
 -- the digits of the largest number that is written
 abbrev pub mostDigits : ℕ
@@ -27,7 +27,7 @@ mostDigits = 5
 
 -- a number below 100,000 in decimal, without leading zeros
 unfoldable pub decimal : ℕ → List ℕ
-decimal x = digits mostDigits x
+decimal x = decimalDigits mostDigits x
 
 -- a buffer with a text written at a place
 unfoldable pub written : List ℕ → ℕ → List ℕ → List ℕ

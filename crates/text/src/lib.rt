@@ -3,7 +3,7 @@ ghost use mathlib.Core.Path.{_≡_};
 ghost use mathlib.Core.List.{[], _∷_};
 ghost use Prim.Native.Nat.{_+_, _<_, _≤_};
 ghost use lib.ListN.{length};
-ghost use Rattle.text.specs.Text.{digits, decimal, written};
+ghost use Rattle.text.specs.Text.{decimalDigits, decimal, written};
 ghost use Rattle.text.specs.Handed.{handed, handedOver};
 
 // How many bytes were put at the front of a buffer, or that it is too short for them.
@@ -36,8 +36,8 @@ pub fn put_text(buffer: &mut [u8], at: usize, text: &[u8]) -> usize
 // Writes a number of at most so many digits, and returns the next place.
 fn put_digits(buffer: &mut [u8], at: usize, most: usize, x: usize) -> usize
     requires { ⌜ at + most ≤ length (now buffer) ⌝ }
-    ensures { λ r. ⌜ r ≡ at + length (digits most x) ⌝ }
-    ensures { λ _. ⌜ now (buffer .exit) ≡ written (now (buffer .entry)) at (digits most x) ⌝ }
+    ensures { λ r. ⌜ r ≡ at + length (decimalDigits most x) ⌝ }
+    ensures { λ _. ⌜ now (buffer .exit) ≡ written (now (buffer .entry)) at (decimalDigits most x) ⌝ }
 {
     if most == 0 {
         return at;

@@ -1,7 +1,7 @@
 -- Bytes are well formed where they are eight and their fields are right.
 use borrow.Author.Needs.{needs}
 use borrow.Author.Tests.{eq-eqb, ne-eqb}
-use Rattle.section.specs.StepLaws.{bytesRight, well-formed-is}
+use Rattle.section.proofs.StepLaws.{bytesRight, well-formed-is}
 use Rattle.step_tests.proofs.is_well_formed.Statement.{statement}
 use Rattle.step_tests.proofs.is_well_formed.Tie as tie
 

@@ -2,7 +2,7 @@
 use mathlib.Core.Path.{_∙_, sym, ap}
 use borrow.Author.Needs.{needs}
 use Rattle.section.specs.declared.Decoded.the-variants.{Well}
-use Rattle.section.specs.StepLaws.{malformed, well-said, well-length}
+use Rattle.section.proofs.StepLaws.{malformed, well-said, well-length}
 use Rattle.section.proofs.Told.{told-false, told-true}
 use Rattle.steps.proofs.decode.Statement.{statement}
 use Rattle.steps.proofs.decode.Tie as tie

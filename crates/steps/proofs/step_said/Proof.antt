@@ -1,6 +1,5 @@
 use borrow.Author.Needs.{needs}
-use Rattle.section.specs.Step.{trackStepOf}
-use Rattle.section.specs.StepLaws.{stepSaid}
+use Rattle.section.specs.Step.{trackStepOf, stepSaid}
 use Rattle.steps.proofs.step_said.Statement.{statement}
 use Rattle.steps.proofs.step_said.Tie as tie
 

@@ -4,9 +4,9 @@ use mathlib.Core.Path.{_≡_, sym, _∙_}
 use native.Mathlib.Omega.{arith}
 use Rattle.section.specs.declared.Decoded.the-variants.{Well}
 use Rattle.section.specs.declared.TrackStep.{TrackStep}
-use Rattle.section.specs.Codec.{decoded-post-below}
 use Rattle.section.specs.Numbers.{mostPosts}
 use Rattle.section.specs.Step.{decoded, postOf}
+use Rattle.section.proofs.Codec.{decoded-post-below}
 use Rattle.section.proofs.Laws.{posts-right}
 use Rattle.layout.specs.Layout.{stepAt}
 use Rattle.whole_day.proofs.Rows.{two-after, fit-at, judged-at}

@@ -1,5 +1,6 @@
--- Decoding and encoding a step are inverse to each other. What bytes that say a step say of its fields.
-use Prim.Native.Nat.{ℕ, _≤_, _<_, _/_, _%_}
+-- Decoding and encoding a step are inverse to each other. A step's fields pass the tests that its bytes are put to, and give the step back; of
+-- bytes that say a step each field is read off, with its range.
+use Prim.Native.Nat.{ℕ, _<_, _/_, _%_}
 use mathlib.Core.Path.{_≡_, refl, sym, _∙_, ap}
 use mathlib.Core.Bool.{Bool, true}
 use mathlib.Core.List.{List}
@@ -13,12 +14,14 @@ use Rattle.section.specs.declared.TrackStep.{TrackStep}
 use Rattle.section.specs.declared.Decoded.the-variants.{Well}
 use Rattle.section.specs.Bytes.{byte, pair, AllBytes}
 use Rattle.section.specs.Numbers.{stepLength}
-use Rattle.section.specs.Step.{numberRight, placeRight, fieldsRight, trackStepOf, fromFields, decoded, isWell, wellFormed}
+use Rattle.section.specs.RoundTrip.{DecodesWhatIsEncoded, EncodesInEightBytes, EncodesWhatIsDecoded, DecodesOnlyWhatFits}
+use Rattle.section.specs.Step.{numberRight, placeRight, fieldsRight, trackStepOf, stepSaid, fromFields, decoded, isWell, wellFormed}
 use Rattle.section.specs.Step.{kindOf, postOf, faultByte, numberOf, trackNumber, bytesOf, encoded, stepFits}
-use Rattle.section.specs.StepLaws.{bytesRight, stepSaid, well-formed-is, well-said, well-length, and-left, and-right, Right, right, below}
-use Rattle.section.specs.StepLaws.{kind-read, post-read, fault-read, number-read, track-back, low-back, high-back, zero-low, zero-high}
-use Rattle.section.specs.StepLaws.{kind-within, track-within, fault-fits, step-same, track-same, pair-back}
-use Rattle.section.specs.StepLaws.{kind-small, fault-small, number-small, all-bytes}
+use Rattle.section.proofs.Laws.{and-left, and-right}
+use Rattle.section.proofs.StepLaws.{bytesRight, well-formed-is, well-said, well-length, Right, right, below}
+use Rattle.section.proofs.StepLaws.{kind-read, post-read, fault-read, number-read, track-back, low-back, high-back, zero-low, zero-high}
+use Rattle.section.proofs.StepLaws.{kind-within, track-within, fault-fits, step-same, track-same, pair-back}
+use Rattle.section.proofs.StepLaws.{kind-small, fault-small, number-small, all-bytes}
 
 -- ## From a step to its bytes and back
 
@@ -40,28 +43,24 @@ same-step : (x : TrackStep) →
 unfolding trackStepOf
 same-step x = rw (track-same (x .track), step-same (x .step))
 
--- the bytes of a step whose post and number are in their ranges say that step
-pub decoded-encoded : (n : ℕ) (x : TrackStep) → stepFits n (x .step) ≡ true → decoded n (encoded x) ≡ Well x
+pub decodes-what-is-encoded : DecodesWhatIsEncoded
 unfolding decoded encoded bytesOf fromFields
-decoded-encoded n x h =
+decodes-what-is-encoded n x h =
     rw (pair-back (numberOf (x .step)), no-pair, fields-fit n (x .track) (x .step) h) (ap Well (same-step x))
 
--- they are eight, and each is a byte where n is at most 256
-pub encoded-length : (x : TrackStep) → length (encoded x) ≡ stepLength
-unfolding encoded bytesOf
-encoded-length x = refl
-
-pub encoded-bytes : (n : ℕ) (x : TrackStep) → n ≤ 256 → stepFits n (x .step) ≡ true → AllBytes (encoded x)
+pub encodes-in-eight-bytes : EncodesInEightBytes
 unfolding encoded bytesOf stepFits
-encoded-bytes n x m h =
+encodes-in-eight-bytes n x m h =
     let y = x .step in
     let kind = kind-small (kindOf y) (kind-within y) in
     let track = ltb-true (trackNumber (x .track)) 2 (track-within (x .track)) in
     let post = ltb-true (postOf y) n (and-left (ltb (postOf y) n) (numberRight (kindOf y) (numberOf y)) h) in
     let fault = fault-small (kindOf y) (faultByte y) (fault-fits y) in
-    let number = number-small (kindOf y) (numberOf y) (and-right (ltb (postOf y) n) (numberRight (kindOf y) (numberOf y)) h) in
-    all-bytes (encoded x)
-    (omega arith, (omega arith, (omega arith, (omega arith, (omega arith, (omega arith, (omega arith, (omega arith, tt))))))))
+    let number = number-small (kindOf y) (numberOf y) (and-right (ltb (postOf y) n) (numberRight (kindOf y) (numberOf y)) h) in (
+      refl,
+      all-bytes (encoded x)
+          (omega arith, (omega arith, (omega arith, (omega arith, (omega arith, (omega arith, (omega arith, (omega arith, tt)))))))),
+    )
 
 -- ## From bytes to their step and back
 
@@ -113,13 +112,11 @@ module _ (n : ℕ) (s : List ℕ) (x : TrackStep) (d : decoded n s ≡ Well x) w
   pub decoded-number-right : numberRight (kindOf (x .step)) (numberOf (x .step)) ≡ true
   decoded-number-right = rw (decoded-kind, decoded-number) (fields .number-right)
 
-  -- bytes say only steps whose post and number are in their ranges
-  pub decoded-fits : stepFits n (x .step) ≡ true
+  decoded-fits : stepFits n (x .step) ≡ true
   unfolding stepFits
   decoded-fits = rw (lt-ltb _ _ decoded-post-below) decoded-number-right
 
-  -- the bytes of the step that bytes say are those bytes
-  pub encoded-decoded : AllBytes s → encoded x ≡ s
+  encoded-decoded : AllBytes s → encoded x ≡ s
   unfolding encoded bytesOf
   encoded-decoded bytes =
       let zero6 : 0 ≡ byte s 6 = zero-low (byte s 6) (byte s 7) (fields .zeros-right) in
@@ -130,3 +127,9 @@ module _ (n : ℕ) (s : List ℕ) (x : TrackStep) (d : decoded n s ≡ Well x) w
       ext-getD 0 (encoded x) s (sym decoded-length)
       (below (λ (i : ℕ). byte (encoded x) i ≡ byte s i) stepLength
       (decoded-kind, (track, (decoded-post, (decoded-fault, (low, (high, (zero6, (zero7, tt)))))))))
+
+pub decodes-only-what-fits : DecodesOnlyWhatFits
+decodes-only-what-fits n s x d = decoded-fits n s x d
+
+pub encodes-what-is-decoded : EncodesWhatIsDecoded
+encodes-what-is-decoded n s x d = encoded-decoded n s x d

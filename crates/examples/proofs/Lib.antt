@@ -1,0 +1,2 @@
+pub mod PlainReversal
+pub mod Annex5
