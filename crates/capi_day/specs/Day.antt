@@ -1,31 +1,25 @@
 -- What a call returns that notes the steps of a day, and the lent buffer afterwards.
-use Prim.Native.Nat.{ℕ, _*_, _/_}
-use mathlib.Core.Bool.{Bool, cond}
+use Prim.Native.Nat.{ℕ, _/_}
+use mathlib.Core.Bool.{cond}
 use mathlib.Core.List.{List}
 use lib.ListN.{length}
-use lib.Dec.{ltb}
 use Rattle.section.specs.declared.Settings.{Settings}
 use Rattle.section.specs.Numbers.{stepLength}
 use Rattle.section.specs.Settings.{settingsRight}
-use Rattle.text.specs.Text.{written}
-use Rattle.notes.specs.Note.{noteLength}
-use Rattle.whole_day.specs.Notes.{notesOf}
+use Rattle.whole_day.specs.Notes.{canBeNoted, notesAfter}
 
 -- the whole steps that are offered
 abbrev pub stepsOffered : List ℕ → ℕ
 stepsOffered steps = length steps / stepLength
 
--- the buffer is too short for their notes
-abbrev pub notesTooLong : List ℕ → ℕ → Bool
-notesTooLong steps room = ltb room (noteLength * stepsOffered steps)
+-- of a day that cannot be noted: 6 for settings out of their ranges, else 5, for the buffer is too short for the notes
+unfoldable pub dayRefusal : Settings → ℕ
+dayRefusal c = cond (settingsRight c) 5 6
 
--- 6, then 5
+-- 0 where the day can be noted
 unfoldable pub dayAnswer : Settings → List ℕ → ℕ → ℕ
-dayAnswer c steps room = cond (settingsRight c) (cond (notesTooLong steps room) 5 0) 6
+dayAnswer c steps room = cond (canBeNoted c steps (stepsOffered steps) room) 0 (dayRefusal c)
 
 -- the notes at the buffer's front; a refused call leaves it untouched
-unfoldable pub dayNotes : Settings → List ℕ → List ℕ → List ℕ
-dayNotes c steps buffer =
-    cond (settingsRight c)
-    (cond (notesTooLong steps (length buffer)) buffer (written buffer 0 (notesOf c steps (stepsOffered steps))))
-    buffer
+abbrev pub dayNotes : Settings → List ℕ → List ℕ → List ℕ
+dayNotes c steps buffer = notesAfter c steps (stepsOffered steps) buffer

@@ -2,25 +2,19 @@
 // It is not stable: names and the notes' layout may change with any delivery.
 ghost use mathlib.Core.Path.{_≡_};
 ghost use lib.ListN.{length};
-ghost use Rattle.capi_day.specs.Day.{dayAnswer, dayNotes};
+ghost use Rattle.capi_day.specs.Day.{dayRefusal, dayAnswer, dayNotes};
 ghost use Rattle.packed.specs.Settings.{settingsGiven};
-use notes::NOTE_LENGTH;
 use packed::settings_given;
 use section::STEP_LENGTH;
 use section::Settings;
+use settings_range::settings_right;
 use whole_day::note_day;
 
-// 6 for settings out of their ranges, then 5 for a buffer too short for the notes; else 0.
-pub fn day_answer(c: Settings, steps: &[u8], room: usize) -> u8
-    ensures { λ r. ⌜ r ≡ dayAnswer c (now (steps .entry)) room ⌝ }
+// Why a day cannot be noted: 6 for settings out of their ranges, else 5, for a buffer too short for the notes.
+pub fn day_refusal(c: Settings) -> u8
+    ensures { λ r. ⌜ r ≡ dayRefusal c ⌝ }
 {
-    if !settings_range::settings_right(c) {
-        return 6;
-    }
-    if room < NOTE_LENGTH * (steps.len() / STEP_LENGTH) {
-        return 5;
-    }
-    0
+    if settings_right(c) { 5 } else { 6 }
 }
 
 // Judges the whole steps, offered one after another from fresh, and writes the note of each, from the buffer's front on. The day is judged in
@@ -38,9 +32,8 @@ pub extern "C" fn bsr_day(
     ensures { λ _. ⌜ now (buffer .exit) ≡ dayNotes (settingsGiven n form mask line) (now (steps .entry)) (now (buffer .entry)) ⌝ }
 {
     let c = settings_given(n, form, mask, line);
-    let answer = day_answer(c, steps, buffer.len());
-    if answer == 0 {
-        note_day(c, steps, steps.len() / STEP_LENGTH, buffer);
+    if note_day(c, steps, steps.len() / STEP_LENGTH, buffer) {
+        return 0;
     }
-    answer
+    day_refusal(c)
 }

@@ -9,7 +9,7 @@ ghost use Rattle.notes.specs.Note.{noteLength, note};
 ghost use Rattle.whole_day.specs.Notes.{notesOf};
 ghost use Rattle.capi_day.specs.Day.{dayAnswer, dayNotes};
 ghost use Rattle.packed.specs.Settings.{settingsGiven};
-use capi_day::day_answer;
+use capi_day::day_refusal;
 use notes::NOTE_LENGTH;
 use notes::letter;
 use notes::put_note;
@@ -17,6 +17,7 @@ use packed::settings_given;
 use section::Answer;
 use section::STEP_LENGTH;
 use section::Settings;
+use whole_day::can_be_noted;
 
 // Writes the note of an answer.
 fn put_answer(notes: &mut [u8], at: usize, answer: Answer)
@@ -68,9 +69,10 @@ pub extern "C" fn bsr_day_singly(
     ensures { λ _. ⌜ now (buffer .exit) ≡ dayNotes (settingsGiven n form mask line) (now (steps .entry)) (now (buffer .entry)) ⌝ }
 {
     let c = settings_given(n, form, mask, line);
-    let answer = day_answer(c, steps, buffer.len());
-    if answer == 0 {
-        note_singly(c, steps, steps.len() / STEP_LENGTH, buffer);
+    let count = steps.len() / STEP_LENGTH;
+    if !can_be_noted(c, steps, count, buffer.len()) {
+        return day_refusal(c);
     }
-    answer
+    note_singly(c, steps, count, buffer);
+    0
 }

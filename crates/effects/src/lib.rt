@@ -19,7 +19,7 @@ use section::Step;
 use section::Walk;
 
 // A step that changes its post's record and does something with a train.
-pub fn moving(e: Site, own: Post, train: Movement) -> Effect
+fn moving(e: Site, own: Post, train: Movement) -> Effect
     ensures { λ r. ⌜ r ≡ moving e own train ⌝ }
 {
     let walk = e.walk;
@@ -33,7 +33,7 @@ pub fn moving(e: Site, own: Post, train: Movement) -> Effect
 }
 
 // Fault 1 takes the mark with it.
-pub fn cleared(own: Post, fault: Fault) -> Post
+fn cleared(own: Post, fault: Fault) -> Post
     ensures { λ r. ⌜ r ≡ cleared fault own ⌝ }
 {
     match fault {

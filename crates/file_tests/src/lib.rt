@@ -23,7 +23,7 @@ pub fn length_wrong(size: usize) -> bool
 }
 
 // Whether the trailer's first four bytes are the mark.
-pub fn mark_right(t: &[u8]) -> bool
+fn mark_right(t: &[u8]) -> bool
     requires { ⌜ trailerLength ≤ length (now t) ⌝ }
     ensures { λ r. ⌜ r ≡ markRight (now (t .entry)) ⌝ }
 {

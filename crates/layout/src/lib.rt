@@ -11,7 +11,7 @@ pub const MOST_STEPS: usize = 4096;
 
 pub const SETTINGS_LENGTH: usize = 8;
 
-pub const TRAILER_LENGTH: usize = 16;
+const TRAILER_LENGTH: usize = 16;
 
 pub const MARK: [u8; 4] = *b"BSR1";
 // From the file's end to the settings.
@@ -20,7 +20,7 @@ pub const SETTINGS_DISTANCE: usize = SETTINGS_LENGTH + TRAILER_LENGTH;
 pub const LONGEST_FILE: usize = SETTINGS_DISTANCE + STEP_LENGTH * MOST_STEPS;
 
 // The 32-bit number of four bytes.
-pub fn four_of(a: u8, b: u8, c: u8, d: u8) -> u32
+fn four_of(a: u8, b: u8, c: u8, d: u8) -> u32
     ensures { λ r. ⌜ r ≡ four a b c d ⌝ }
 {
     (a as u32) + (b as u32) * 256 + (c as u32) * 65536 + (d as u32) * 16777216
@@ -94,7 +94,7 @@ pub fn pair_bytes(x: u16) -> [u8; 2]
 }
 
 // The four bytes of a 32-bit number.
-pub fn four_bytes(x: usize) -> [u8; 4]
+fn four_bytes(x: usize) -> [u8; 4]
     ensures { λ r. ⌜ r ≡ fourBytes x ⌝ }
 {
     [

@@ -11,7 +11,7 @@ use Rattle.section.specs.declared.Said.the-variants.{Nothing, Cvt, Cvtz, Vns, V
 use Rattle.text.specs.Text.{decimal, written}
 use Rattle.text.proofs.Laws.{put-then, decimal-length}
 use Rattle.lines.specs.Text.{word, inTurn}
-use Rattle.lines.specs.Lines.{header, verdictFields, fields, headerRoom, stepLineRoom}
+use Rattle.lines.specs.Lines.{refusedLine, header, verdictFields, fields, refusedRoom, headerRoom, stepLineRoom}
 
 -- what a function that puts a text ensures
 abbrev pub Putting : List ℕ → ℕ → List ℕ → ℕ → List ℕ → Type 0
@@ -61,6 +61,10 @@ unfolding verdictFields
 verdict-length refusal said = simp length-append (omega (arith, decimal-length refusal, word-length said))
 
 -- ## How long a line is
+
+pub refused-length : (number index : ℕ) → length (refusedLine number index) ≤ refusedRoom
+unfolding refusedLine
+refused-length number index = simp length-append (omega (arith, decimal-length number, decimal-length index))
 
 pub header-length : (n count : ℕ) → length (header n count) ≤ headerRoom
 unfolding header

@@ -12,7 +12,7 @@ use rules::Site;
 use section::Settings;
 use section::Trains;
 
-pub fn block_ahead(c: Settings, e: Site) -> usize
+fn block_ahead(c: Settings, e: Site) -> usize
     requires { ⌜ (Placed c e) × (HasAhead c e) ⌝ }
     ensures { λ r. ⌜ (r ≡ blockAhead c e) × (r < mostBlocks) ⌝ }
 {
@@ -23,7 +23,7 @@ pub fn block_ahead(c: Settings, e: Site) -> usize
     ) as usize
 }
 
-pub fn block_before(c: Settings, e: Site) -> usize
+fn block_before(c: Settings, e: Site) -> usize
     requires { ⌜ (Placed c e) × (HasBefore c e) ⌝ }
     ensures { λ r. ⌜ (r ≡ blockBefore c e) × (r < mostBlocks) ⌝ }
 {

@@ -21,7 +21,7 @@ fn widened(number: u16) -> u64
 }
 
 // The train, or the last train, of block section i, widened: the only place where judging reads a cell.
-pub fn train_in(cells: &Trains, i: u8) -> u64
+fn train_in(cells: &Trains, i: u8) -> u64
     requires { ⌜ i < mostBlocks ⌝ }
     ensures { λ r. ⌜ r ≡ getD (now (cells .entry)) i 0 ⌝ }
 {
@@ -38,7 +38,7 @@ pub fn train_after(cells: &Trains, n: u8, up: bool, j: u8) -> u64
 }
 
 // A train in one of the first m block sections.
-pub fn any_train(m: u8, trains: &Trains) -> bool
+fn any_train(m: u8, trains: &Trains) -> bool
     requires { ⌜ m ≤ mostBlocks ⌝ }
     ensures { λ r. ⌜ r ≡ anyTrain m (now (trains .entry)) ⌝ }
 {

@@ -47,7 +47,7 @@ pub fn setting(c: Settings, e: Site, own: Post) -> Effect
 }
 
 // The post at which the walk goes on after an announcement.
-pub fn next_post(c: Settings, e: Site) -> u8
+fn next_post(c: Settings, e: Site) -> u8
     requires { ⌜ (Placed c e) × (HasAhead c e) ⌝ }
     ensures { λ r. ⌜ r ≡ nextPost c e ⌝ }
 {

@@ -12,7 +12,7 @@ use crate::Walk;
 use crate::blank;
 
 // The post that may start trains on a fresh track.
-pub fn fresh_start(n: u8, track: bool) -> u8
+fn fresh_start(n: u8, track: bool) -> u8
     ensures { λ r. ⌜ r ≡ cond track (n - 1) 0 ⌝ }
 {
     if !track {
@@ -24,7 +24,7 @@ pub fn fresh_start(n: u8, track: bool) -> u8
     n - 1
 }
 
-pub fn fresh_track(n: u8, track: bool) -> Track
+fn fresh_track(n: u8, track: bool) -> Track
     ensures { λ r. ⌜ r ≡ freshTrack n track ⌝ }
 {
     let mut posts = [blank(); MOST_POSTS as usize];

@@ -1,13 +1,13 @@
 -- The lines of a day: how long they are, and what the loop over the steps keeps.
 use Prim.Native.Nat.{ℕ, _+_, _*_, _<_, _≤_}
 use mathlib.Core.Bool.{true, _&&_}
-use mathlib.Core.Path.{_≡_, _∙_, ap}
+use mathlib.Core.Path.{_≡_, refl, _∙_, ap}
 use mathlib.Core.List.{List}
 use native.Mathlib.Omega.{arith}
 use native.Mathlib.Nat.{mul-suc, mul-le-mul-left}
 use borrow.Author.Tests.{leb-true}
 use lib.Dec.{leb}
-use lib.ListN.{length, drop, length-drop}
+use lib.ListN.{length, drop, length-drop, length-append}
 use lib.Seq.{length-take-le}
 use Rattle.section.specs.declared.Answer.{Answer}
 use Rattle.section.specs.declared.Section.{Section}
@@ -23,6 +23,7 @@ use Rattle.rules.proofs.RangeLaw.{ranges-kept}
 use Rattle.layout.specs.Layout.{mostSteps, settingsOf, settingsIn, stepAt, stepsIn, stepsPart}
 use Rattle.file_tests.specs.Tests.{settingsBytesRight}
 use Rattle.dayfile.specs.Answers.{readOf, refusalNumber}
+use Rattle.dayfile.specs.declared.Reading.{Reading}
 use Rattle.dayfile.specs.declared.Reading.the-variants.{Day, Refused}
 use Rattle.file_tests.proofs.Laws.{all-whole}
 use Rattle.dayfile.proofs.Reader.{day-read, few-steps}
@@ -30,7 +31,7 @@ use Rattle.dayfile.proofs.RoundTrip.{gives-its-steps}
 use Rattle.text.specs.Text.{written}
 use Rattle.lines.specs.Text.{inTurn}
 use Rattle.lines.specs.Lines.{refusedLine, stepLine}
-use Rattle.lines.proofs.Puts.{Putting, in-turn-length, same-texts}
+use Rattle.lines.proofs.Puts.{Putting, refused-length, header-length, fields-length, in-turn-length, same-texts}
 use Rattle.whole_day.specs.Day.{sectionBefore, answerTo}
 use Rattle.whole_day.specs.Notes.{noteOn, notesOf}
 use Rattle.whole_day.proofs.Laws.{in-range-before, note-written}
@@ -134,6 +135,33 @@ module _ (file : List ℕ) (count : ℕ) (e : readOf file .reading ≡ Day count
   settings-read-right =
       let d = day-read file count e in
       rw e (and-left (settingsRight (settingsOf (settingsIn file))) _ (d .settings-well))
+
+-- ## How long what is printed of a file is
+
+line-fits :
+    (sheet : Sheet) (c : Settings) (steps : List ℕ) (i : ℕ) → settingsRight c ≡ true
+    → length (lineOn sheet i (stepAt steps i) (answerTo (freshSection c) steps i)) ≤ lineRoom sheet
+unfolding lineOn lineRoom stepLine
+line-fits OfSteps c steps i right = fields-length i _ _ _ _
+line-fits OfPosts c steps i right =
+    panel-line-length i (stepAt steps i) (answerTo (freshSection c) steps i) (few-posts-after (freshSection c) steps (fresh-in-range c right) i)
+
+read-fits :
+    (sheet : Sheet) (file : List ℕ) (reading : Reading) → readOf file .reading ≡ reading
+    → length (printedRead (lineOn sheet) reading (readOf file .settings) (stepsIn file)) ≤ room sheet mostSteps
+unfolding printedRead lines room
+read-fits sheet file (Refused number index) e = omega (arith, refused-length number index)
+read-fits sheet file (Day count) e =
+    let c = readOf file .settings in
+    let all =
+    in-turn-length (λ i. lineOn sheet i (stepAt (stepsIn file) i) (answerTo (freshSection c) (stepsIn file) i)) (lineRoom sheet) count
+    (λ i. line-fits sheet c (stepsIn file) i (settings-read-right file count e)) in
+    simp length-append (omega (arith, all, header-length (c .posts) count, mul-le-mul-left (lineRoom sheet) (few-steps-read file count e)))
+
+-- every sheet fits its room
+pub printed-fits : (sheet : Sheet) (file : List ℕ) → length (printed (lineOn sheet) file) ≤ room sheet mostSteps
+unfolding printed
+printed-fits sheet file = read-fits sheet file (readOf file .reading) refl
 
 -- ## What is printed of a file
 

@@ -2,13 +2,14 @@
 ghost use mathlib.Core.Bool.{true};
 ghost use mathlib.Core.Path.{_≡_};
 ghost use Prim.Native.Nat.{_+_, _*_, _≤_};
-ghost use lib.ListN.{length};
+ghost use lib.ListN.{length, replicate};
 ghost use Rattle.section.specs.Fresh.{freshSection};
 ghost use Rattle.section.specs.Numbers.{stepLength};
 ghost use Rattle.section.specs.Settings.{settingsRight};
 ghost use Rattle.layout.specs.Layout.{mostSteps};
 ghost use Rattle.dayfile.specs.declared.Reading.{Reading};
 ghost use Rattle.text.specs.Text.{written};
+ghost use Rattle.text.specs.Handed.{handed, handedOver};
 ghost use Rattle.lines.specs.Lines.{stepLineRoom};
 ghost use Rattle.notes.specs.Note.{noteLength};
 ghost use Rattle.panel_lines.specs.Lamps.{panelLineRoom};
@@ -24,6 +25,8 @@ use panel_lines::put_panel;
 use section::STEP_LENGTH;
 use section::Settings;
 use step_lines::put_noted_lines;
+use text::Handed;
+use text::hand_over;
 use whole_day::note_day;
 
 // What is printed of each step: what it did, or what the posts show after it.
@@ -32,7 +35,42 @@ pub enum Sheet {
     OfPosts,
 }
 
+// The longest header, and the longest line of a step in a listing and in a panel.
+const HEADER_ROOM: usize = 24;
+
+const STEP_LINE_ROOM: usize = 21;
+
+const PANEL_LINE_ROOM: usize = 104;
+
+const LISTING_ROOM: usize = HEADER_ROOM + STEP_LINE_ROOM * MOST_STEPS;
+
+pub const PANEL_ROOM: usize = HEADER_ROOM + PANEL_LINE_ROOM * MOST_STEPS;
+
 const NOTES_ROOM: usize = NOTE_LENGTH * MOST_STEPS;
+
+// The length of the longest sheet.
+fn room_for(sheet: Sheet) -> usize
+    ensures { λ r. ⌜ r ≡ room sheet mostSteps ⌝ }
+{
+    match sheet {
+        Sheet::OfSteps => LISTING_ROOM,
+        Sheet::OfPosts => PANEL_ROOM,
+    }
+}
+
+// Room for the longest listing.
+pub fn listing_room() -> [u8; LISTING_ROOM]
+    ensures { λ r. ⌜ r ≡ replicate (room Sheet.OfSteps mostSteps) 0 ⌝ }
+{
+    [0; LISTING_ROOM]
+}
+
+// Room for the longest panel.
+pub fn panel_room() -> [u8; PANEL_ROOM]
+    ensures { λ r. ⌜ r ≡ replicate (room Sheet.OfPosts mostSteps) 0 ⌝ }
+{
+    [0; PANEL_ROOM]
+}
 
 // Room for the notes of the longest day.
 fn room_for_notes() -> [u8; NOTES_ROOM]
@@ -106,7 +144,7 @@ fn put_day(sheet: Sheet, buffer: &mut [u8], c: Settings, steps: &[u8], count: us
 }
 
 // Writes what is printed of a file, and returns its length.
-pub fn print(sheet: Sheet, file: &[u8], buffer: &mut [u8]) -> usize
+fn put_sheet(sheet: Sheet, file: &[u8], buffer: &mut [u8]) -> usize
     requires { ⌜ room sheet mostSteps ≤ length (now buffer) ⌝ }
     ensures { λ r. ⌜ r ≡ length (printed (lineOn sheet) (now (file .entry))) ⌝ }
     ensures { λ _. ⌜ now (buffer .exit) ≡ written (now (buffer .entry)) 0 (printed (lineOn sheet) (now (file .entry))) ⌝ }
@@ -123,4 +161,17 @@ pub fn print(sheet: Sheet, file: &[u8], buffer: &mut [u8]) -> usize
             count,
         ),
     }
+}
+
+// What is printed of a file, at the front of the buffer, if it is long enough. A buffer that any sheet fits is written to at once.
+pub fn print(sheet: Sheet, file: &[u8], buffer: &mut [u8]) -> Handed
+    ensures { λ r. ⌜ r ≡ handed (printed (lineOn sheet) (now (file .entry))) (now (buffer .entry)) ⌝ }
+    ensures { λ _. ⌜ now (buffer .exit) ≡ handedOver (printed (lineOn sheet) (now (file .entry))) (now (buffer .entry)) ⌝ }
+{
+    if room_for(sheet) <= buffer.len() {
+        return Handed::Bytes(put_sheet(sheet, file, buffer));
+    }
+    let mut space = panel_room();
+    let length = put_sheet(sheet, file, &mut space);
+    hand_over(&space[0..length], buffer)
 }

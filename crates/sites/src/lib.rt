@@ -55,7 +55,7 @@ pub fn place_of(x: TrackStep) -> usize
 }
 
 // A track with that running direction and walk is settled on VNS.
-pub fn settled_on_vns(running: Running) -> bool
+fn settled_on_vns(running: Running) -> bool
     ensures { λ r. ⌜ r ≡ settledVns (running .walk) (running .cvt) ⌝ }
 {
     let cvt = running.cvt;

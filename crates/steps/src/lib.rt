@@ -1,9 +1,8 @@
-// A step from its eight bytes, and back.
+// A step from its eight bytes.
 ghost use mathlib.Core.Path.{_≡_};
 ghost use lib.ListN.{length};
 ghost use Rattle.section.specs.Numbers.{stepLength};
 ghost use Rattle.section.specs.Step.{faultOf, stepOf, stepSaid, decoded};
-ghost use Rattle.section.specs.Step.{faultNumber, trackNumber, bytesOf, encoded};
 use section::Decoded;
 use section::Fault;
 use section::Step;
@@ -78,51 +77,4 @@ pub fn decode(n: u8, s: &[u8]) -> Decoded
         return Decoded::Malformed;
     }
     Decoded::Well(step_said(s))
-}
-
-fn fault_number(f: Fault) -> u8
-    ensures { λ r. ⌜ r ≡ faultNumber f ⌝ }
-{
-    match f {
-        Fault::One => 1,
-        Fault::Two => 2,
-        Fault::Three => 3,
-    }
-}
-
-fn track_number(track: bool) -> u8
-    ensures { λ r. ⌜ r ≡ trackNumber track ⌝ }
-{
-    if track { 1 } else { 0 }
-}
-
-fn bytes_of(kind: u8, track: u8, post: u8, fault: u8, number: u16) -> [u8; 8]
-    ensures { λ r. ⌜ r ≡ bytesOf kind track post fault number ⌝ }
-{
-    let low = (number % 256) as u8;
-    let high = (number / 256) as u8;
-    [kind, track, post, fault, low, high, 0, 0]
-}
-
-// The eight bytes of a step.
-pub fn encode(x: TrackStep) -> [u8; 8]
-    ensures { λ r. ⌜ r ≡ encoded x ⌝ }
-{
-    let track = track_number(x.track);
-    let step = x.step;
-    match step {
-        Step::Order { post } => bytes_of(1, track, post, 0, 0),
-        Step::Set { post } => bytes_of(2, track, post, 0, 0),
-        Step::Announce { post } => bytes_of(3, track, post, 0, 0),
-        Step::Acknowledge { post } => bytes_of(4, track, post, 0, 0),
-        Step::Start { post, number } => bytes_of(5, track, post, 0, number),
-        Step::Pass { post, number } => bytes_of(6, track, post, 0, number),
-        Step::Leave { post, number } => bytes_of(7, track, post, 0, number),
-        Step::MeasuresOn { post } => bytes_of(8, track, post, 0, 0),
-        Step::MeasuresOff { post } => bytes_of(9, track, post, 0, 0),
-        Step::FaultOn { post, fault } => bytes_of(10, track, post, fault_number(fault), 0),
-        Step::FaultOff { post, fault } => bytes_of(11, track, post, fault_number(fault), 0),
-        Step::Release { post, number } => bytes_of(12, track, post, 0, number),
-        Step::Key { post } => bytes_of(13, track, post, 0, 0),
-    }
 }

@@ -13,7 +13,7 @@ use section::Trains;
 use site_positions::rank_at;
 
 // Whether a stretch ends at the post of rank j: in VNS at every post, in CVT at a signalled one. The rank of a rank is the post.
-pub fn stretch_ends(c: Settings, track: bool, cvt: bool, j: u8) -> bool
+fn stretch_ends(c: Settings, track: bool, cvt: bool, j: u8) -> bool
     requires { ⌜ (j < c .posts) × (c .posts ≤ mostPosts) ⌝ }
     ensures { λ r. ⌜ r ≡ stretchEnds c track cvt j ⌝ }
 {
@@ -27,7 +27,7 @@ pub fn stretch_ends(c: Settings, track: bool, cvt: bool, j: u8) -> bool
 }
 
 // A train in the stretch that begins at the post of rank `from`.
-pub fn stretch_holds(c: Settings, track: bool, cvt: bool, from: u8, trains: &Trains) -> bool
+fn stretch_holds(c: Settings, track: bool, cvt: bool, from: u8, trains: &Trains) -> bool
     requires { ⌜ (from < c .posts) × (c .posts ≤ mostPosts) ⌝ }
     ensures { λ r. ⌜ r ≡ stretchHolds (stretchEnds c track cvt) (trainAt c track cvt (now (trains .entry))) (c .posts - suc from) from ⌝ }
 {

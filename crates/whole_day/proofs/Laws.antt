@@ -1,13 +1,13 @@
 -- The steps of a day and their notes.
 use Prim.Native.Nat.{ℕ, zero, suc, _+_, _-_, _*_, _≤_, _<_}
-use mathlib.Core.Bool.{Bool, true, false}
+use mathlib.Core.Bool.{Bool, true, false, _&&_}
 use mathlib.Core.List.{List, [], _∷_, _++_, append-assoc}
 use mathlib.Core.Path.{_≡_, refl, sym, _∙_, ap}
 use native.Mathlib.Omega.{arith}
 use native.Mathlib.Nat.{add-sub-cancel-left}
 use native.Mathlib.Numerals.{add-one}
-use borrow.Author.Tests.{ltb-true, ltb-false}
-use lib.Dec.{ltb}
+use borrow.Author.Tests.{ltb-true, ltb-false, leb-true, le-leb}
+use lib.Dec.{ltb, leb}
 use lib.ListN.{length, take, drop, length-append}
 use lib.Seq.{take-at, drop-at}
 use Rattle.section.specs.declared.Answer.{Answer}
@@ -16,6 +16,8 @@ use Rattle.section.specs.declared.Settings.{Settings}
 use Rattle.section.specs.Fresh.{freshSection}
 use Rattle.section.specs.Numbers.{stepLength}
 use Rattle.section.specs.Range.{inRange}
+use Rattle.section.specs.Settings.{settingsRight}
+use Rattle.section.proofs.Laws.{and-left, and-right}
 use Rattle.rules.specs.Demand3.{stateAfter}
 use Rattle.rules.specs.Judge.{judgeInRange, judge}
 use Rattle.rules.proofs.RangeLaw.{ranges-kept}
@@ -27,7 +29,7 @@ use Rattle.lines.proofs.Puts.{Putting, one-more-put}
 use Rattle.notes.specs.Note.{noteLength, note}
 use Rattle.notes.proofs.Laws.{note-length}
 use Rattle.whole_day.specs.Day.{sectionBefore, answerTo, offeredOf, DayIsOffered}
-use Rattle.whole_day.specs.Notes.{noteOn, notesOf}
+use Rattle.whole_day.specs.Notes.{noteOn, notesOf, canBeNoted, notesAfter}
 
 -- the step's bytes, as the code takes them
 pub step-part : (steps : List ℕ) (i : ℕ) → take (i * stepLength + stepLength - i * stepLength) (drop (i * stepLength) steps) ≡ stepAt steps i
@@ -133,3 +135,35 @@ module _ (c : Settings) (steps : List ℕ) (i : ℕ) where
   pub note-written : (count : ℕ) (lent : List ℕ) → i < count → Stands (written lent 0 (notesOf c steps count))
   unfolding notesOf
   note-written count lent h = rw (at-front lent (inTurn (noteOn c steps) count)) (note-among count _ h)
+
+-- ## A day that can be noted, and the buffer afterwards
+
+pub record DayFits (c : Settings) (steps : List ℕ) (count room : ℕ) : Type 0 where
+  pub settings-well : settingsRight c ≡ true
+  pub steps-there : stepLength * count ≤ length steps
+  pub notes-fit : noteLength * count ≤ room
+
+pub day-fits : (c : Settings) (steps : List ℕ) (count room : ℕ) → canBeNoted c steps count room ≡ true → DayFits c steps count room
+unfolding canBeNoted
+day-fits c steps count room e =
+    let there = leb (stepLength * count) (length steps) in
+    let fit = leb (noteLength * count) room in
+    let rest = and-right there (fit && settingsRight c) e in
+    record {
+      settings-well = and-right fit (settingsRight c) rest;
+      steps-there = leb-true _ _ (and-left there (fit && settingsRight c) e);
+      notes-fit = leb-true _ _ (and-left fit (settingsRight c) rest);
+    }
+
+pub can-be-noted : (c : Settings) (steps : List ℕ) (count room : ℕ) → DayFits c steps count room → canBeNoted c steps count room ≡ true
+unfolding canBeNoted
+can-be-noted c steps count room h = rw (le-leb _ _ (h .steps-there), le-leb _ _ (h .notes-fit)) (h .settings-well)
+
+module _ (c : Settings) (steps : List ℕ) (count : ℕ) (lent : List ℕ) where
+  pub notes-written : canBeNoted c steps count (length lent) ≡ true → notesAfter c steps count lent ≡ written lent 0 (notesOf c steps count)
+  unfolding notesAfter
+  notes-written e = rw e
+
+  pub notes-untouched : canBeNoted c steps count (length lent) ≡ false → notesAfter c steps count lent ≡ lent
+  unfolding notesAfter
+  notes-untouched e = rw e

@@ -11,7 +11,7 @@ ghost use Rattle.layout.specs.Layout.{stepAt};
 ghost use Rattle.text.specs.Text.{written};
 ghost use Rattle.lines.specs.Text.{letter};
 ghost use Rattle.notes.specs.Note.{noteLength, noteWith};
-ghost use Rattle.whole_day.specs.Notes.{notesOf};
+ghost use Rattle.whole_day.specs.Notes.{notesOf, canBeNoted, notesAfter};
 ghost use Rattle.whole_day.specs.Rows.{row, freshPosts, settled, letterAt};
 use notes::NOTE_LENGTH;
 use notes::put_note;
@@ -23,6 +23,7 @@ use section::Settings;
 use section::Trains;
 use section::Verdict;
 use section::Walk;
+use settings_range::settings_right;
 use sites::Running;
 use sites::place_of;
 use table::judge_step;
@@ -122,12 +123,28 @@ fn note_from(c: Settings, fresh: [Posts; 2], steps: &[u8], count: usize, notes: 
     }
 }
 
-// Judges the steps of a day, offered one after another from fresh, and writes the note of each. Judging keeps the ranges, so they are not
-// tested again.
-pub fn note_day(c: Settings, steps: &[u8], count: usize, notes: &mut [u8])
-    requires { ⌜ settingsRight c ≡ true ⌝ }
-    requires { ⌜ (stepLength * count ≤ length (now steps)) × (noteLength * count ≤ length (now notes)) ⌝ }
-    ensures { λ _. ⌜ now (notes .exit) ≡ written (now (notes .entry)) 0 (notesOf c (now (steps .entry)) count) ⌝ }
+// Whether a day can be noted: so many whole steps are there, so much room is enough for their notes, and the settings are in their ranges.
+pub fn can_be_noted(c: Settings, steps: &[u8], count: usize, room: usize) -> bool
+    ensures { λ r. ⌜ r ≡ canBeNoted c (now (steps .entry)) count room ⌝ }
 {
-    note_from(c, fresh_posts(c), steps, count, notes);
+    if steps.len() / STEP_LENGTH < count {
+        return false;
+    }
+    if room / NOTE_LENGTH < count {
+        return false;
+    }
+    settings_right(c)
+}
+
+// Judges the steps of a day, offered one after another from fresh, and writes the note of each; answers whether the day could be noted.
+// Judging keeps the ranges, so they are not tested again.
+pub fn note_day(c: Settings, steps: &[u8], count: usize, notes: &mut [u8]) -> bool
+    ensures { λ r. ⌜ r ≡ canBeNoted c (now (steps .entry)) count (length (now (notes .entry))) ⌝ }
+    ensures { λ _. ⌜ now (notes .exit) ≡ notesAfter c (now (steps .entry)) count (now (notes .entry)) ⌝ }
+{
+    let noted = can_be_noted(c, steps, count, notes.len());
+    if noted {
+        note_from(c, fresh_posts(c), steps, count, notes);
+    }
+    noted
 }

@@ -1,25 +1,26 @@
--- Bytes: the front of the buffer is the text, so `same` compares the text. TooShort: the text is longer than the stored bytes.
-use Prim.Native.Nat.{ℕ, _+_}
-use mathlib.Core.Path.{_≡_, sym, _∙_, ap}
-use mathlib.Core.Bool.{true, false}
+-- Bytes: the front of the buffer is the text, so `same` compares the text. TooShort: never, for the buffer has room for every sheet.
+use Prim.Native.Nat.{ℕ}
+use mathlib.Core.Path.{sym, _∙_, ap}
 use native.Mathlib.Omega.{arith}
 use lib.ListN.{length, length-replicate}
+use denote.Ref.{now}
 use Rattle.layout.specs.Layout.{mostSteps}
 use Rattle.sheets.specs.declared.Sheet.the-variants.{OfPosts}
 use Rattle.sheets.specs.Sheet.{room}
 use Rattle.text.proofs.HandedOver.{within, longer, part}
+use Rattle.agreement.proofs.Printed.{made-printed, fits-the-panels-room}
 use borrow.Author.Needs.{needs}
 use Rattle.agreement.proofs.agrees.Statement.{statement}
 use Rattle.agreement.proofs.agrees.Tie as tie
 
-sheet-room-requires : tie.Need-sheet-room-requires
-sheet-room-requires c κs = search needs
+panel-room-requires : tie.Need-panel-room-requires
+panel-room-requires c κs = search needs
 
-slice-aggregate-make : tie.Need-slice-aggregate-make
-slice-aggregate-make c = search needs
+slice-aggregate-print : tie.Need-slice-aggregate-print
+slice-aggregate-print c = search needs
 
-make-requires : tie.Need-make-requires
-make-requires c κs = search needs
+print-requires : tie.Need-print-requires
+print-requires c κs = search needs
 
 enum-known-handed : tie.Need-enum-known-handed
 enum-known-handed c = search needs
@@ -32,8 +33,8 @@ part-same-start c = search needs
 
 part-same-end : tie.Need-part-same-end
 part-same-end c =
-    let m = c .before .before .before .before .before .make in
-    within _ _ _ (m .ensures .0) _ _ (c .before .before .handed .given .1) (m .ensures .1)
+    let p = c .before .before .before .before .before .print in
+    within _ _ _ (p .ensures .0) _ _ (c .before .before .handed .given .1) (p .ensures .1)
 
 same-requires : tie.Need-same-requires
 same-requires c κs = search needs
@@ -43,24 +44,29 @@ enum-told c = search needs
 
 returns : tie.Need-returns
 returns c =
-    let m = c .before .before .before .before .before .before .before .make in
-    let p = part _ _ _ (m .ensures .0) _ _ (c .before .before .before .before .handed .given .1) (m .ensures .1) in
-    ((λ t. sym p ∙ c .same .ensures .0 t), (λ e. c .same .ensures .1 (p ∙ e)))
+    let at-print = c .before .before .before .before .before .before .before in
+    let a = at-print .before .before .before .before .before .args in
+    let p = at-print .print in
+    let text = part _ _ _ (p .ensures .0) _ _ (c .before .before .before .before .handed .given .1) (p .ensures .1) in
+    let front = made-printed (a .sheet) (now (a .file)) ∙ sym text in
+    ((λ t. front ∙ c .same .ensures .0 t), (λ e. c .same .ensures .1 (sym front ∙ e)))
 
 returns-2 : tie.Need-returns-2
 returns-2 c =
-    let at-make = c .before .before .before in
-    let room = ap length (at-make .before .before .sheet-room .ensures) ∙ length-replicate {A = ℕ} (room OfPosts mostSteps + 1) 0 in
-    let l = longer _ _ _ (at-make .make .ensures .0) (c .enum-told .given .1) in
-    ((λ (t : false ≡ true). let z : _≡_ {A = ℕ} 0 1 = cc in absurd (omega arith)), (λ e. let h = ap length e in absurd (omega (arith, room))))
+    let at-print = c .before .before .before in
+    let at-room = at-print .before .before in
+    let a = at-room .before .before .before .args in
+    let room-is = ap length (at-room .panel-room .ensures) ∙ length-replicate {A = ℕ} (room OfPosts mostSteps) 0 in
+    let l = longer _ _ _ (at-print .print .ensures .0) (c .enum-told .given .1) in
+    absurd (omega (arith, l, room-is, fits-the-panels-room (a .sheet) (now (a .file))))
 
 pub agrees-spec : {M : Type 1} → statement M
 agrees-spec =
     tie.close
     (tie.spec
-    sheet-room-requires
-    slice-aggregate-make
-    make-requires
+    panel-room-requires
+    slice-aggregate-print
+    print-requires
     enum-known-handed
     sub-same
     part-same-start

@@ -1,48 +1,65 @@
-use native.Mathlib.Omega.{arith}
+-- By whether the day can be noted.
 use borrow.Author.Needs.{needs}
 use denote.Ref.{now}
-use mathlib.Core.Path.{sym, _∙_}
-use Rattle.capi_day.proofs.Answers.{room-for-notes, noted, refused}
+use Rattle.section.proofs.Told.{told-false, told-true}
+use Rattle.whole_day.proofs.Laws.{day-fits, notes-written, notes-untouched}
+use Rattle.capi_day.specs.Day.{stepsOffered, dayAnswer}
 use Rattle.capi_singly.proofs.bsr_day_singly.Statement.{statement}
 use Rattle.capi_singly.proofs.bsr_day_singly.Tie as tie
 
 settings-given-requires : tie.Need-settings-given-requires
 settings-given-requires c κs = search needs
 
-day-answer-requires : tie.Need-day-answer-requires
-day-answer-requires c κs = search needs
+can-be-noted-requires : tie.Need-can-be-noted-requires
+can-be-noted-requires c κs = search needs
+
+day-refusal-requires : tie.Need-day-refusal-requires
+day-refusal-requires c κs = search needs
+
+returns : tie.Need-returns
+unfolding dayAnswer
+returns c =
+    let then = c .before in
+    let asked = then .before in
+    let given = asked .before .settings-given in
+    let a = asked .before .before .before .before .args in
+    let not-so = told-false (asked .can-be-noted .ensures) (then .if1 .taken) in
+    rw (← given .ensures) (
+      rw not-so (c .day-refusal .ensures),
+      rw (notes-untouched (given .result) (now (a .steps)) (stepsOffered (now (a .steps))) (now (a .buffer)) not-so),
+    )
 
 note-singly-requires : tie.Need-note-singly-requires
 note-singly-requires c κs =
-    let then = c .before in
-    let answer = then .before in
-    let a = answer .before .before .before .before .args in
-    let told = sym (answer .day-answer .ensures) ∙ then .if1 .taken in
-    (omega arith, room-for-notes (answer .before .settings-given .result) (now (a .steps)) (now (a .buffer)) told)
+    let else = c .before in
+    let fits = day-fits _ _ _ _ (told-true (else .before .can-be-noted .ensures) (else .if1 .left)) in
+    (fits .steps-there, fits .notes-fit)
 
 same-length : tie.Need-same-length
 same-length c = search needs
 
-returns : tie.Need-returns
-returns c =
-    let day = c .before .before in
-    let then = day .before .before in
-    let answer = then .before in
-    let a = answer .before .before .before .before .args in
-    rw (← answer .before .settings-given .ensures) (
-      answer .day-answer .ensures,
-      noted (answer .before .settings-given .result) (now (a .steps)) (now (a .buffer)) (sym (answer .day-answer .ensures) ∙ then .if1 .taken)
-          (day .note-singly .ensures),
-    )
-
 returns-2 : tie.Need-returns-2
+unfolding dayAnswer
 returns-2 c =
-    let answer = c .before in
-    let a = answer .before .before .before .before .args in
-    rw (← answer .before .settings-given .ensures) (
-      answer .day-answer .ensures,
-      refused (answer .before .settings-given .result) (now (a .steps)) (now (a .buffer)) (λ e. c .if1 .left (answer .day-answer .ensures ∙ e)),
+    let walked = c .before .before in
+    let else = walked .before .before in
+    let asked = else .before in
+    let given = asked .before .settings-given in
+    let a = asked .before .before .before .before .args in
+    let so = told-true (asked .can-be-noted .ensures) (else .if1 .left) in
+    rw (← given .ensures) (
+      rw so,
+      rw (notes-written (given .result) (now (a .steps)) (stepsOffered (now (a .steps))) (now (a .buffer)) so) (walked .note-singly .ensures),
     )
 
 pub bsr-day-singly-spec : {M : Type 1} → statement M
-bsr-day-singly-spec = tie.close (tie.spec settings-given-requires day-answer-requires note-singly-requires same-length returns returns-2)
+bsr-day-singly-spec =
+    tie.close
+    (tie.spec
+    settings-given-requires
+    can-be-noted-requires
+    day-refusal-requires
+    returns
+    note-singly-requires
+    same-length
+    returns-2)

@@ -1,86 +1,91 @@
--- By cases of what the reader answers. A day that is read has right settings, whole steps and at most 4,096 of them.
+-- Either the sheet is put into the buffer itself, or into room of its own whose front is handed over. The sheet fits that room, since the room
+-- keeps its length.
 use borrow.Author.Needs.{needs}
+use Prim.Native.Nat.{ℕ}
+use mathlib.Core.Path.{_∙_, ap}
 use native.Mathlib.Omega.{arith}
-use mathlib.Core.Path.{_∙_, sym, ap}
-use native.Mathlib.Nat.{zero-add}
+use lib.ListN.{length, length-replicate}
 use denote.Ref.{now}
-use Rattle.dayfile.specs.declared.ReadAnswer.{ReadAnswer}
-use Rattle.sheets.specs.Sheet.{room}
-use Rattle.sheets.proofs.Days.{fewer-fit, few-steps-read, steps-whole, settings-read-right, printed-refused, printed-day, same-text}
+use Rattle.sheets.specs.Printed.{printed}
+use Rattle.layout.specs.Layout.{mostSteps}
+use Rattle.sheets.specs.declared.Sheet.the-variants.{OfPosts}
+use Rattle.sheets.specs.Sheet.{lineOn, room}
+use Rattle.sheets.proofs.Front.{front-fits, front-taken, put-at-once}
+use Rattle.sheets.proofs.Days.{most-room}
 use Rattle.sheets.proofs.print.Statement.{statement}
 use Rattle.sheets.proofs.print.Tie as tie
 
-read-requires : tie.Need-read-requires
-read-requires c κs = search needs
+room-for-requires : tie.Need-room-for-requires
+room-for-requires c κs = search needs
 
-enum-known-reading : tie.Need-enum-known-reading
-enum-known-reading c = search needs
-
-put-refused-requires : tie.Need-put-refused-requires
-unfolding room
-put-refused-requires c κs = omega arith
-
-enum-known-reading-2 : tie.Need-enum-known-reading-2
-enum-known-reading-2 c = search needs
-
-steps-requires : tie.Need-steps-requires
-steps-requires c κs = search needs
-
-put-day-requires : tie.Need-put-day-requires
-put-day-requires c κs =
-    let at-reading2 = c .before .before .before in
-    let at-read = at-reading2 .before .before in
-    let entry = at-read .before .before .before in
-    let a = entry .args in
-    let read = at-read .read in
-    let e = ap (λ (x : ReadAnswer). x .reading) (sym (read .ensures)) ∙ at-reading2 .reading2 .given .1 in
-    let file = now (a .file) in (
-      (omega (arith, fewer-fit (a .sheet) _ (few-steps-read file _ e)), few-steps-read file _ e),
-      (rw (c .steps .ensures) (steps-whole file _ e), rw (read .ensures) (settings-read-right file _ e)),
-    )
+put-sheet-requires : tie.Need-put-sheet-requires
+put-sheet-requires c κs = search needs
 
 same-length : tie.Need-same-length
 same-length c = search needs
 
 returns : tie.Need-returns
 returns c =
-    let at-put-refused = c .before .before in
-    let at-reading = at-put-refused .before .before .before in
-    let at-read = at-reading .before .before in
-    let entry = at-read .before .before .before in
+    let a = c .before .before .before .before .before .before .before .before .args in
+    let p = c .before .before .put-sheet in
+    put-at-once (now (a .buffer)) _ (printed (lineOn (a .sheet)) (now (a .file))) (p .result) (p .ensures) (p .kept .1 .1 .0)
+
+panel-room-requires : tie.Need-panel-room-requires
+panel-room-requires c κs = search needs
+
+slice-aggregate-put-sheet : tie.Need-slice-aggregate-put-sheet
+slice-aggregate-put-sheet c = search needs
+
+put-sheet-requires-2 : tie.Need-put-sheet-requires-2
+put-sheet-requires-2 c κs =
+    let room-is = ap length (c .before .panel-room .ensures) ∙ length-replicate {A = ℕ} (room OfPosts mostSteps) 0 in
+    omega (arith, room-is, most-room (c .before .before .before .before .before .before .args .sheet))
+
+sub-hand-over : tie.Need-sub-hand-over
+sub-hand-over c = search needs
+
+part-hand-over-start : tie.Need-part-hand-over-start
+part-hand-over-start c = search needs
+
+part-hand-over-end : tie.Need-part-hand-over-end
+part-hand-over-end c =
+    let at-put-sheet2 = c .before .before in
+    let at-panel-room = at-put-sheet2 .before .before in
+    let entry = at-panel-room .before .before .before .before .before in
     let a = entry .args in
-    let put = at-put-refused .put-refused in
-    let e = ap (λ (x : ReadAnswer). x .reading) (sym (at-read .read .ensures)) ∙ at-reading .reading .given .1 in
-    same-text (now (a .buffer)) _ _ _ _ (printed-refused (a .sheet) (now (a .file)) _ _ e) (put .ensures .0 ∙ zero-add _, put .ensures .1)
+    let p = at-put-sheet2 .put-sheet2 in
+    front-fits (at-panel-room .panel-room .result) _ (printed (lineOn (a .sheet)) (now (a .file))) _ (p .ensures) (p .kept .1 .1 .0)
+
+hand-over-requires : tie.Need-hand-over-requires
+hand-over-requires c κs = search needs
 
 same-length-2 : tie.Need-same-length-2
 same-length-2 c = search needs
 
 returns-2 : tie.Need-returns-2
 returns-2 c =
-    let at-put-day = c .before .before in
-    let at-steps = at-put-day .before in
-    let at-reading2 = at-steps .before .before .before in
-    let at-read = at-reading2 .before .before in
-    let entry = at-read .before .before .before in
+    let at-hand-over = c .before .before in
+    let at-put-sheet2 = at-hand-over .before .before .before .before .before in
+    let at-panel-room = at-put-sheet2 .before .before in
+    let entry = at-panel-room .before .before .before .before .before in
     let a = entry .args in
-    let read = at-read .read in
-    let e = ap (λ (x : ReadAnswer). x .reading) (sym (read .ensures)) ∙ at-reading2 .reading2 .given .1 in
-    same-text (now (a .buffer)) _ _ _ _
-    (printed-day (a .sheet) (now (a .file)) _ _ _ e (ap (λ (x : ReadAnswer). x .settings) (read .ensures)) (at-steps .steps .ensures))
-    (at-put-day .put-day .ensures)
+    rw (front-taken (at-panel-room .panel-room .result) _ (printed (lineOn (a .sheet)) (now (a .file))) _ (at-put-sheet2 .put-sheet2 .ensures))
+    at (at-hand-over .hand-over .ensures)
 
 pub print-spec : {M : Type 1} → statement M
 print-spec =
     tie.close
     (tie.spec
-    read-requires
-    enum-known-reading
-    put-refused-requires
-    enum-known-reading-2
-    steps-requires
-    put-day-requires
+    room-for-requires
+    put-sheet-requires
     same-length
     returns
+    panel-room-requires
+    slice-aggregate-put-sheet
+    put-sheet-requires-2
+    sub-hand-over
+    part-hand-over-start
+    part-hand-over-end
+    hand-over-requires
     same-length-2
     returns-2)

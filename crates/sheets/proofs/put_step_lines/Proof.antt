@@ -1,7 +1,9 @@
--- The notes of all steps fit their room, and the lines from the notes are those of the answers.
+-- The notes of all steps fit their room, so the day is noted, and the lines from the notes are those of the answers.
 use borrow.Author.Needs.{needs}
 use native.Mathlib.Omega.{arith}
 use denote.Ref.{now}
+use lib.ListN.{length}
+use Rattle.whole_day.proofs.Laws.{DayFits, can-be-noted, notes-written}
 use Rattle.sheets.proofs.Days.{lines-noted}
 use Rattle.sheets.proofs.put_step_lines.Statement.{statement}
 use Rattle.sheets.proofs.put_step_lines.Tie as tie
@@ -13,10 +15,7 @@ slice-aggregate-note-day : tie.Need-slice-aggregate-note-day
 slice-aggregate-note-day c = search needs
 
 note-day-requires : tie.Need-note-day-requires
-note-day-requires c κs =
-    let room = c .before in
-    let entry = room .before .before .before in
-    (entry .pre .1 .1, (omega (arith, entry .pre .1 .0), omega (arith, room .room-for-notes .ensures, entry .pre .0 .1)))
+note-day-requires c κs = search needs
 
 slice-aggregate-put-noted-lines : tie.Need-slice-aggregate-put-noted-lines
 slice-aggregate-put-noted-lines c = search needs
@@ -35,8 +34,18 @@ returns : tie.Need-returns
 returns c =
     let put = c .before .before in
     let noted = put .before .before .before .before in
-    let a = noted .before .before .before .before .before .args in
-    rw (noted .note-day .ensures, lines-noted (a .c) (now (a .steps)) _ (a .count)) at (put .put-noted-lines .ensures)
+    let room = noted .before .before in
+    let entry = room .before .before .before in
+    let a = entry .args in
+    let fits : DayFits (a .c) (now (a .steps)) (a .count) (length (room .room-for-notes .result)) =
+    record {
+      settings-well = entry .pre .1 .1;
+      steps-there = entry .pre .1 .0;
+      notes-fit = omega (arith, room .room-for-notes .ensures, entry .pre .0 .1);
+    } in
+    let so = can-be-noted (a .c) (now (a .steps)) (a .count) _ fits in
+    rw (noted .note-day .ensures .1, notes-written (a .c) (now (a .steps)) (a .count) _ so, lines-noted (a .c) (now (a .steps)) _ (a .count))
+    at (put .put-noted-lines .ensures)
 
 pub put-step-lines-spec : {M : Type 1} → statement M
 put-step-lines-spec =

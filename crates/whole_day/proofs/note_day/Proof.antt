@@ -1,6 +1,13 @@
+-- By whether the day can be noted: then it has what the walk requires.
 use borrow.Author.Needs.{needs}
+use denote.Ref.{now}
+use Rattle.section.proofs.Told.{told}
+use Rattle.whole_day.proofs.Laws.{day-fits, notes-written, notes-untouched}
 use Rattle.whole_day.proofs.note_day.Statement.{statement}
 use Rattle.whole_day.proofs.note_day.Tie as tie
+
+can-be-noted-requires : tie.Need-can-be-noted-requires
+can-be-noted-requires c κs = search needs
 
 fresh-posts-requires : tie.Need-fresh-posts-requires
 fresh-posts-requires c κs = search needs
@@ -8,14 +15,36 @@ fresh-posts-requires c κs = search needs
 note-from-requires : tie.Need-note-from-requires
 note-from-requires c κs =
     let fresh = c .before in
-    let entry = fresh .before .before .before in
-    ((entry .pre .0, fresh .fresh-posts .ensures), entry .pre .1)
+    let then = fresh .before in
+    let fits = day-fits _ _ _ _ (told (then .before .can-be-noted .ensures) (then .if1 .taken)) in
+    ((fits .settings-well, fresh .fresh-posts .ensures), (fits .steps-there, fits .notes-fit))
 
 same-length : tie.Need-same-length
 same-length c = search needs
 
 returns : tie.Need-returns
-returns c = c .before .before .note-from .ensures
+returns c =
+    let walked = c .before .before in
+    let then = walked .before .before .before in
+    let asked = then .before in
+    let a = asked .before .before .before .args in
+    let so = told (asked .can-be-noted .ensures) (then .if1 .taken) in
+    (asked .can-be-noted .ensures, rw (notes-written (a .c) (now (a .steps)) (a .count) (now (a .notes)) so) (walked .note-from .ensures))
+
+returns-2 : tie.Need-returns-2
+returns-2 c =
+    let asked = c .before in
+    let a = asked .before .before .before .args in
+    let not-so = told (asked .can-be-noted .ensures) (c .if1 .left) in
+    (asked .can-be-noted .ensures, rw (notes-untouched (a .c) (now (a .steps)) (a .count) (now (a .notes)) not-so))
 
 pub note-day-spec : {M : Type 1} → statement M
-note-day-spec = tie.close (tie.spec fresh-posts-requires note-from-requires same-length returns)
+note-day-spec =
+    tie.close
+    (tie.spec
+    can-be-noted-requires
+    fresh-posts-requires
+    note-from-requires
+    same-length
+    returns
+    returns-2)

@@ -1,7 +1,7 @@
 use borrow.Author.Needs.{needs}
 use Rattle.sheets.specs.Sheet.{lineRoom, room}
-use Rattle.listing.proofs.room_for.Statement.{statement}
-use Rattle.listing.proofs.room_for.Tie as tie
+use Rattle.sheets.proofs.room_for.Statement.{statement}
+use Rattle.sheets.proofs.room_for.Tie as tie
 
 enum-told : tie.Need-enum-told
 enum-told c = search needs
