@@ -20,5 +20,7 @@ pub mod UnderWay
 pub mod Perform
 pub mod Sort
 pub mod Starts
+pub mod CellsKept
+pub mod CellsNotTested
 pub mod VoieOccupee
 pub mod Theorem
