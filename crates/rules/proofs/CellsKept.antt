@@ -47,16 +47,16 @@ module _ (c : Settings) where
   trains-past : (m : Movement) (e : Site) (l : List ℕ) → StoresInside m e → (i : ℕ) → c .posts ≤ suc i → getD (trainsAfter c m e l) i 0 ≡ getD l i 0
   unfolding trainsAfter
   trains-past Stays e l h i k = refl
-  trains-past (Enters z) e l h i k = store-past l (blockAhead c e) z i h k
+  trains-past (Enters z) e l h i k = store-past l _ _ i h k
   trains-past (Moves z) e l h i k =
       store-past (set l (blockBefore c e) 0) (blockAhead c e) z i (h .1) k ∙ store-past l (blockBefore c e) 0 i (h .0) k
-  trains-past Leaves e l h i k = store-past l (blockBefore c e) 0 i h k
+  trains-past Leaves e l h i k = store-past l _ _ i h k
 
   last-past : (m : Movement) (e : Site) (l : List ℕ) → StoresInside m e → (i : ℕ) → c .posts ≤ suc i → getD (lastAfter c m e l) i 0 ≡ getD l i 0
   unfolding lastAfter
   last-past Stays e l h i k = refl
-  last-past (Enters z) e l h i k = store-past l (blockAhead c e) z i h k
-  last-past (Moves z) e l h i k = store-past l (blockAhead c e) z i (h .1) k
+  last-past (Enters z) e l h i k = store-past l _ _ i h k
+  last-past (Moves z) e l h i k = store-past l _ _ i (h .1) k
   last-past Leaves e l h i k = refl
 
   -- ## An accepted step
@@ -84,7 +84,7 @@ module _ (c : Settings) where
     moved-past : (k : View) → Passes c v b p k t → SamePast (c .posts) (moved c v b p k t) t
     unfolding trackAfter
     moved-past k h = record {
-      posts = λ q n≤q. getD-set-other (t .posts) p q (effect c (flat p k) e .own) blank (omega (arith, h .fits .below));
+      posts = λ q n≤q. getD-set-other (t .posts) _ q _ blank (omega (arith, h .fits .below));
       trains = trains-past (effect c (flat p k) e .train) e (t .trains) (stores-inside k h);
       last = last-past (effect c (flat p k) e .train) e (t .last) (stores-inside k h);
     }

@@ -32,7 +32,7 @@ use Rattle.rules.specs.declared.Site.{Site}
 use Rattle.rules.specs.declared.Movement.{Movement}
 use Rattle.rules.specs.declared.Movement.the-variants.{Stays, Enters, Moves, Leaves}
 use Rattle.rules.specs.Site.{siteOn, settledVns, otherSettledOnVns, stretchHolds, anyTrain, hasNumber, upAt, rankAt, atSendingEnd}
-use Rattle.rules.specs.Site.{atReceivingEnd, blockAhead, blockBefore, stretchEnds, trainAt, watchedOccupied, trainBefore, lastEntered, occupancyAt}
+use Rattle.rules.specs.Site.{atReceivingEnd, blockAhead, blockBefore, stretchEnds, trainAt, watchedOccupied, trainBefore, lastEntered, Occupancy, occupancyAt}
 use Rattle.rules.specs.Table.{effect, trainsAfter, lastAfter, trackAfter}
 use Rattle.rules.specs.Judge.{answerOf, siteOf, occupancyOf, verdictOn, sectionAfter, judgeStep, judgeDecoded, judgeInRange, judge}
 use Rattle.rules.specs.Indications.{lampsAt, shown, indicationsOn, indications, dark}
@@ -42,16 +42,13 @@ use Rattle.rules.proofs.Frame.{trains-length, last-length}
 
 -- ## Tests over cells
 
--- the same in every block section that a section of n posts has
-abbrev AlikeBelow : ℕ → List ℕ → List ℕ → Type 0
-AlikeBelow n l k = (i : ℕ) → suc i < n → getD l i 0 ≡ getD k i 0
-
--- these are the first n−1 cells
+-- the same in the first m cells
 abbrev AlikeFirst : ℕ → List ℕ → List ℕ → Type 0
 AlikeFirst m l k = (i : ℕ) → i < m → getD l i 0 ≡ getD k i 0
 
-first-alike : (n : ℕ) (l k : List ℕ) → AlikeBelow n l k → AlikeFirst (n - 1) l k
-first-alike n l k same i h = same i (omega arith)
+-- the same in every block section that a section of n posts has
+abbrev AlikeBelow : ℕ → List ℕ → List ℕ → Type 0
+AlikeBelow n l k = (i : ℕ) → suc i < n → getD l i 0 ≡ getD k i 0
 
 seals-alike : (m : ℕ) (l k : List Post) → ((p : ℕ) → p < m → getD l p blank ≡ getD k p blank) → sealsFit m l ≡ sealsFit m k
 unfolding sealsFit
@@ -65,25 +62,29 @@ any-alike : (m : ℕ) (l k : List ℕ) → AlikeFirst m l k → anyTrain m l ≡
 unfolding anyTrain
 any-alike = first-cells anyTrain 0 (λ z rest. not (eqb z 0) || rest) (λ l k. refl) (λ m l. refl)
 
-known-alike : (number m : ℕ) (l k : List ℕ) → AlikeFirst m l k → hasNumber m number l ≡ hasNumber m number k
+has-alike : (number m : ℕ) (l k : List ℕ) → AlikeFirst m l k → hasNumber m number l ≡ hasNumber m number k
 unfolding hasNumber
-known-alike number = first-cells (λ m l. hasNumber m number l) 0 (λ z rest. eqb z number || rest) (λ l k. refl) (λ m l. refl)
+has-alike number = first-cells (λ m l. hasNumber m number l) 0 (λ z rest. eqb z number || rest) (λ l k. refl) (λ m l. refl)
 
-stretch-alike : (ends : ℕ → Bool) (f g : ℕ → ℕ) (m j : ℕ) → ((i : ℕ) → i < j + m → f i ≡ g i) → stretchHolds ends f m j ≡ stretchHolds ends g m j
+holds-alike : (ends : ℕ → Bool) (f g : ℕ → ℕ) (m j : ℕ) → ((i : ℕ) → i < j + m → f i ≡ g i) → stretchHolds ends f m j ≡ stretchHolds ends g m j
 unfolding stretchHolds
-stretch-alike ends f g zero j h = refl
-stretch-alike ends f g (suc m) j h = rw (h j (omega arith), stretch-alike ends f g m (suc j) (λ i k. h i (omega arith))) refl
+holds-alike ends f g zero j h = refl
+holds-alike ends f g (suc m) j h = rw (h j (omega arith), holds-alike ends f g m (suc j) (λ i k. h i (omega arith))) refl
 
--- where the test holds, the other value is not looked at
-unless : (test : Bool) (x y z : ℕ) → (test ≡ false → y ≡ z) → cond test x y ≡ cond test x z
-unless true x y z h = refl
-unless false x y z h = h refl
+-- a value that is looked at only where the test says so
+where-true : {A : Type 0} (x y : Bool) (a b d : A) → (x ≡ true → a ≡ b) → x ≡ y → cond x a d ≡ cond y b d
+where-true true y a b d h e = rw (← e) (h refl)
+where-true false y a b d h e = rw (← e) refl
+
+where-false : {A : Type 0} (x : Bool) (d a b : A) → (x ≡ false → a ≡ b) → cond x d a ≡ cond x d b
+where-false true d a b h = refl
+where-false false d a b h = h refl
 
 -- ## What a post sees
 
 module _ (c : Settings) (e : Site) (below : e .post < c .posts) (l k : List ℕ) (same : AlikeBelow (c .posts) l k) where
   ahead-alike : atReceivingEnd c e ≡ false → getD l (blockAhead c e) 0 ≡ getD k (blockAhead c e) 0
-  ahead-alike q = same (blockAhead c e) (ahead-lt (c .posts) (upAt c e) (e .post) below (false-T (atReceivingEnd c e) q))
+  ahead-alike q = same _ (ahead-lt (c .posts) (upAt c e) (e .post) below (false-T (atReceivingEnd c e) q))
 
   watched-alike : watchedOccupied c e l ≡ watchedOccupied c e k
   unfolding watchedOccupied
@@ -94,34 +95,49 @@ module _ (c : Settings) (e : Site) (below : e .post < c .posts) (l k : List ℕ)
       go true q = refl
       go false q = rw (ahead-alike q) refl
 
-  lamps-seen : lampsAt c e l ≡ lampsAt c e k
+  occupied-alike : lampsAt c e l .occupied ≡ lampsAt c e k .occupied
   unfolding lampsAt
-  lamps-seen = rw watched-alike refl
+  occupied-alike = watched-alike
+
+  lamps-alike : lampsAt c e l ≡ lampsAt c e k
+  unfolding lampsAt
+  lamps-alike = rw occupied-alike refl
 
   before-alike : trainBefore c e l ≡ trainBefore c e k
   unfolding trainBefore
-  before-alike =
-      unless (atSendingEnd c e) 0 _ _ (λ q. same (blockBefore c e) (before-lt (c .posts) (upAt c e) (e .post) below (false-T (atSendingEnd c e) q)))
+  before-alike = where-false (atSendingEnd c e) 0 _ _ (λ q. same _ (before-lt (c .posts) (upAt c e) (e .post) below (false-T (atSendingEnd c e) q)))
 
   entered-alike : lastEntered c e l ≡ lastEntered c e k
   unfolding lastEntered
-  entered-alike = unless (atReceivingEnd c e) 0 _ _ ahead-alike
+  entered-alike = where-false (atReceivingEnd c e) 0 _ _ ahead-alike
 
-  from-alike : stretchHolds (stretchEnds c (e .track) (e .cvt)) (trainAt c (e .track) (e .cvt) l) (c .posts - suc (rankAt c e)) (rankAt c e)
-      ≡ stretchHolds (stretchEnds c (e .track) (e .cvt)) (trainAt c (e .track) (e .cvt) k) (c .posts - suc (rankAt c e)) (rankAt c e)
-  from-alike =
-      stretch-alike (stretchEnds c (e .track) (e .cvt)) (trainAt c (e .track) (e .cvt) l) (trainAt c (e .track) (e .cvt) k)
-      (c .posts - suc (rankAt c e)) (rankAt c e)
-      (λ i h. same (block (c .posts) (upAt c e) i)
-      (block-lt (c .posts) (upAt c e) i (omega (arith, rank-lt (c .posts) (upAt c e) (e .post) below))))
+module _ (c : Settings) (e : Site) (below : e .post < c .posts) (number : ℕ) (trains trains′ last last′ : List ℕ)
+    (same : AlikeBelow (c .posts) trains trains′) (same-last : AlikeBelow (c .posts) last last′) where
+  abbrev one : Occupancy
+  one = occupancyAt c e number trains last
 
-occupancy-alike : (c : Settings) (e : Site) (number : ℕ) (l k last last′ : List ℕ) → e .post < c .posts
-    → AlikeBelow (c .posts) l k → AlikeBelow (c .posts) last last′ → occupancyAt c e number l last ≡ occupancyAt c e number k last′
-unfolding occupancyAt
-occupancy-alike c e number l k last last′ below trains lasts =
-    rw (watched-alike c e below l k trains, before-alike c e below l k trains, entered-alike c e below last last′ lasts)
-    (rw (any-alike (c .posts - 1) l k (first-alike (c .posts) l k trains), from-alike c e below l k trains)
-    (rw (known-alike number (c .posts - 1) l k (first-alike (c .posts) l k trains)) refl))
+  abbrev other : Occupancy
+  other = occupancyAt c e number trains′ last′
+
+  anywhere-alike : one .anywhere ≡ other .anywhere
+  unfolding occupancyAt
+  anywhere-alike = any-alike _ trains trains′ (λ i h. same i (omega arith))
+
+  known-alike : one .known ≡ other .known
+  unfolding occupancyAt
+  known-alike = has-alike number _ trains trains′ (λ i h. same i (omega arith))
+
+  stretch-alike : one .stretch ≡ other .stretch
+  unfolding occupancyAt
+  stretch-alike =
+      holds-alike (stretchEnds c (e .track) (e .cvt)) (trainAt c (e .track) (e .cvt) trains) (trainAt c (e .track) (e .cvt) trains′) _ _
+      (λ i h. same _ (block-lt (c .posts) (upAt c e) i (omega (arith, rank-lt (c .posts) (upAt c e) (e .post) below))))
+
+  occupancy-alike : one ≡ other
+  unfolding occupancyAt
+  occupancy-alike =
+      rw (watched-alike c e below trains trains′ same, before-alike c e below trains trains′ same, entered-alike c e below last last′ same-last)
+      (rw (anywhere-alike, stretch-alike, known-alike) refl)
 
 -- ## The ranges
 
@@ -130,8 +146,8 @@ unfolding trackFits
 track-alike n b t u a =
     rw (
       seals-alike n (t .posts) (u .posts) (a .cells .posts),
-      numbers-alike (n - 1) (t .trains) (u .trains) (first-alike n (t .trains) (u .trains) (a .cells .trains)),
-      numbers-alike (n - 1) (t .last) (u .last) (first-alike n (t .last) (u .last) (a .cells .last)),
+      numbers-alike (n - 1) (t .trains) (u .trains) (λ i h. a .cells .trains i (omega arith)),
+      numbers-alike (n - 1) (t .last) (u .last) (λ i h. a .cells .last i (omega arith)),
       a .cvt,
       a .walk,
     ) refl
@@ -143,18 +159,18 @@ module _ (c : Settings) (e : Site) where
       → getD (trainsAfter c m e l) i 0 ≡ getD (trainsAfter c m e k) i 0
   unfolding trainsAfter
   trains-alike Stays l k q i h = h
-  trains-alike (Enters z) l k q i h = set-alike l k (blockAhead c e) i z 0 q h
+  trains-alike (Enters z) l k q i h = set-alike l k _ i _ 0 q h
   trains-alike (Moves z) l k q i h =
       set-alike (set l (blockBefore c e) 0) (set k (blockBefore c e) 0) (blockAhead c e) i z 0 (simp length-set q)
       (set-alike l k (blockBefore c e) i 0 0 q h)
-  trains-alike Leaves l k q i h = set-alike l k (blockBefore c e) i 0 0 q h
+  trains-alike Leaves l k q i h = set-alike l k _ i _ 0 q h
 
   last-alike : (m : Movement) (l k : List ℕ) → length l ≡ length k → (i : ℕ) → getD l i 0 ≡ getD k i 0
       → getD (lastAfter c m e l) i 0 ≡ getD (lastAfter c m e k) i 0
   unfolding lastAfter
   last-alike Stays l k q i h = h
-  last-alike (Enters z) l k q i h = set-alike l k (blockAhead c e) i z 0 q h
-  last-alike (Moves z) l k q i h = set-alike l k (blockAhead c e) i z 0 q h
+  last-alike (Enters z) l k q i h = set-alike l k _ i _ 0 q h
+  last-alike (Moves z) l k q i h = set-alike l k _ i _ 0 q h
   last-alike Leaves l k q i h = h
 
   after-alike : (x : Step) (t u : Track) → SameBelow (c .posts) t u → SameBelow (c .posts) (trackAfter c x e t) (trackAfter c x e u)
@@ -163,7 +179,7 @@ module _ (c : Settings) (e : Site) where
     cvt = refl;
     walk = refl;
     cells = record {
-      posts = λ p h. set-alike (t .posts) (u .posts) (e .post) p (effect c x e .own) blank (a .sizes .posts) (a .cells .posts p h);
+      posts = λ p h. set-alike (t .posts) (u .posts) _ p _ blank (a .sizes .posts) (a .cells .posts p h);
       trains = λ i h. trains-alike (effect c x e .train) (t .trains) (u .trains) (a .sizes .trains) i (a .cells .trains i h);
       last = λ i h. last-alike (effect c x e .train) (t .last) (u .last) (a .sizes .last) i (a .cells .last i h);
     };
@@ -190,9 +206,14 @@ module _ (s u : Section) (a : AgreeBelow s u) where
   vns-alike : (b : Bool) → otherSettledOnVns s b ≡ otherSettledOnVns u b
   vns-alike b = ap₂ settledVns (a .tracks (not b) .walk) (a .tracks (not b) .cvt)
 
-  site-alike : (b : Bool) (p : ℕ) → p < s .settings .posts
-      → siteOn (otherSettledOnVns s b) b p (trackOf s b) ≡ siteOn (otherSettledOnVns u b) b p (trackOf u b)
-  site-alike b p h = rw (vns-alike b, a .tracks b .cells .posts p h, a .tracks b .cvt, a .tracks b .walk) refl
+  abbrev siteIn : Section → Bool → ℕ → Site
+  siteIn w b p = siteOn (otherSettledOnVns w b) b p (trackOf w b)
+
+  own-alike : (b : Bool) (p : ℕ) → p < s .settings .posts → siteIn s b p .own ≡ siteIn u b p .own
+  own-alike b p h = a .tracks b .cells .posts _ h
+
+  site-alike : (b : Bool) (p : ℕ) → p < s .settings .posts → siteIn s b p ≡ siteIn u b p
+  site-alike b p h = rw (vns-alike b, own-alike b p h, a .tracks b .cvt, a .tracks b .walk) refl
 
   with-alike : (b : Bool) (t t′ : Track) → SameBelow (s .settings .posts) t t′ → AgreeBelow (withTrack s b t) (withTrack u b t′)
   with-alike true t t′ h = record {
@@ -210,20 +231,23 @@ module _ (s u : Section) (a : AgreeBelow s u) where
   answer-alike (Refused k) s₁ u₁ h = record { verdict = refl; section = a }
 
   module _ (x : TrackStep) (below : postOf (x .step) < s .settings .posts) where
-    seen-alike : occupancyOf s x ≡ occupancyOf u x
-    seen-alike =
-        occupancy-alike (s .settings) (siteOf s x) (numberOf (x .step)) (trackOf s (x .track) .trains) (trackOf u (x .track) .trains)
-        (trackOf s (x .track) .last) (trackOf u (x .track) .last) below (a .tracks (x .track) .cells .trains) (a .tracks (x .track) .cells .last)
-        ∙ rw (site-alike (x .track) (postOf (x .step)) below, a .settings) refl
+    sites : siteOf s x ≡ siteOf u x
+    sites = site-alike (x .track) (postOf (x .step)) below
+
+    occupancies : occupancyOf s x ≡ occupancyOf u x
+    occupancies =
+        occupancy-alike (s .settings) (siteOf s x) below (numberOf (x .step)) (trackOf s (x .track) .trains) (trackOf u (x .track) .trains)
+        (trackOf s (x .track) .last) (trackOf u (x .track) .last) (a .tracks (x .track) .cells .trains) (a .tracks (x .track) .cells .last)
+        ∙ rw (sites, a .settings) refl
 
     verdict-alike : verdictOn s x ≡ verdictOn u x
     unfolding verdictOn
-    verdict-alike = rw (seen-alike, site-alike (x .track) (postOf (x .step)) below, a .settings) refl
+    verdict-alike = rw (occupancies, sites, a .settings) refl
 
     track-after : SameBelow (s .settings .posts) (trackAfter (s .settings) (x .step) (siteOf s x) (trackOf s (x .track)))
         (trackAfter (u .settings) (x .step) (siteOf u x) (trackOf u (x .track)))
     track-after =
-        rw (← site-alike (x .track) (postOf (x .step)) below, ← a .settings)
+        rw (← sites, ← a .settings)
         (after-alike (s .settings) (siteOf s x) (x .step) (trackOf s (x .track)) (trackOf u (x .track)) (a .tracks (x .track)))
 
     section-after : AgreeBelow (sectionAfter s x) (sectionAfter u x)
@@ -256,30 +280,24 @@ module _ (s u : Section) (a : AgreeBelow s u) where
 
   -- ## What a post shows
 
-  lamps-alike : (b : Bool) (p : ℕ) → p < s .settings .posts → indicationsOn s b p ≡ indicationsOn u b p
+  on-track-alike : (b : Bool) (p : ℕ) → p < s .settings .posts → indicationsOn s b p ≡ indicationsOn u b p
   unfolding indicationsOn
-  lamps-alike b p h =
-      ap shown (lamps-seen (s .settings) (siteOn (otherSettledOnVns s b) b p (trackOf s b)) h (trackOf s b .trains) (trackOf u b .trains)
+  on-track-alike b p h =
+      ap shown (lamps-alike (s .settings) (siteIn s b p) h (trackOf s b .trains) (trackOf u b .trains)
       (a .tracks b .cells .trains) ∙ rw (site-alike b p h, a .settings) refl)
 
-  shows-alike : (track post : ℕ) → indications s track post ≡ indications u track post
+  indications-alike : (track post : ℕ) → indications s track post ≡ indications u track post
   unfolding indications
-  shows-alike track post = rw (← test) (go (asked s) refl)
-    where
-      asked : Section → Bool
-      asked w = inRange w && (ltb track 2 && ltb post (w .settings .posts))
-
-      test : asked s ≡ asked u
-      test = ap₂ (λ (r : Bool) (c : Settings). r && (ltb track 2 && ltb post (c .posts))) range-alike (a .settings)
-
-      go : (r : Bool) → asked s ≡ r → cond r (indicationsOn s (eqb track 1) post) dark ≡ cond r (indicationsOn u (eqb track 1) post) dark
-      go true q = lamps-alike (eqb track 1) post
-          (ltb-true post (s .settings .posts) (and-right (ltb track 2) (ltb post (s .settings .posts)) (and-right (inRange s) _ q)))
-      go false q = refl
+  indications-alike track post =
+      where-true _ _ _ _ dark
+      (λ q. on-track-alike (eqb track 1) post (ltb-true post (s .settings .posts) (and-right (ltb track 2) _ (and-right (inRange s) _ q))))
+      (ap₂ (λ (r : Bool) (c : Settings). r && (ltb track 2 && ltb post (c .posts))) range-alike (a .settings))
 
 pub cells-past-not-tested : CellsPastNotTested
 cells-past-not-tested s u a = record {
+  sites = sites s u a;
+  occupancies = occupancies s u a;
   verdicts = λ bytes. judge-alike s u a bytes .verdict;
   sections = λ bytes. judge-alike s u a bytes .section;
-  shows = shows-alike s u a;
+  shows = indications-alike s u a;
 }

@@ -139,15 +139,15 @@ module _ (c : Settings) (b : Bool) where
   trains-fit : (m : Movement) (e : Site) (l : List ℕ) → MovementFits m → AllFit l → AllFit (trainsAfter c m e l)
   unfolding trainsAfter MovementFits
   trains-fit Stays e l h f = f
-  trains-fit (Enters z) e l h f = set-fits l (blockAhead c e) z h f
-  trains-fit (Moves z) e l h f = set-fits (set l (blockBefore c e) 0) (blockAhead c e) z h (set-fits l (blockBefore c e) 0 (omega arith) f)
-  trains-fit Leaves e l h f = set-fits l (blockBefore c e) 0 (omega arith) f
+  trains-fit (Enters z) e l h f = set-fits l _ _ h f
+  trains-fit (Moves z) e l h f = set-fits _ _ _ h (set-fits l _ _ (omega arith) f)
+  trains-fit Leaves e l h f = set-fits l _ _ (omega arith) f
 
   last-fit : (m : Movement) (e : Site) (l : List ℕ) → MovementFits m → AllFit l → AllFit (lastAfter c m e l)
   unfolding lastAfter MovementFits
   last-fit Stays e l h f = f
-  last-fit (Enters z) e l h f = set-fits l (blockAhead c e) z h f
-  last-fit (Moves z) e l h f = set-fits l (blockAhead c e) z h f
+  last-fit (Enters z) e l h f = set-fits l _ _ h f
+  last-fit (Moves z) e l h f = set-fits l _ _ h f
   last-fit Leaves e l h f = f
 
   module _ (v : Bool) (t : Track) (p : ℕ) where

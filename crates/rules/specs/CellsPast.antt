@@ -7,9 +7,11 @@ use mathlib.Core.List.{List}
 use lib.ListN.{getD, length}
 use Rattle.section.specs.declared.Section.{Section}
 use Rattle.section.specs.declared.Track.{Track}
+use Rattle.section.specs.declared.TrackStep.{TrackStep}
+use Rattle.section.specs.Step.{postOf}
 use Rattle.section.specs.Store.{trackOf, postOn}
 use Rattle.rules.specs.Indications.{indications}
-use Rattle.rules.specs.Judge.{judge}
+use Rattle.rules.specs.Judge.{siteOf, occupancyOf, judge}
 
 -- two states of a track keep the same at the posts that `At` picks, and in the block sections that end at one: block section i lies between
 -- posts i and i+1
@@ -46,8 +48,10 @@ pub record AgreeBelow (s u : Section) : Type 0 where
   pub settings : s .settings ≡ u .settings
   pub tracks : (b : Bool) → SameBelow (s .settings .posts) (trackOf s b) (trackOf u b)
 
--- all bytes get the same verdict, and leave sections that agree again; every post shows the same
+-- what a step looks at is the same in both; all bytes get the same verdict, and leave sections that agree again; every post shows the same
 pub record TestedAlike (s u : Section) : Type 0 where
+  pub sites : (x : TrackStep) → postOf (x .step) < s .settings .posts → siteOf s x ≡ siteOf u x
+  pub occupancies : (x : TrackStep) → postOf (x .step) < s .settings .posts → occupancyOf s x ≡ occupancyOf u x
   pub verdicts : (bytes : List ℕ) → judge s bytes .verdict ≡ judge u bytes .verdict
   pub sections : (bytes : List ℕ) → AgreeBelow (judge s bytes .section) (judge u bytes .section)
   pub shows : (track post : ℕ) → indications s track post ≡ indications u track post
