@@ -21,7 +21,6 @@ use Rattle.section.specs.declared.TrackStep.{TrackStep}
 use Rattle.section.specs.declared.Verdict.{Verdict}
 use Rattle.section.specs.declared.Verdict.the-variants.{Accepted, Refused}
 use Rattle.section.specs.Codec.{decoded-post-below}
-use Rattle.section.specs.Geometry.{block}
 use Rattle.section.specs.Numbers.{mostSeals, largestTrain}
 use Rattle.section.specs.Post.{blank}
 use Rattle.section.specs.Range.{sealsFit, numbersFit, trackFits, inRange}
@@ -31,7 +30,7 @@ use Rattle.section.proofs.Laws.{rank-lt, block-lt, and-right}
 use Rattle.rules.specs.declared.Site.{Site}
 use Rattle.rules.specs.declared.Movement.{Movement}
 use Rattle.rules.specs.declared.Movement.the-variants.{Stays, Enters, Moves, Leaves}
-use Rattle.rules.specs.Site.{siteOn, settledVns, otherSettledOnVns, stretchHolds, anyTrain, hasNumber, upAt, rankAt, atSendingEnd}
+use Rattle.rules.specs.Site.{siteOn, settledVns, otherSettledOnVns, stretchHolds, anyTrain, hasNumber, upAt, atSendingEnd}
 use Rattle.rules.specs.Site.{atReceivingEnd, blockAhead, blockBefore, stretchEnds, trainAt, watchedOccupied, trainBefore, lastEntered, Occupancy, occupancyAt}
 use Rattle.rules.specs.Table.{effect, trainsAfter, lastAfter, trackAfter}
 use Rattle.rules.specs.Judge.{answerOf, siteOf, occupancyOf, verdictOn, sectionAfter, judgeStep, judgeDecoded, judgeInRange, judge}

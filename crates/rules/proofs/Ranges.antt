@@ -20,7 +20,7 @@ use Rattle.section.specs.Store.{postOn}
 use Rattle.rules.specs.declared.Site.{Site}
 use Rattle.rules.specs.declared.Movement.{Movement}
 use Rattle.rules.specs.declared.Movement.the-variants.{Stays, Enters, Moves, Leaves}
-use Rattle.rules.specs.Site.{siteOn, isTurn, atReceivingEnd, blockAhead, blockBefore}
+use Rattle.rules.specs.Site.{siteOn, isTurn, atReceivingEnd}
 use Rattle.rules.specs.Table.{checks, effect, trainsAfter, lastAfter, trackAfter}
 use Rattle.rules.proofs.Facts.{and-l, and-r, and-i, neqb→ne, false-T, next-rank, next-lt, not-first-rank, rank-not-first, not-last-rank}
 use Rattle.rules.proofs.Facts.{rank-not-last, set-keeps, below-suc}

@@ -13,7 +13,7 @@ use Rattle.section.specs.Store.{trackOf, postOn}
 use Rattle.rules.specs.Indications.{indications}
 use Rattle.rules.specs.Judge.{siteOf, occupancyOf, judge}
 
--- two states of a track keep the same at the posts that `At` picks, and in the block sections that end at one: block section i lies between
+-- two states of a track keep the same at the posts that `At` picks, and in the block section just below each: block section i lies between
 -- posts i and i+1
 pub record SameCells (At : ℕ → Type 0) (t u : Track) : Type 0 where
   pub posts : (p : ℕ) → At p → postOn t p ≡ postOn u p
@@ -22,6 +22,7 @@ pub record SameCells (At : ℕ → Type 0) (t u : Track) : Type 0 where
 
 -- ## Not changed
 
+-- from post n and block section n−1 on
 abbrev pub SamePast : ℕ → Track → Track → Type 0
 SamePast n = SameCells (λ p. n ≤ p)
 
@@ -31,7 +32,7 @@ CellsPastKept =
 
 -- ## Not tested
 
--- the lists of a track are arrays in the code, each of one length
+-- in the code the lists of a track are arrays, each of one length; a list that is too short would not take a store
 pub record SameSizes (t u : Track) : Type 0 where
   pub posts : length (t .posts) ≡ length (u .posts)
   pub trains : length (t .trains) ≡ length (u .trains)
@@ -44,16 +45,19 @@ pub record SameBelow (n : ℕ) (t u : Track) : Type 0 where
   pub cells : SameCells (λ p. p < n) t u
   pub sizes : SameSizes t u
 
+-- two sections differ only there
 pub record AgreeBelow (s u : Section) : Type 0 where
   pub settings : s .settings ≡ u .settings
   pub tracks : (b : Bool) → SameBelow (s .settings .posts) (trackOf s b) (trackOf u b)
 
--- what a step looks at is the same in both; all bytes get the same verdict, and leave sections that agree again; every post shows the same
 pub record TestedAlike (s u : Section) : Type 0 where
+  -- what a step at a post of the section looks at
   pub sites : (x : TrackStep) → postOf (x .step) < s .settings .posts → siteOf s x ≡ siteOf u x
   pub occupancies : (x : TrackStep) → postOf (x .step) < s .settings .posts → occupancyOf s x ≡ occupancyOf u x
+  -- what is answered to all bytes, and the sections afterwards
   pub verdicts : (bytes : List ℕ) → judge s bytes .verdict ≡ judge u bytes .verdict
   pub sections : (bytes : List ℕ) → AgreeBelow (judge s bytes .section) (judge u bytes .section)
+  -- what every post shows
   pub shows : (track post : ℕ) → indications s track post ≡ indications u track post
 
 abbrev pub CellsPastNotTested : Type 0
