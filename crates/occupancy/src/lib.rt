@@ -6,7 +6,7 @@ ghost use lib.ListN.{getD};
 ghost use Rattle.section.specs.Numbers.{mostBlocks, mostPosts};
 ghost use Rattle.section.specs.Geometry.{block};
 ghost use Rattle.section.specs.Settings.{isMaterialised};
-ghost use Rattle.rules.specs.Site.{anyTrain, hasNumber, atSendingEnd, atReceivingEnd, blockAhead, blockBefore, watchedOccupied};
+ghost use Rattle.rules.specs.Site.{anyTrain, hasNumber, atSendingEnd, atReceivingEnd, blockAhead, watchedOccupied, trainBefore};
 ghost use Rattle.site_positions.specs.Placed.{Placed};
 use rules::Site;
 use section::Settings;
@@ -70,7 +70,7 @@ pub fn has_number(m: u8, number: u64, trains: &Trains) -> bool
 // The train in the block section before the post.
 pub fn train_before(c: Settings, e: Site, trains: &Trains) -> u64
     requires { ⌜ (Placed c e) × (atSendingEnd c e ≡ false) ⌝ }
-    ensures { λ r. ⌜ r ≡ getD (now (trains .entry)) (blockBefore c e) 0 ⌝ }
+    ensures { λ r. ⌜ r ≡ trainBefore c e (now (trains .entry)) ⌝ }
 {
     train_after(
         trains,

@@ -12,7 +12,7 @@ use Rattle.section.specs.declared.Section.{Section}
 use Rattle.section.specs.Store.{trackOf, withTrack}
 use Rattle.rules.specs.declared.Movement.{Movement}
 use Rattle.rules.specs.declared.Movement.the-variants.{Stays, Enters, Moves, Leaves}
-use Rattle.rules.specs.Site.{isSettled, settledOnVns, siteOn, otherSettledOnVns, watchedOccupied, occupancyAt}
+use Rattle.rules.specs.Site.{isSettled, settledOnVns, siteOn, otherSettledOnVns, watchedOccupied, trainBefore, lastEntered, occupancyAt}
 use Rattle.rules.specs.Table.{checks, effect, trainsAfter, lastAfter, trackAfter}
 use Rattle.rules.proofs.Facts.{by-track}
 use Rattle.rules.proofs.View.{order, setDevice, announce, acknowledge, key, Motion, start, pass, leave, Condition, measures, fault, View}
@@ -68,7 +68,7 @@ module _ (c : Settings) where
   -- ## The other track matters to an order alone
 
   passes-vns : (v v′ b : Bool) (p : ℕ) (k : View) (t : Track) → T (calm k) → Passes c v b p k t → Passes c v′ b p k t
-  unfolding checks occupancyAt watchedOccupied flat
+  unfolding checks occupancyAt watchedOccupied trainBefore lastEntered flat
   passes-vns v v′ b p (walks r) t i h = absurd i
   passes-vns v v′ b p (runs start z) t i h = record { fits = h .fits; held = h .held }
   passes-vns v v′ b p (runs pass z) t i h = record { fits = h .fits; held = h .held }

@@ -26,7 +26,7 @@ use Rattle.rules.specs.Site.{occupancyAt}
 use Rattle.rules.specs.Table.{checks, effect, trainsAfter, trackAfter}
 use Rattle.rules.specs.Indications.{setCount}
 use Rattle.rules.proofs.Facts.{true-T, false-T, notnot, nor-l, nor-r, first-rank}
-use Rattle.rules.proofs.Facts.{not-first-rank, last-rank, not-last-rank, next-rank, far-end, set-zero}
+use Rattle.rules.proofs.Facts.{not-first-rank, last-rank, not-last-rank, next-rank, far-end, before-is, set-zero}
 use Rattle.rules.proofs.View.{order, setDevice, announce, acknowledge, key, start, pass, leave, View, walks, runs, notes, releases, flat}
 use Rattle.rules.proofs.Frame.{is-turn, is-settled, still, calm, calm-effect, still-train, trains-length, last-length}
 use Rattle.rules.proofs.Accept.{Passes, moved}
@@ -140,9 +140,10 @@ module _ (c : Settings) (b : Bool) where
     low-kept (walks key) h low f = low-set (atReceivingEnd c e) refl (h .held .0) (h .held .1 .1 .0) low
     low-kept (runs start z) h low f = λ j l m. absurd (omega (arith, rw (is-settled (t .walk) (h .held .0)) at l))
     low-kept (runs pass z) h low f =
-        low-pass z (h .fits .below) (not-first-rank (c .posts) (upward b (t .cvt)) p (nor-l (atSendingEnd c e) (atReceivingEnd c e) (h .held .0)))
+        let not-sending : T (not (atSendingEnd c e)) = nor-l (atSendingEnd c e) (atReceivingEnd c e) (h .held .0) in
+        low-pass z (h .fits .below) (not-first-rank (c .posts) (upward b (t .cvt)) p not-sending)
         (not-last-rank (c .posts) (upward b (t .cvt)) p (h .fits .below) (nor-r (atSendingEnd c e) (atReceivingEnd c e) (h .held .0)))
-        (h .fits .number .0) (h .held .1 .0) low
+        (h .fits .number .0) (rw (before-is c e (t .trains) not-sending) at (h .held .1 .0)) low
     low-kept (runs leave z) h low f = λ j l m. set-zero (t .trains) (blockBefore c e) (block (c .posts) (upward b (t .cvt)) j) (low j l m)
     low-kept (notes k) h low f = low-calm (notes k) tt tt low
     low-kept (releases z) h low f = low

@@ -3,11 +3,13 @@ pub mod Facts
 pub mod Reading
 pub mod Accept
 pub mod Frame
+pub mod CellsNotTested
 pub mod Ranges
 pub mod RangeLaw
 pub mod Invariant
 pub mod Swap
 pub mod Exchange
+pub mod CellsKept
 pub mod Reached
 pub mod Along
 pub mod Stretches

@@ -20,7 +20,7 @@ use Rattle.section.specs.Store.{postOn}
 use Rattle.rules.specs.declared.Site.{Site}
 use Rattle.rules.specs.declared.Movement.{Movement}
 use Rattle.rules.specs.declared.Movement.the-variants.{Stays, Enters, Moves, Leaves}
-use Rattle.rules.specs.Site.{siteOn, isTurn, atReceivingEnd, blockAhead, blockBefore}
+use Rattle.rules.specs.Site.{siteOn, isTurn, atReceivingEnd}
 use Rattle.rules.specs.Table.{checks, effect, trainsAfter, lastAfter, trackAfter}
 use Rattle.rules.proofs.Facts.{and-l, and-r, and-i, neqb→ne, false-T, next-rank, next-lt, not-first-rank, rank-not-first, not-last-rank}
 use Rattle.rules.proofs.Facts.{rank-not-last, set-keeps, below-suc}
@@ -139,15 +139,15 @@ module _ (c : Settings) (b : Bool) where
   trains-fit : (m : Movement) (e : Site) (l : List ℕ) → MovementFits m → AllFit l → AllFit (trainsAfter c m e l)
   unfolding trainsAfter MovementFits
   trains-fit Stays e l h f = f
-  trains-fit (Enters z) e l h f = set-fits l (blockAhead c e) z h f
-  trains-fit (Moves z) e l h f = set-fits (set l (blockBefore c e) 0) (blockAhead c e) z h (set-fits l (blockBefore c e) 0 (omega arith) f)
-  trains-fit Leaves e l h f = set-fits l (blockBefore c e) 0 (omega arith) f
+  trains-fit (Enters z) e l h f = set-fits l _ _ h f
+  trains-fit (Moves z) e l h f = set-fits _ _ _ h (set-fits l _ _ (omega arith) f)
+  trains-fit Leaves e l h f = set-fits l _ _ (omega arith) f
 
   last-fit : (m : Movement) (e : Site) (l : List ℕ) → MovementFits m → AllFit l → AllFit (lastAfter c m e l)
   unfolding lastAfter MovementFits
   last-fit Stays e l h f = f
-  last-fit (Enters z) e l h f = set-fits l (blockAhead c e) z h f
-  last-fit (Moves z) e l h f = set-fits l (blockAhead c e) z h f
+  last-fit (Enters z) e l h f = set-fits l _ _ h f
+  last-fit (Moves z) e l h f = set-fits l _ _ h f
   last-fit Leaves e l h f = f
 
   module _ (v : Bool) (t : Track) (p : ℕ) where

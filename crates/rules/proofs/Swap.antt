@@ -20,10 +20,10 @@ use Rattle.section.specs.Store.{postOn, withPost}
 use Rattle.section.proofs.Laws.{rank-lt, rank-inj, block-inj, block-lt}
 use Rattle.rules.specs.declared.Site.{Site}
 use Rattle.rules.specs.Site.{siteOn, Occupancy, occupancyAt, anyTrain, watchedOccupied, atSendingEnd, atReceivingEnd, blockAhead, blockBefore}
-use Rattle.rules.specs.Site.{trainAt}
+use Rattle.rules.specs.Site.{trainAt, trainBefore}
 use Rattle.rules.specs.Table.{checks, effect, trainsAfter, lastAfter, trackAfter}
-use Rattle.rules.proofs.Facts.{eq→eqb, nor-l, nor-r, notnot, T-true, false-T, not-first-rank}
-use Rattle.rules.proofs.Facts.{last-rank, not-last-rank, set-zero, any-zero}
+use Rattle.rules.proofs.Facts.{eq→eqb, nor-l, nor-r, notnot, T-true, false-T, not-first-rank, last-not-first}
+use Rattle.rules.proofs.Facts.{not-last-rank, before-is, entered-is, set-zero, any-zero}
 use Rattle.rules.proofs.View.{order, setDevice, announce, acknowledge, key, Motion, start, pass, leave, Condition, measures, fault, View}
 use Rattle.rules.proofs.View.{walks, runs, notes, releases, flat}
 use Rattle.rules.proofs.Frame.{still, onward, calm-effect, still-train}
@@ -107,7 +107,7 @@ module _ (c : Settings) (v b : Bool) where
 
   onward-checks : (m : Motion) (z p : ℕ) (t t′ : Track) → T (onward m) → t .cvt ≡ t′ .cvt → t .trains ≡ t′ .trains
       → Passes c v b p (runs m z) t → Passes c v b p (runs m z) t′
-  unfolding checks occupancyAt flat
+  unfolding checks occupancyAt trainBefore flat
   onward-checks start z p t t′ i ec et h = absurd i
   onward-checks pass z p t t′ i ec et h = record { fits = h .fits; held = rw (ec, et) at (h .held) }
   onward-checks leave z p t t′ i ec et h = record { fits = h .fits; held = rw (ec, et) at (h .held) }
@@ -164,18 +164,22 @@ module _ (c : Settings) (v b : Bool) where
   pub onward-facts : 2 ≤ c .posts → (m : Motion) (z p : ℕ) (t : Track) → T (onward m) → Passes c v b p (runs m z) t → Onward z p t
   unfolding checks occupancyAt flat
   onward-facts n2 start z p t o h = absurd o
-  onward-facts n2 pass z p t o h = record {
-    below = h .fits .below;
-    not-first = not-first-rank (c .posts) (upward b (t .cvt)) p (nor-l (atSendingEnd c (siteOn v b p t)) (atReceivingEnd c (siteOn v b p t)) (h .held .0));
-    number = h .fits .number .0;
-    before = h .held .1 .0;
-  }
-  onward-facts n2 leave z p t o h = record {
-    below = h .fits .below;
-    not-first = omega (arith, last-rank (c .posts) (upward b (t .cvt)) p (h .held .0));
-    number = h .fits .number .0;
-    before = h .held .1 .0;
-  }
+  onward-facts n2 pass z p t o h =
+      let not-sending : T (not (atSendingEnd c (siteOn v b p t))) = nor-l (atSendingEnd c (siteOn v b p t)) (atReceivingEnd c (siteOn v b p t)) (h .held .0) in
+      record {
+        below = h .fits .below;
+        not-first = not-first-rank (c .posts) (upward b (t .cvt)) p not-sending;
+        number = h .fits .number .0;
+        before = rw (before-is c (siteOn v b p t) (t .trains) not-sending) at (h .held .1 .0);
+      }
+  onward-facts n2 leave z p t o h =
+      let not-sending : T (not (atSendingEnd c (siteOn v b p t))) = last-not-first (c .posts) (upward b (t .cvt)) p n2 (h .held .0) in
+      record {
+        below = h .fits .below;
+        not-first = not-first-rank (c .posts) (upward b (t .cvt)) p not-sending;
+        number = h .fits .number .0;
+        before = rw (before-is c (siteOn v b p t) (t .trains) not-sending) at (h .held .1 .0);
+      }
 
   -- so a train is on the track
   not-empty : (z p : ℕ) (t : Track) → Onward z p t → T (not (anyTrain (c .posts - 1) (t .trains))) → ⊥
@@ -251,7 +255,8 @@ module _ (c : Settings) (v b : Bool) where
           (occupancyAt c (siteOn v b q t) (numberOf (flat q l)) (trainsOf m z p t) (lastOf m z p t)) i
           (watched-less (atReceivingEnd c (siteOn v b q t)) refl (hl .fits .below) hx)
           (λ y. absurd (not-empty z p t (onward-facts n2 m z p t o hx) y))
-          (λ u. stays-last m z p t (blockAhead c (siteOn v b q t)) o (elsewhere (hl .fits .below) (hx .fits .below) u) hx) (hl .held);
+          (λ u. rw (entered-is c (siteOn v b q t) (t .last) u, entered-is c (siteOn v b q t) (lastOf m z p t) u)
+          (stays-last m z p t (blockAhead c (siteOn v b q t)) o (elsewhere (hl .fits .below) (hx .fits .below) u) hx)) (hl .held);
     }
 
     pub swap-onward : moved c v b q l t .cvt ≡ t .cvt → Passes c v b q l t → Passes c v b p (runs m z) (moved c v b q l t) → Swapped q l p (runs m z) t

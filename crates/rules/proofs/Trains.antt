@@ -20,8 +20,7 @@ use Rattle.rules.specs.Site.{siteOn, isTurn, atSendingEnd, atReceivingEn
 use Rattle.rules.specs.Table.{checks, effect, trainsAfter, trackAfter}
 use Rattle.rules.specs.Demand3.{Run}
 use Rattle.rules.proofs.Facts.{nor-l, nor-r, nand-r, true-T, T-false, ne→neqb, first-rank, not-first-rank}
-use Rattle.rules.proofs.Facts.{last-rank}
-use Rattle.rules.proofs.Facts.{not-last-rank, number-none}
+use Rattle.rules.proofs.Facts.{last-rank, not-last-rank, last-not-first, before-is, number-none}
 use Rattle.rules.proofs.View.{Reversal, order, setDevice, announce, acknowledge, key, start, pass, leave, View, walks, runs, notes, releases}
 use Rattle.rules.proofs.View.{flat}
 use Rattle.rules.proofs.Frame.{still, calm-effect, still-train}
@@ -132,14 +131,17 @@ module _ (c : Settings) (n2 : 2 ≤ c .posts) (n16 : c .posts ≤ mostPosts) whe
           ny : y ≢ 0
           ny x = omega (arith, h .fits .number .0)
 
+          not-sending : T (not (atSendingEnd c e))
+          not-sending = nor-l (atSendingEnd c e) (atReceivingEnd c e) (h .held .0)
+
           past : suc q ≡ r
-          past = omega (arith, not-first-rank (c .posts) up p (nor-l (atSendingEnd c e) (atReceivingEnd c e) (h .held .0)))
+          past = omega (arith, not-first-rank (c .posts) up p not-sending)
 
           inside : suc r < c .posts
           inside = not-last-rank (c .posts) up p (h .fits .below) (nor-r (atSendingEnd c e) (atReceivingEnd c e) (h .held .0))
 
           before : f q ≡ y
-          before = eqb→eq (f q) y (h .held .1 .0)
+          before = eqb→eq (f q) y (rw (before-is c e (t .trains) not-sending) at (h .held .1 .0))
 
           -- 13, at a post that begins a stretch
           check : T (ends r) → FreeFrom (c .posts) ends f r
@@ -189,7 +191,7 @@ module _ (c : Settings) (n2 : 2 ≤ c .posts) (n16 : c .posts ≤ mostPosts) whe
           leaves : TrainLeaves (c .posts) f g y q
           leaves = record {
             final = omega (arith, final, past);
-            before = eqb→eq (f q) y (h .held .1 .0);
+            before = eqb→eq (f q) y (rw (before-is c e (t .trains) (last-not-first (c .posts) up p n2 (h .held .0))) at (h .held .1 .0));
             vacated = cell-same up (t .trains) q 0 size (omega (arith, final, past));
             others = λ j k n. cell-other up (t .trains) q 0 j (omega (arith, final, past)) k n;
           }

@@ -5,3 +5,4 @@ pub mod Indications
 pub mod Demand3
 pub mod VoieOccupee
 pub mod RangesKept
+pub mod CellsPast

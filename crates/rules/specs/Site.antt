@@ -82,8 +82,8 @@ hasNumber (suc m) number trains = eqb (getD trains m 0) number || hasNumber m nu
 
 pub record Occupancy : Type 0 where
   pub watched : Bool  -- a train in the part that the post watches
-  pub before : ℕ  -- the train in the block section before the post
-  pub entered : ℕ  -- the last train that entered the block section ahead
+  pub before : ℕ  -- the train in the block section before the post, 0 where there is none
+  pub entered : ℕ  -- the last train that entered the block section ahead, 0 where there is none
   pub anywhere : Bool  -- a train anywhere on the track
   pub stretch : Bool  -- a train in the stretch that begins at the post
   pub known : Bool  -- the step's number is on the track
@@ -125,11 +125,19 @@ module _ (c : Settings) where
   unfoldable pub watchedOccupied : Site → List ℕ → Bool
   watchedOccupied e trains = not (atReceivingEnd e) && not (eqb (getD trains (blockAhead e) 0) 0)
 
+  -- the train in the block section before the post; the sending end has none
+  unfoldable pub trainBefore : Site → List ℕ → ℕ
+  trainBefore e trains = cond (atSendingEnd e) 0 (getD trains (blockBefore e) 0)
+
+  -- the last train that entered the block section ahead; the receiving end has none
+  unfoldable pub lastEntered : Site → List ℕ → ℕ
+  lastEntered e last = cond (atReceivingEnd e) 0 (getD last (blockAhead e) 0)
+
   unfoldable pub occupancyAt : Site → ℕ → List ℕ → List ℕ → Occupancy
   occupancyAt e number trains last = record {
     watched = watchedOccupied e trains;
-    before = getD trains (blockBefore e) 0;
-    entered = getD last (blockAhead e) 0;
+    before = trainBefore e trains;
+    entered = lastEntered e last;
     anywhere = anyTrain (c .posts - 1) trains;
     stretch =
         stretchHolds (stretchEnds (e .track) (e .cvt)) (trainAt (e .track) (e .cvt) trains) (c .posts - suc (rankAt e)) (rankAt e);

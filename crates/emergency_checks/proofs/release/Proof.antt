@@ -1,11 +1,11 @@
 -- Each return is past the checks that held and stops at the one that failed.
 use Prim.Native.Nat.{ℕ}
-use mathlib.Core.Bool.{not}
-use mathlib.Core.Path.{sym, _∙_, ap}
+use mathlib.Core.Bool.{false, not}
+use mathlib.Core.Path.{_≡_, sym, _∙_, ap}
 use borrow.Author.Tests.{eq-eqb, ne-eqb, not-true, not-false}
 use Rattle.section.specs.declared.Step.the-variants.{Release}
 use Rattle.section.proofs.Told.{told, told-false, told-true}
-use Rattle.rules.specs.Site.{occupancyAt}
+use Rattle.rules.specs.Site.{atReceivingEnd, lastEntered, occupancyAt}
 use Rattle.rules.specs.Table.{checks, effect}
 use Rattle.conditions.specs.VerdictAt.{rowAt}
 use Rattle.conditions.proofs.Laws.{Through, none, then, accepted, refused}
@@ -34,9 +34,12 @@ returns-2 : tie.Need-returns-2
 unfolding checks occupancyAt
 returns-2 c = refused _ (in-turn (c .before .before)) (ap not (told (c .before .at-receiving-end .ensures) (c .if2 .taken)))
 
+not-receiving : (c : tie.Else2) → let a = c .before .before .before .before .args in atReceivingEnd (a .c) (a .e) ≡ false
+not-receiving c = told (c .before .at-receiving-end .ensures) (c .if2 .left)
+
 block-ahead : (c : tie.Else2) → Passed 2 (c .before .before .before .before)
 unfolding checks occupancyAt
-block-ahead c = then (in-turn (c .before .before)) (ap not (told (c .before .at-receiving-end .ensures) (c .if2 .left)))
+block-ahead c = then (in-turn (c .before .before)) (ap not (not-receiving c))
 
 returns-3 : tie.Need-returns-3
 unfolding checks occupancyAt
@@ -59,15 +62,22 @@ free c = then (faulty (c .before .before)) (ap not (told (c .before .watched-occ
 
 train-ahead-requires : tie.Need-train-ahead-requires
 train-ahead-requires c κs = let b = c .before .before .before .before in
-    (b .before .before .before .before .pre, told (b .before .at-receiving-end .ensures) (b .if2 .left))
+    (b .before .before .before .before .pre, not-receiving b)
+
+-- the last train of the block section ahead
+entered : (c : tie.After-train-ahead) →
+    let a = c .before .before .before .before .before .before .before .before .before .args in
+    c .train-ahead .result ≡ lastEntered (a .c) (a .e) (a .last .now)
+unfolding lastEntered
+entered c = rw (not-receiving (c .before .before .before .before .before)) (c .train-ahead .ensures)
 
 returns-5 : tie.Need-returns-5
 unfolding checks occupancyAt
-returns-5 c = refused _ (free (c .before .before)) (ne-eqb _ _ (λ q. c .if5 .taken (c .before .train-ahead .ensures ∙ q)))
+returns-5 c = refused _ (free (c .before .before)) (ne-eqb _ _ (λ q. c .if5 .taken (entered (c .before) ∙ q)))
 
 returns-6 : tie.Need-returns-6
 unfolding checks occupancyAt effect
-returns-6 c = accepted _ (then (free (c .before .before)) (eq-eqb _ _ (sym (c .before .train-ahead .ensures) ∙ c .if5 .left)))
+returns-6 c = accepted _ (then (free (c .before .before)) (eq-eqb _ _ (sym (entered (c .before)) ∙ c .if5 .left)))
 
 pub release-spec : {M : Type 1} → statement M
 release-spec =

@@ -1,6 +1,7 @@
 -- A post that is not the sending end has a block section before it.
 use native.Mathlib.Omega.{arith}
 use borrow.Author.Needs.{needs}
+use Rattle.rules.specs.Site.{trainBefore}
 use Rattle.site_positions.proofs.Laws.{block-before, rank-placed}
 use Rattle.occupancy.proofs.train_before.Statement.{statement}
 use Rattle.occupancy.proofs.train_before.Tie as tie
@@ -22,7 +23,10 @@ train-after-requires c κs =
     (omega (arith, c .rank-at .ensures, block-before (h .0) (h .1), rank-placed (h .0)), h .0 .most)
 
 returns : tie.Need-returns
-returns c = rw (c .train-after .ensures, c .before .rank-at .ensures, c .before .before .is-upward .ensures)
+unfolding trainBefore
+returns c =
+    let entry = c .before .before .before in
+    rw (entry .pre .1, c .train-after .ensures, c .before .rank-at .ensures, c .before .before .is-upward .ensures)
 
 pub train-before-spec : {M : Type 1} → statement M
 train-before-spec =
