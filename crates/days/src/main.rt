@@ -2,8 +2,25 @@
 // NAME.panel, and compares what the library makes of the day with what is stored.
 use agreement::agrees;
 use agreement::sheet_room;
-use libc::STDOUT_FILENO;
 use sheets::Sheet;
+
+// What running a stored day shows.
+enum Day {
+    Agrees,
+    NotRead,
+    ListingDiffers,
+    PanelDiffers,
+}
+
+// A day that cannot be read counts among those that differ.
+fn differs(day: Day) -> bool {
+    match day {
+        Day::Agrees => false,
+        Day::NotRead => true,
+        Day::ListingDiffers => true,
+        Day::PanelDiffers => true,
+    }
+}
 
 // Opens the file whose name has this ending, and answers a descriptor, or -1; so too for a name that does not fit the buffer for a path.
 fn open(name: &[u8], ending: &[u8]) -> i32 {
@@ -26,73 +43,97 @@ fn open_sheet(name: &[u8], sheet: Sheet) -> i32 {
     }
 }
 
-// Prints the line of a day that differs, and answers true.
-fn report(name: &[u8], what: &[u8]) -> bool {
-    io::write_all(STDOUT_FILENO, name);
-    io::write_all(STDOUT_FILENO, what);
-    true
-}
-
-fn report_sheet(name: &[u8], sheet: Sheet) -> bool {
+fn difference_in(sheet: Sheet) -> Day {
     match sheet {
-        Sheet::OfSteps => report(name, b": listing differs\n"),
-        Sheet::OfPosts => report(name, b": panel differs\n"),
+        Sheet::OfSteps => Day::ListingDiffers,
+        Sheet::OfPosts => Day::PanelDiffers,
     }
 }
 
-// Whether the stored listing or panel differs from what is made of the file. A read that fails
-// cuts the stored bytes short, so that they differ.
-fn sheet_differs(name: &[u8], sheet: Sheet, file: &[u8]) -> bool {
+// Compares the stored listing or panel with what is made of the file. A read that fails cuts the
+// stored bytes short, so that they differ.
+fn compare_sheet(name: &[u8], sheet: Sheet, file: &[u8]) -> Day {
     let descriptor = open_sheet(name, sheet);
     if descriptor < 0 {
-        return report(name, b": cannot be read\n");
+        return Day::NotRead;
     }
     let mut stored = sheet_room();
     let length = io::read_full(descriptor, &mut stored);
     libc::close(descriptor);
     if agrees(sheet, file, &stored[0..length]) {
-        return false;
+        return Day::Agrees;
     }
-    report_sheet(name, sheet)
+    difference_in(sheet)
 }
 
 // The panel is looked at where the listing agrees.
-fn file_differs(name: &[u8], file: &[u8]) -> bool {
-    if sheet_differs(name, Sheet::OfSteps, file) {
-        return true;
+fn compare_file(name: &[u8], file: &[u8]) -> Day {
+    let day = compare_sheet(name, Sheet::OfSteps, file);
+    if differs(day) {
+        return day;
     }
-    sheet_differs(name, Sheet::OfPosts, file)
+    compare_sheet(name, Sheet::OfPosts, file)
 }
 
-fn day_differs(name: &[u8]) -> bool {
+fn run(name: &[u8]) -> Day {
     let descriptor = open(name, b".day");
     if descriptor < 0 {
-        return report(name, b": cannot be read\n");
+        return Day::NotRead;
     }
     let mut file = listing::file_room();
     let length = io::read_full(descriptor, &mut file);
     libc::close(descriptor);
-    file_differs(name, &file[0..length])
+    compare_file(name, &file[0..length])
 }
 
-fn argument_differs(i: usize) -> bool {
-    let mut name = io::buffer();
-    let length = os::arg(i, &mut name);
-    day_differs(&name[0..length])
+// Writes a text, if all before it was written, and answers whether all is written now.
+fn write(written: bool, text: &[u8]) -> bool {
+    streams::write_whole(written, text, b"days: cannot write standard output")
+}
+
+fn write_line(written: bool, name: &[u8], what: &[u8]) -> bool {
+    let named = write(written, name);
+    write(named, what)
+}
+
+fn write_number(written: bool, number: u64) -> bool {
+    let mut digits = [0u8; 20];
+    let length = io::decimal(number, &mut digits);
+    write(written, &digits[..length])
+}
+
+// Writes the line of a day that differs.
+fn report(written: bool, name: &[u8], day: Day) -> bool {
+    match day {
+        Day::Agrees => written,
+        Day::NotRead => write_line(written, name, b": cannot be read\n"),
+        Day::ListingDiffers => write_line(written, name, b": listing differs\n"),
+        Day::PanelDiffers => write_line(written, name, b": panel differs\n"),
+    }
+}
+
+// Writes the last line.
+fn report_counts(written: bool, days: u64, differ: u64) -> bool {
+    let counted = write_number(written, days);
+    let named = write(counted, b" days, ");
+    let compared = write_number(named, differ);
+    write(compared, b" differ\n")
 }
 
 fn main() {
     let count = os::arg_count();
     let mut days: u64 = 0;
     let mut differ: u64 = 0;
+    let mut written = true;
     for i in 1..count {
+        let mut name = io::buffer();
+        let length = os::arg(i, &mut name);
+        let day = run(&name[0..length]);
+        written = report(written, &name[0..length], day);
         days += 1;
-        if argument_differs(i) {
+        if differs(day) {
             differ += 1;
         }
     }
-    io::print_decimal(STDOUT_FILENO, days);
-    io::write_all(STDOUT_FILENO, b" days, ");
-    io::print_decimal(STDOUT_FILENO, differ);
-    io::write_all(STDOUT_FILENO, b" differ\n");
+    report_counts(written, days, differ);
 }

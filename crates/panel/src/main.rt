@@ -1,18 +1,17 @@
 // Prints the panel of the day file on standard input.
-use input::Input;
-use libc::STDOUT_FILENO;
+use streams::Input;
 use text::Handed;
 
 fn print(file: &[u8]) {
     let mut text = sheets::panel_room();
     if let Handed::Bytes(n) = listing::panel(file, &mut text) {
-        io::write_all(STDOUT_FILENO, &text[..n]);
+        streams::write_whole(true, &text[..n], b"panel: cannot write standard output");
     }
 }
 
 fn main() {
     let mut file = listing::file_room();
-    match input::read_whole(&mut file) {
+    match streams::read_whole(&mut file) {
         Input::Bytes(n) => print(&file[..n]),
         Input::Failed => os::fail(b"panel: cannot read standard input"),
     }

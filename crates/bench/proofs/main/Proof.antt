@@ -1,6 +1,6 @@
 -- So many bytes as were read lie within the buffer.
 use borrow.Author.Needs.{needs}
-use Rattle.input.proofs.Counted.{bytes-read}
+use Rattle.streams.proofs.Counted.{bytes-read}
 use Rattle.bench.proofs.main.Statement.{statement}
 use Rattle.bench.proofs.main.Tie as tie
 

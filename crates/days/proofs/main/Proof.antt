@@ -7,10 +7,10 @@ use Rattle.days.proofs.main.Statement.{statement}
 use Rattle.days.proofs.main.Tie as tie
 
 abbrev Inv-loop : tie.InvT-loop
-Inv-loop count days₀ differ₀ i₀ t5 t6 days differ i = (days ≤ i) × (differ ≤ days)
+Inv-loop count days₀ differ₀ written₀ i₀ days differ written i = (days ≤ i) × (differ ≤ days)
 
 abbrev μ-loop : tie.MeasureT-loop
-μ-loop count days₀ differ₀ i₀ t5 t6 days differ i = count - i
+μ-loop count days₀ differ₀ written₀ i₀ days differ written i = count - i
 
 arg-count-requires : tie.Need-arg-count-requires Inv-loop μ-loop
 arg-count-requires c κs = search needs
@@ -18,11 +18,44 @@ arg-count-requires c κs = search needs
 loop-holds : tie.Need-loop-holds Inv-loop μ-loop
 loop-holds c = search needs
 
+buffer-requires : tie.Need-buffer-requires Inv-loop μ-loop
+buffer-requires c κs = search needs
+
+slice-aggregate-arg : tie.Need-slice-aggregate-arg Inv-loop μ-loop
+slice-aggregate-arg c = search needs
+
+arg-requires : tie.Need-arg-requires Inv-loop μ-loop
+arg-requires c κs = search needs
+
+sub-run : tie.Need-sub-run Inv-loop μ-loop
+sub-run c = search needs
+
+part-run-start : tie.Need-part-run-start Inv-loop μ-loop
+part-run-start c = search needs
+
+part-run-end : tie.Need-part-run-end Inv-loop μ-loop
+part-run-end c = search needs
+
+run-requires : tie.Need-run-requires Inv-loop μ-loop
+run-requires c κs = search needs
+
+sub-report : tie.Need-sub-report Inv-loop μ-loop
+sub-report c = search needs
+
+part-report-start : tie.Need-part-report-start Inv-loop μ-loop
+part-report-start c = search needs
+
+part-report-end : tie.Need-part-report-end Inv-loop μ-loop
+part-report-end c = search needs
+
+report-requires : tie.Need-report-requires Inv-loop μ-loop
+report-requires c κs = search needs
+
 add-days : tie.Need-add-days Inv-loop μ-loop
 add-days c = search needs
 
-argument-differs-requires : tie.Need-argument-differs-requires Inv-loop μ-loop
-argument-differs-requires c κs = search needs
+differs-requires : tie.Need-differs-requires Inv-loop μ-loop
+differs-requires c κs = search needs
 
 add-differ : tie.Need-add-differ Inv-loop μ-loop
 add-differ c = search needs
@@ -36,23 +69,8 @@ loop-less c = search needs
 loop-again : tie.Need-loop-again Inv-loop μ-loop
 loop-again c = ⊎-elim (λ w. omega arith) (λ w. omega arith) (c .if1 .came)
 
-print-decimal-requires : tie.Need-print-decimal-requires Inv-loop μ-loop
-print-decimal-requires c κs = search needs
-
-slice-aggregate-write-all : tie.Need-slice-aggregate-write-all Inv-loop μ-loop
-slice-aggregate-write-all c = search needs
-
-write-all-requires : tie.Need-write-all-requires Inv-loop μ-loop
-write-all-requires c κs = search needs
-
-print-decimal-requires-2 : tie.Need-print-decimal-requires-2 Inv-loop μ-loop
-print-decimal-requires-2 c κs = search needs
-
-slice-aggregate-write-all-2 : tie.Need-slice-aggregate-write-all-2 Inv-loop μ-loop
-slice-aggregate-write-all-2 c = search needs
-
-write-all-requires-2 : tie.Need-write-all-requires-2 Inv-loop μ-loop
-write-all-requires-2 c κs = search needs
+report-counts-requires : tie.Need-report-counts-requires Inv-loop μ-loop
+report-counts-requires c κs = search needs
 
 returns : tie.Need-returns Inv-loop μ-loop
 returns c = search needs
@@ -65,16 +83,22 @@ main-spec =
     μ-loop
     arg-count-requires
     loop-holds
+    buffer-requires
+    slice-aggregate-arg
+    arg-requires
+    sub-run
+    part-run-start
+    part-run-end
+    run-requires
+    sub-report
+    part-report-start
+    part-report-end
+    report-requires
     add-days
-    argument-differs-requires
+    differs-requires
     add-differ
     add-i
     loop-less
     loop-again
-    print-decimal-requires
-    slice-aggregate-write-all
-    write-all-requires
-    print-decimal-requires-2
-    slice-aggregate-write-all-2
-    write-all-requires-2
+    report-counts-requires
     returns)

@@ -28,8 +28,8 @@ array-share-prefix-text c =
     bytes-counted (panel (now (entry .args .file))) (at-panel-room .panel-room .result) _ (r .ensures .0) (r .last .1 .0) _ (at-n .n .given .1)
     (r .kept .1 .0) .0
 
-slice-aggregate-write-all : tie.Need-slice-aggregate-write-all
-slice-aggregate-write-all c =
+slice-aggregate-write-whole : tie.Need-slice-aggregate-write-whole
+slice-aggregate-write-whole c =
     let at-n = c .before .before in
     let at-panel = at-n .before .before .before in
     let at-panel-room = at-panel .before .before in
@@ -38,8 +38,11 @@ slice-aggregate-write-all c =
     bytes-counted (panel (now (entry .args .file))) (at-panel-room .panel-room .result) _ (r .ensures .0) (r .last .1 .0) _ (at-n .n .given .1)
     (r .kept .1 .0) .1
 
-write-all-requires : tie.Need-write-all-requires
-write-all-requires c κs = search needs
+slice-aggregate-write-whole-2 : tie.Need-slice-aggregate-write-whole-2
+slice-aggregate-write-whole-2 c = search needs
+
+write-whole-requires : tie.Need-write-whole-requires
+write-whole-requires c κs = search needs
 
 enum-told : tie.Need-enum-told
 enum-told c = search needs
@@ -59,8 +62,9 @@ print-spec =
     panel-requires
     enum-known-n
     array-share-prefix-text
-    slice-aggregate-write-all
-    write-all-requires
+    slice-aggregate-write-whole
+    slice-aggregate-write-whole-2
+    write-whole-requires
     enum-told
     returns
     returns-2)

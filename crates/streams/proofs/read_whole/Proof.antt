@@ -5,9 +5,9 @@ use native.Mathlib.Omega.{arith}
 use borrow.Author.Needs.{needs}
 use borrow.Rule.Slice.PartMut.{same-len-mid}
 use lib.ListN.{length}
-use Rattle.input.proofs.Counted.{counted, part-length}
-use Rattle.input.proofs.read_whole.Statement.{statement}
-use Rattle.input.proofs.read_whole.Tie as tie
+use Rattle.streams.proofs.Counted.{counted, part-length}
+use Rattle.streams.proofs.read_whole.Statement.{statement}
+use Rattle.streams.proofs.read_whole.Tie as tie
 
 abbrev Inv-loop : tie.InvT-loop
 Inv-loop buffer₀ done₀ buffer done = (length buffer ≡ length buffer₀) × (done ≤ length buffer)

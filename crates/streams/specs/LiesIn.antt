@@ -2,8 +2,8 @@
 use mathlib.Core.List.{List}
 use Prim.Native.Nat.{ℕ}
 use Rattle.io.specs.Counts.{Counts}
-use Rattle.input.specs.declared.Input.{Input}
-use Rattle.input.specs.declared.Input.the-variants.{Bytes, Failed}
+use Rattle.streams.specs.declared.Input.{Input}
+use Rattle.streams.specs.declared.Input.the-variants.{Bytes, Failed}
 
 abbrev pub LiesIn : Input → List ℕ → Type 0
 LiesIn (Bytes n) buffer = Counts n buffer

@@ -5,9 +5,9 @@ use mathlib.Core.List.{List}
 use native.Mathlib.Omega.{arith}
 use lib.ListN.{length, take, drop, length-drop, length-take}
 use lib.Seq.{length-take-le}
-use Rattle.input.specs.declared.Input.{Input}
-use Rattle.input.specs.declared.Input.the-variants.{Bytes}
-use Rattle.input.specs.LiesIn.{LiesIn}
+use Rattle.streams.specs.declared.Input.{Input}
+use Rattle.streams.specs.declared.Input.the-variants.{Bytes}
+use Rattle.streams.specs.LiesIn.{LiesIn}
 use Rattle.io.specs.Counts.{Counts}
 
 pub counted : (n : ℕ) (buffer : List ℕ) → n ≤ length buffer → Counts n buffer

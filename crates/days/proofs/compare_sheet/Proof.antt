@@ -3,17 +3,11 @@ use native.Mathlib.Omega.{arith}
 use lib.ListN.{length-take}
 use Rattle.sheets.specs.Sheet.{lineRoom, room}
 use borrow.Author.Needs.{needs}
-use Rattle.days.proofs.sheet_differs.Statement.{statement}
-use Rattle.days.proofs.sheet_differs.Tie as tie
+use Rattle.days.proofs.compare_sheet.Statement.{statement}
+use Rattle.days.proofs.compare_sheet.Tie as tie
 
 open-sheet-requires : tie.Need-open-sheet-requires
 open-sheet-requires c κs = search needs
-
-slice-aggregate-report : tie.Need-slice-aggregate-report
-slice-aggregate-report c = search needs
-
-report-requires : tie.Need-report-requires
-report-requires c κs = search needs
 
 returns : tie.Need-returns
 returns c = search needs
@@ -46,19 +40,17 @@ agrees-requires c κs = simp length-take (omega arith)
 returns-2 : tie.Need-returns-2
 returns-2 c = search needs
 
-report-sheet-requires : tie.Need-report-sheet-requires
-report-sheet-requires c κs = search needs
+difference-in-requires : tie.Need-difference-in-requires
+difference-in-requires c κs = search needs
 
 returns-3 : tie.Need-returns-3
 returns-3 c = search needs
 
-pub sheet-differs-spec : {M : Type 1} → statement M
-sheet-differs-spec =
+pub compare-sheet-spec : {M : Type 1} → statement M
+compare-sheet-spec =
     tie.close
     (tie.spec
     open-sheet-requires
-    slice-aggregate-report
-    report-requires
     returns
     sheet-room-requires
     slice-aggregate-read-full
@@ -69,5 +61,5 @@ sheet-differs-spec =
     part-agrees-end
     agrees-requires
     returns-2
-    report-sheet-requires
+    difference-in-requires
     returns-3)
