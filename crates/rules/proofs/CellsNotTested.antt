@@ -20,7 +20,7 @@ use Rattle.section.specs.declared.Track.{Track}
 use Rattle.section.specs.declared.TrackStep.{TrackStep}
 use Rattle.section.specs.declared.Verdict.{Verdict}
 use Rattle.section.specs.declared.Verdict.the-variants.{Accepted, Refused}
-use Rattle.section.specs.Codec.{decoded-post-below}
+use Rattle.section.proofs.Codec.{decoded-post-below}
 use Rattle.section.specs.Numbers.{mostSeals, largestTrain}
 use Rattle.section.specs.Post.{blank}
 use Rattle.section.specs.Range.{sealsFit, numbersFit, trackFits, inRange}
