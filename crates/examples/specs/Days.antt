@@ -15,7 +15,7 @@ use Rattle.section.specs.Settings.{bit, noneFrom, isMaterialised, settingsRight
 use Rattle.section.specs.Step.{faultRight, numberRight, placeRight, fieldsRight, faultOf, stepOf, trackStepOf, fromFields, decoded}
 use Rattle.section.specs.Step.{kindOf, postOf, faultNumber, faultByte, numberOf, trackNumber, bytesOf, encoded}
 use Rattle.section.specs.Words.{refusalOf}
-use Rattle.rules.specs.Site.{stretchHolds, anyTrain, hasNumber, stretchEnds, watchedOccupied, occupancyAt}
+use Rattle.rules.specs.Site.{stretchHolds, anyTrain, hasNumber, stretchEnds, watchedOccupied, trainBefore, lastEntered, occupancyAt}
 use Rattle.rules.specs.Table.{checks, effect, trainsAfter, lastAfter, trackAfter}
 use Rattle.rules.specs.Judge.{verdictOf, answerOf, verdictOn, sectionAfter, judgeStep, judgeDecoded, judgeInRange, judge}
 
@@ -31,7 +31,7 @@ offeredAs day = map encoded day
 -- the answers to a day, 0 or the refusal; unfolded, judging computes
 unfoldable pub refusals : Section → List (List ℕ) → List ℕ
 unfolding judge judgeInRange judgeDecoded judgeStep sectionAfter verdictOn answerOf verdictOf refusalOf
-    checks effect trainsAfter lastAfter trackAfter stretchHolds anyTrain hasNumber stretchEnds watchedOccupied occupancyAt
+    checks effect trainsAfter lastAfter trackAfter stretchHolds anyTrain hasNumber stretchEnds watchedOccupied trainBefore lastEntered occupancyAt
     inRange trackFits walkFits actFits numbersFit sealsFit settingsRight noneFrom bit isMaterialised upward rank block isFirst isLast
     decoded fromFields trackStepOf stepOf faultOf fieldsRight placeRight numberRight faultRight pair within postOf numberOf
 refusals s [] = []
