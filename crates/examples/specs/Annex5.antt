@@ -4,7 +4,7 @@ use Prim.Native.Nat.{ℕ}
 use native.Mathlib.Omega.{arith}
 use mathlib.Core.Bool.{Bool, true, false}
 use mathlib.Core.Path.{_≡_, refl, ap}
-use mathlib.Core.List.{List, [], _∷_, map}
+use mathlib.Core.List.{List, [], _∷_}
 use lib.ListN.{getD, take}
 use Rattle.section.specs.declared.Settings.{Settings}
 use Rattle.section.specs.declared.Said.{Said}
@@ -16,11 +16,11 @@ use Rattle.section.specs.Settings.{settingsRight}
 use Rattle.section.specs.Step.{encoded}
 use Rattle.rules.specs.Demand3.{Taken, kind, stateAfter, acceptedSteps, underWay, NoTrainInReversal, Demand3}
 use Rattle.rules.proofs.Theorem.{demand3, newOrder}
-use Rattle.examples.specs.Days.{on, offeredAs, refusals, fresh}
+use Rattle.rules.proofs.Days.{A, materialised, fresh, stepOn, on, offeredAs, refusals}
 
 -- materialised, n = 3, mask 7
 unfoldable pub settings : Settings
-settings = record { posts = 3; form = 1; mask = 7; line = 1 }
+settings = materialised 3 7
 
 -- ## The day
 
@@ -32,7 +32,7 @@ steps =
 
 unfoldable pub day : List (List ℕ)
 unfolding steps offeredAs
-day = offeredAs (map (on false) steps)
+day = offeredAs (on A steps)
 
 -- two steps are refused with 13: the first order, with the train in the block section ahead, and the first set at post 1
 pub answers : refusals (fresh settings) day ≡ 0 ∷ 0 ∷ 0 ∷ 0 ∷ 13 ∷ 0 ∷ 0 ∷ 0 ∷ 0 ∷ 0 ∷ 13 ∷ 0 ∷ 0 ∷ 0 ∷ 0 ∷ 0 ∷ []
@@ -42,7 +42,7 @@ answers = refl
 -- ## Its accepted steps
 
 abbrev pub says : Said → Step → Taken
-says said x = record { bytes = encoded (on false x); said = said }
+says said x = record { bytes = encoded (stepOn A x); said = said }
 
 abbrev pub quiet : Step → Taken
 quiet x = says Nothing x

@@ -1,7 +1,6 @@
 -- The worked listing of document 01 ("The bench listing"), and the panel of the same day, byte for byte.
 use Prim.Native.Nat.{ℕ}
 use Prim.Native.String.{String}
-use mathlib.Core.Bool.{true, false}
 use mathlib.Core.Path.{_≡_, refl}
 use mathlib.Core.List.{List, [], _∷_, _++_}
 use Rattle.section.specs.declared.Settings.{Settings}
@@ -16,7 +15,7 @@ use Rattle.file_tests.specs.Tests.{lengthWrong, markRight, trailerRight, zerosR
 use Rattle.dayfile.specs.Answers.{refusalNumber}
 use Rattle.file_tests.specs.Tests.{firstMalformed, someMalformed}
 use Rattle.dayfile.specs.Answers.{readVerdict, readOf}
-use Rattle.examples.specs.Days.{on, offeredAs, refusals, fresh}
+use Rattle.rules.proofs.Days.{A, B, telephone, fresh, on, offeredAs, refusals}
 use Rattle.text.specs.Text.{ascii, digits, decimal}
 use Rattle.lines.specs.Text.{word, letter, trackLetter, inTurn}
 use Rattle.lines.specs.Lines.{refusedLine, header, verdictFields, fields, stepLine}
@@ -28,13 +27,13 @@ use Rattle.listing.specs.Panel.{panel}
 
 -- "n = 2, telephone, mask 3, line 1"
 unfoldable pub settings : Settings
-settings = record { posts = 2; form = 0; mask = 3; line = 1 }
+settings = telephone 2 3
 
 -- "measures on A0 and A1; on A: order 0, set 0, announce 0, acknowledge 1, set 1; order B1; start A1 train 2417; leave A0 train 2417"
 unfoldable pub steps : List TrackStep
 steps =
-    on false (MeasuresOn 0) ∷ on false (MeasuresOn 1) ∷ on false (Order 0) ∷ on false (Set 0) ∷ on false (Announce 0)
-    ∷ on false (Acknowledge 1) ∷ on false (Set 1) ∷ on true (Order 1) ∷ on false (Start 1 2417) ∷ on false (Leave 0 2417) ∷ []
+    on A (MeasuresOn 0 ∷ MeasuresOn 1 ∷ Order 0 ∷ Set 0 ∷ Announce 0 ∷ Acknowledge 1 ∷ Set 1 ∷ [])
+    ++ on B (Order 1 ∷ []) ++ on A (Start 1 2417 ∷ Leave 0 2417 ∷ [])
 
 -- texts one after another
 abbrev pub joined : List (List ℕ) → List ℕ

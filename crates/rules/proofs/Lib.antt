@@ -22,3 +22,5 @@ pub mod Sort
 pub mod Starts
 pub mod VoieOccupee
 pub mod Theorem
+pub mod Days
+pub mod Rows
