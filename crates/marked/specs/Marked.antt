@@ -13,7 +13,7 @@ use Rattle.file_tests.specs.Tests.{lengthWrong, markRight, trailerRight, zerosR
 use Rattle.dayfile.specs.Answers.{refusalNumber}
 use Rattle.file_tests.specs.Tests.{wellAt, leading, firstMalformed, someMalformed}
 use Rattle.dayfile.specs.Answers.{readVerdict, readOf}
-use Rattle.rules.proofs.Days.{A, telephone, materialised, fresh, changedPost, sealedTimes, on, offeredAs, refusals}
+use Rattle.rules.proofs.Days.{A, telephone, materialised, fresh, sealedAt, on, offeredAs, refusals}
 use Rattle.rules.proofs.Rows.{Row, _gives_, Holds}
 
 -- ## What is asked
@@ -37,15 +37,10 @@ unfoldable pub answer : Section → List Step → ℕ
 unfolding refusals offeredAs fresh
 answer s day = getD (refusals s (offeredAs (on A day))) (length day - 1) 0
 
--- a fresh section, but post 0 on A has this seal count
-unfoldable pub sealedSection : ℕ → Section
-unfolding fresh sealedTimes
-sealedSection count = changedPost A 0 (sealedTimes count) (fresh (telephone 3 7))
-
 -- ## The table
 
 unfoldable pub instances : List (Row ℕ)
-unfolding reading answer sealedSection
+unfolding reading answer sealedAt
 instances =
     -- (1) "an empty file gives 1"
     (reading [] gives 1)
@@ -69,8 +64,8 @@ instances =
     ∷ (answer (fresh (telephone 3 7)) (Start 0 1 ∷ Pass 1 1 ∷ Order 0 ∷ []) gives 13)
     ∷ (answer (fresh (materialised 3 7)) (Start 0 1 ∷ Pass 1 1 ∷ Order 0 ∷ []) gives 0)
     -- (10) "key at count 998 is accepted, at 999 gives 20"
-    ∷ (answer (sealedSection 998) (MeasuresOn 0 ∷ FaultOn 0 Two ∷ Order 0 ∷ Key 0 ∷ []) gives 0)
-    ∷ (answer (sealedSection 999) (MeasuresOn 0 ∷ FaultOn 0 Two ∷ Order 0 ∷ Key 0 ∷ []) gives 20)
+    ∷ (answer (sealedAt A 0 998 (fresh (telephone 3 7))) (MeasuresOn 0 ∷ FaultOn 0 Two ∷ Order 0 ∷ Key 0 ∷ []) gives 0)
+    ∷ (answer (sealedAt A 0 999 (fresh (telephone 3 7))) (MeasuresOn 0 ∷ FaultOn 0 Two ∷ Order 0 ∷ Key 0 ∷ []) gives 20)
     ∷ []
 
 pub marked-instances : Holds instances

@@ -1,10 +1,12 @@
 -- Days: steps offered one after another to a section, judged by the definitions of `rules`, by computation.
-use Prim.Native.Nat.{ℕ, zero, suc}
+use Prim.Native.Nat.{ℕ, zero, suc, _-_}
 use mathlib.Core.Bool.{Bool, true, false, cond}
 use mathlib.Core.List.{List, [], _∷_, _++_, map}
 use mathlib.Core.Option.{Option, none, some}
+use lib.ListN.{length, replicate}
 use Rattle.section.specs.declared.Settings.{Settings}
 use Rattle.section.specs.declared.Post.{Post}
+use Rattle.section.specs.declared.Walk.{Walk}
 use Rattle.section.specs.declared.Track.{Track}
 use Rattle.section.specs.declared.Section.{Section}
 use Rattle.section.specs.declared.Step.{Step}
@@ -15,6 +17,7 @@ use Rattle.section.specs.declared.Verdict.the-variants.{Accepted, Refused}
 use Rattle.section.specs.Bytes.{pair, within}
 use Rattle.section.specs.Fresh.{freshTrack, freshSection}
 use Rattle.section.specs.Geometry.{upward, rank, block, isFirst, isLast}
+use Rattle.section.specs.Numbers.{mostBlocks}
 use Rattle.section.specs.Post.{sealed}
 use Rattle.section.specs.Range.{sealsFit, numbersFit, actFits, walkFits, trackFits, inRange}
 use Rattle.section.specs.Settings.{bit, noneFrom, isMaterialised, settingsRight}
@@ -26,13 +29,19 @@ use Rattle.rules.specs.Site.{stretchHolds, anyTrain, hasNumber, stretchE
 use Rattle.rules.specs.Table.{checks, effect, trainsAfter, lastAfter, trackAfter}
 use Rattle.rules.specs.Judge.{verdictOf, answerOf, verdictOn, sectionAfter, judgeStep, judgeDecoded, judgeInRange, judge}
 
--- ## Tracks and sections
+-- ## Tracks, directions, lines
 
 abbrev pub A : Bool
 A = false
 
 abbrev pub B : Bool
 B = true
+
+abbrev pub VNS : Bool
+VNS = false
+
+abbrev pub CVT : Bool
+CVT = true
 
 -- n posts, with that mask; line 1
 abbrev pub telephone : ℕ → ℕ → Settings
@@ -45,16 +54,35 @@ unfoldable pub fresh : Settings → Section
 unfolding freshSection freshTrack
 fresh c = freshSection c
 
--- a section of which one track, or the record of one post, is changed: for a state that no short day reaches
+-- ## States that no short day reaches: "A state inside the ranges is judged by the table of steps, reachable or not."
+
+-- a section of which one track, or the record of one post, is changed
 abbrev pub changedTrack : Bool → (Track → Track) → Section → Section
 changedTrack track change s = withTrack s track (change (trackOf s track))
 
 abbrev pub changedPost : Bool → ℕ → (Post → Post) → Section → Section
 changedPost track p change s = changedTrack track (λ (t : Track). withPost t p (change (postOn t p))) s
 
+-- a track with that running direction and walk
+abbrev pub running : Bool → Walk → Track → Track
+running cvt walk t = record { posts = t .posts; trains = t .trains; last = t .last; cvt = cvt; walk = walk }
+
+-- the cells of block sections 0, 1 and so on; 0 in all the others
+abbrev pub cells : List ℕ → List ℕ
+cells numbers = numbers ++ replicate (mostBlocks - length numbers) 0
+
+-- a track with these trains in its block sections
+abbrev pub holding : List ℕ → Track → Track
+holding trains t = record { posts = t .posts; trains = cells trains; last = t .last; cvt = t .cvt; walk = t .walk }
+
 unfoldable pub sealedTimes : ℕ → Post → Post
 sealedTimes zero o = o
 sealedTimes (suc count) o = sealed (sealedTimes count o)
+
+-- a section in which a post has that many seals more
+unfoldable pub sealedAt : Bool → ℕ → ℕ → Section → Section
+unfolding sealedTimes
+sealedAt track p count s = changedPost track p (sealedTimes count) s
 
 -- ## Steps
 

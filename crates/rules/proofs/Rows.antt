@@ -1,5 +1,5 @@
--- Rows of a table: what the definitions give by computation, beside what document 01 says. A row of steps says which checks of the last step
--- fail, so that a check that no longer asks what the paper asks is seen.
+-- Rows of a table: what the definitions give, by computation, beside what document 01 says. A row of steps tells all checks of the last step
+-- that fail, so that one that refuses alone is known to.
 use Prim.Native.Nat.{ℕ, _-_}
 use mathlib.Core.Bool.{Bool, cond}
 use mathlib.Core.Path.{_≡_}
@@ -17,7 +17,7 @@ use Rattle.section.specs.declared.Verdict.the-variants.{Accepted, Refused}
 use Rattle.section.specs.Step.{encoded}
 use Rattle.rules.specs.Table.{Check, checks}
 use Rattle.rules.specs.Judge.{siteOf, occupancyOf, judge}
-use Rattle.rules.proofs.Days.{A, fresh, stepOn, offeredAs, refusals, after}
+use Rattle.rules.proofs.Days.{A, fresh, stepOn, reversal, reversalToCvt, offeredAs, refusals, after}
 
 -- ## Rows
 
@@ -58,8 +58,9 @@ judgedFrom s day =
     let earlier = length day - 1 in
     Option·map (judgedStep (getD day earlier (stepOn A (Order 0)))) (after s (take earlier day))
 
+-- from a fresh section
 unfoldable pub judged : Settings → List TrackStep → Option Judged
-unfolding judgedFrom fresh
+unfolding judgedFrom fresh reversal reversalToCvt
 judged c day = judgedFrom (fresh c) day
 
 -- no check fails, and this is said
@@ -81,6 +82,11 @@ k before later = some (record { verdict = Refused k; failing = k ∷ later })
 -- ## Rows of what a section keeps and shows
 
 -- of the section after a day all of whose steps are accepted
+unfoldable pub seenFrom : {X : Type 0} → (Section → X) → Section → List TrackStep → Option X
+unfolding after reversal reversalToCvt
+seenFrom look s day = Option·map look (after s day)
+
+-- from a fresh section
 unfoldable pub seen : {X : Type 0} → (Section → X) → Settings → List TrackStep → Option X
-unfolding after fresh
-seen look c day = Option·map look (after (fresh c) day)
+unfolding seenFrom fresh
+seen look c day = seenFrom look (fresh c) day
