@@ -12,7 +12,7 @@ use Rattle.section.specs.Settings.{settingsRight}
 use Rattle.section.specs.Step.{kindOf, bytesOf, encoded}
 use Rattle.rules.specs.Demand3.{Taken, kind, stateAfter, acceptedSteps, underWay, NoTrainInReversal, Demand3}
 use Rattle.rules.proofs.Theorem.{demand3, newOrder}
-use Rattle.examples.specs.Days.{offeredAs, refusals, fresh}
+use Rattle.rules.proofs.Days.{offeredAs, refusals, fresh}
 use Rattle.examples.specs.Annex5.{settings, steps, day, answers, quiet, accepted, reordered}
 
 -- unfolded, the day computes

@@ -1,8 +1,7 @@
 -- Annex 5 of Title X, which needs the new order of demand 3: a train is still on the track when the reversal begins. What is shown of the day is
 -- proved in proofs/Annex5.antt.
 use Prim.Native.Nat.{ℕ}
-use mathlib.Core.Bool.{false}
-use mathlib.Core.List.{List, [], _∷_, map}
+use mathlib.Core.List.{List, [], _∷_}
 use Rattle.section.specs.declared.Settings.{Settings}
 use Rattle.section.specs.declared.Said.{Said}
 use Rattle.section.specs.declared.Said.the-variants.{Nothing, Cvt, Cvtz}
@@ -10,11 +9,11 @@ use Rattle.section.specs.declared.Step.{Step}
 use Rattle.section.specs.declared.Step.the-variants.{Order, Set, Announce, Acknowledge, Start, Pass, Leave, MeasuresOn}
 use Rattle.section.specs.Step.{encoded}
 use Rattle.rules.specs.Demand3.{Taken}
-use Rattle.examples.specs.Days.{on, offeredAs}
+use Rattle.rules.proofs.Days.{A, materialised, stepOn, on, offeredAs}
 
 -- materialised, n = 3, mask 7
 unfoldable pub settings : Settings
-settings = record { posts = 3; form = 1; mask = 7; line = 1 }
+settings = materialised 3 7
 
 -- with the measures on first, which set to CVT asks for; all of it on track A
 unfoldable pub steps : List Step
@@ -23,14 +22,14 @@ steps =
     ∷ Leave 2 2410 ∷ Set 1 ∷ Announce 1 ∷ Acknowledge 2 ∷ Set 2 ∷ []
 
 unfoldable pub day : List (List ℕ)
-day = offeredAs (map (on false) steps)
+day = offeredAs (on A steps)
 
 -- two steps are refused with 13: the first order, with the train in the block section ahead, and the first set at post 1
 unfoldable pub answers : List ℕ
 answers = 0 ∷ 0 ∷ 0 ∷ 0 ∷ 13 ∷ 0 ∷ 0 ∷ 0 ∷ 0 ∷ 0 ∷ 13 ∷ 0 ∷ 0 ∷ 0 ∷ 0 ∷ 0 ∷ []
 
 abbrev pub says : Said → Step → Taken
-says said x = record { bytes = encoded (on false x); said = said }
+says said x = record { bytes = encoded (stepOn A x); said = said }
 
 abbrev pub quiet : Step → Taken
 quiet x = says Nothing x

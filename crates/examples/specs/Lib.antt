@@ -1,3 +1,2 @@
-pub mod Days
 pub mod PlainReversal
 pub mod Annex5

@@ -3,36 +3,23 @@
 use Prim.Native.Nat.{ℕ, zero, suc, _-_, _^_}
 use mathlib.Core.Bool.{Bool, true, false, cond, _&&_, Bool·beq}
 use mathlib.Core.List.{List, [], _∷_, _++_}
-use Rattle.section.specs.declared.Settings.{Settings}
-use Rattle.section.specs.declared.Step.the-variants.{Order, Set, Announce, Acknowledge, MeasuresOn}
+use mathlib.Core.Option.{Option, none, some}
 use Rattle.section.specs.declared.Track.{Track}
+use Rattle.section.specs.declared.Section.{Section}
 use Rattle.section.specs.declared.TrackStep.{TrackStep}
 use Rattle.section.specs.Geometry.{upward, rank}
 use Rattle.section.specs.Store.{trackOf, postOn}
 use Rattle.rules.specs.Site.{isSettled}
-use Rattle.rules.specs.Demand3.{stateAfter}
-use Rattle.examples.specs.Days.{on, offeredAs, refusals, allZero, fresh}
+use Rattle.rules.proofs.Days.{telephone, fresh, on, reversal, reversalToCvt, after}
 
--- n posts, all signalled, telephone form
-unfoldable pub lineOf : ℕ → Settings
-lineOf n = record { posts = n; form = 0; mask = 2 ^ n - 1; line = 1 }
+-- n posts, all signalled
+abbrev pub allSignalled : ℕ → ℕ
+allSignalled n = 2 ^ n - 1
 
-module _ (track : Bool) where
-  -- measures on at posts 0 to m−1
-  unfoldable pub measuresOn : ℕ → List TrackStep
-  measuresOn zero = []
-  measuresOn (suc m) = on track (MeasuresOn m) ∷ measuresOn m
-
-  -- "set, announce, acknowledge at the next post, set there, and so on; the last post only sets": from the post of rank j, m posts before
-  -- the last
-  unfoldable pub turns : (ℕ → ℕ) → ℕ → ℕ → List TrackStep
-  turns post j zero = on track (Set (post j)) ∷ []
-  turns post j (suc m) =
-      on track (Set (post j)) ∷ on track (Announce (post j)) ∷ on track (Acknowledge (post (suc j))) ∷ turns post (suc j) m
-
-  -- on a line of n posts, from this running direction
-  unfoldable pub plainReversal : ℕ → Bool → List TrackStep
-  plainReversal n cvt = on track (Order (rank n (upward track cvt) 0)) ∷ turns (rank n (upward track cvt)) 0 (n - 1)
+-- the posts of rank j, j + 1 and so on, m of them
+unfoldable pub postsFrom : (ℕ → ℕ) → ℕ → ℕ → List ℕ
+postsFrom post j zero = []
+postsFrom post j (suc m) = post j ∷ postsFrom post (suc j) m
 
 -- what is asked: the number of posts, the track, and the direction that the last reversal is to
 pub record Reversal : Type 0 where
@@ -40,21 +27,26 @@ pub record Reversal : Type 0 where
   pub track : Bool
   pub cvt : Bool
 
--- to CVT from fresh, with the measures on first; to VNS after that
+-- the posts from the sending end of that running direction to the other end
+unfoldable pub walked : Reversal → Bool → List ℕ
+walked r cvt = postsFrom (rank (r .posts) (upward (r .track) cvt)) 0 (r .posts)
+
+-- to CVT from fresh; to VNS after that
 unfoldable pub dayOf : Reversal → List TrackStep
-dayOf r =
-    measuresOn (r .track) (r .posts) ++ plainReversal (r .track) (r .posts) false
-    ++ cond (r .cvt) [] (plainReversal (r .track) (r .posts) true)
+dayOf r = on (r .track) (reversalToCvt (walked r false) ++ cond (r .cvt) [] (reversal (walked r true)))
 
 -- the track ends settled on the direction, with permission at its sending end
-unfoldable pub endsOn : ℕ → Bool → Bool → Track → Bool
-endsOn n track cvt t = isSettled (t .walk) && (Bool·beq (t .cvt) cvt && postOn t (rank n (upward track cvt) 0) .permission)
+unfoldable pub endsOn : Reversal → Track → Bool
+endsOn r t =
+    isSettled (t .walk) && (Bool·beq (t .cvt) (r .cvt) && postOn t (rank (r .posts) (upward (r .track) (r .cvt)) 0) .permission)
+
+-- every step is accepted
+unfoldable pub endsWell : Reversal → Option Section → Bool
+endsWell r none = false
+endsWell r (some s) = endsOn r (trackOf s (r .track))
 
 unfoldable pub completes : Reversal → Bool
-completes r =
-    let day = offeredAs (dayOf r) in
-    allZero (refusals (fresh (lineOf (r .posts))) day)
-    && endsOn (r .posts) (r .track) (r .cvt) (trackOf (stateAfter (fresh (lineOf (r .posts))) day) (r .track))
+completes r = endsWell r (after (fresh (telephone (r .posts) (allSignalled (r .posts)))) (dayOf r))
 
 unfoldable pub allComplete : List Reversal → Bool
 allComplete [] = true

@@ -9,7 +9,7 @@ use Rattle.layout.specs.Layout.{pairBytes, four, fourBytes, fourAt, settingsByt
 use Rattle.layout.specs.Layout.{settingsOf, stepAt}
 use Rattle.file_tests.specs.Tests.{lengthWrong, markRight, trailerRight, zerosRight, settingsBytesRight, wellAt, leading, firstMalformed, someMalformed}
 use Rattle.dayfile.specs.Answers.{refusalNumber, readVerdict, readOf}
-use Rattle.examples.specs.Days.{offeredAs, refusals, fresh}
+use Rattle.rules.proofs.Days.{offeredAs, refusals, fresh}
 use Rattle.text.specs.Text.{decimalDigits, decimal}
 use Rattle.lines.specs.Text.{word, letter, trackLetter, inTurn}
 use Rattle.lines.specs.Lines.{refusedLine, header, verdictFields, fields, stepLine}

@@ -2,26 +2,25 @@
 -- proved in proofs/Worked.antt.
 use Prim.Native.Nat.{ℕ}
 use Prim.Native.String.{String}
-use mathlib.Core.Bool.{true, false}
 use mathlib.Core.List.{List, [], _∷_, _++_}
 use Rattle.section.specs.declared.Settings.{Settings}
 use Rattle.section.specs.declared.TrackStep.{TrackStep}
 use Rattle.section.specs.declared.Step.the-variants.{Order, Set, Announce, Acknowledge, Start, Leave, MeasuresOn}
 use Rattle.layout.specs.Layout.{fileOf}
-use Rattle.examples.specs.Days.{on, offeredAs}
+use Rattle.rules.proofs.Days.{A, B, telephone, on, offeredAs}
 use Rattle.text.specs.Text.{ascii}
 
 -- ## The day
 
 -- "n = 2, telephone, mask 3, line 1"
 unfoldable pub settings : Settings
-settings = record { posts = 2; form = 0; mask = 3; line = 1 }
+settings = telephone 2 3
 
 -- "measures on A0 and A1; on A: order 0, set 0, announce 0, acknowledge 1, set 1; order B1; start A1 train 2417; leave A0 train 2417"
 unfoldable pub steps : List TrackStep
 steps =
-    on false (MeasuresOn 0) ∷ on false (MeasuresOn 1) ∷ on false (Order 0) ∷ on false (Set 0) ∷ on false (Announce 0)
-    ∷ on false (Acknowledge 1) ∷ on false (Set 1) ∷ on true (Order 1) ∷ on false (Start 1 2417) ∷ on false (Leave 0 2417) ∷ []
+    on A (MeasuresOn 0 ∷ MeasuresOn 1 ∷ Order 0 ∷ Set 0 ∷ Announce 0 ∷ Acknowledge 1 ∷ Set 1 ∷ [])
+    ++ on B (Order 1 ∷ []) ++ on A (Start 1 2417 ∷ Leave 0 2417 ∷ [])
 
 -- byte strings one after another
 abbrev pub joined : List (List ℕ) → List ℕ

@@ -1,19 +1,14 @@
 -- The ten marked instances of document 01 ("Marked instances"), as one table. `marked-instances` (proofs/Marked.antt) proves it.
-use Prim.Native.Nat.{ℕ, zero, suc, _-_}
-use mathlib.Core.Bool.{false}
-use mathlib.Core.Path.{_≡_}
-use mathlib.Core.List.{List, [], _∷_, map}
+use Prim.Native.Nat.{ℕ, _-_}
+use mathlib.Core.List.{List, [], _∷_}
 use lib.ListN.{length, getD}
 use Rattle.section.specs.declared.Fault.the-variants.{Two}
-use Rattle.section.specs.declared.Post.{Post}
-use Rattle.section.specs.declared.Settings.{Settings}
 use Rattle.section.specs.declared.Section.{Section}
 use Rattle.section.specs.declared.Step.{Step}
 use Rattle.section.specs.declared.Step.the-variants.{Order, Set, Start, Pass, MeasuresOn, FaultOn, Key}
-use Rattle.section.specs.Post.{sealed}
-use Rattle.section.specs.Store.{postOn, withPost, withTrack}
 use Rattle.dayfile.specs.Answers.{refusalNumber, readOf}
-use Rattle.examples.specs.Days.{on, offeredAs, refusals, fresh}
+use Rattle.rules.proofs.Days.{A, telephone, materialised, fresh, sealedAt, on, offeredAs, refusals}
+use Rattle.rules.proofs.Rows.{Row, _gives_}
 
 -- ## What is asked
 
@@ -29,42 +24,13 @@ trailerOfNone = 66 ∷ 83 ∷ 82 ∷ 49 ∷ 24 ∷ 0 ∷ 0 ∷ 0 ∷ 24 ∷ 0 �
 abbrev pub dayOfNone : ℕ → ℕ → ℕ → List ℕ
 dayOfNone n low high = n ∷ 0 ∷ low ∷ high ∷ 1 ∷ 0 ∷ 0 ∷ 0 ∷ trailerOfNone
 
--- n = 3, mask 7
-abbrev pub line : ℕ → Settings
-line form = record { posts = 3; form = form; mask = 7; line = 1 }
-
-abbrev pub telephone : ℕ
-telephone = 0
-
-abbrev pub materialised : ℕ
-materialised = 1
-
 -- steps on track A offered one after another: what the last one is answered, 0 or the refusal
 unfoldable pub answer : Section → List Step → ℕ
-answer s day = getD (refusals s (offeredAs (map (on false) day))) (length day - 1) 0
-
-unfoldable pub sealedTimes : ℕ → Post → Post
-sealedTimes zero o = o
-sealedTimes (suc count) o = sealed (sealedTimes count o)
-
--- a fresh section, but post 0 on A has this seal count
-unfoldable pub sealedSection : ℕ → Section
-sealedSection count =
-    let s = fresh (line telephone) in
-    withTrack s false (withPost (s .a) 0 (sealedTimes count (postOn (s .a) 0)))
+answer s day = getD (refusals s (offeredAs (on A day))) (length day - 1) 0
 
 -- ## The table
 
--- an instance: what the definitions give, and what the paper says
-pub record Instance : Type 0 where
-  pub given : ℕ
-  pub paper : ℕ
-
-infix 20 _gives_
-abbrev pub _gives_ : ℕ → ℕ → Instance
-asked gives number = record { given = asked; paper = number }
-
-unfoldable pub instances : List Instance
+unfoldable pub instances : List (Row ℕ)
 instances =
     -- (1) "an empty file gives 1"
     (reading [] gives 1)
@@ -74,24 +40,20 @@ instances =
     -- (3) "n = 17 gives 3"
     ∷ (reading (dayOfNone 17 255 255) gives 3)
     -- (4) "number 9,999 starts, 10,000 gives 4"
-    ∷ (answer (fresh (line telephone)) (Start 0 9999 ∷ []) gives 0)
-    ∷ (answer (fresh (line telephone)) (Start 0 10000 ∷ []) gives 4)
+    ∷ (answer (fresh (telephone 3 7)) (Start 0 9999 ∷ []) gives 0)
+    ∷ (answer (fresh (telephone 3 7)) (Start 0 10000 ∷ []) gives 4)
     -- (5) "a second start before the first train passes gives 13"
-    ∷ (answer (fresh (line telephone)) (Start 0 1 ∷ Start 0 2 ∷ []) gives 13)
+    ∷ (answer (fresh (telephone 3 7)) (Start 0 1 ∷ Start 0 2 ∷ []) gives 13)
     -- (6) "that start with the first train's number gives 17"
-    ∷ (answer (fresh (line telephone)) (Start 0 1 ∷ Start 0 1 ∷ []) gives 17)
+    ∷ (answer (fresh (telephone 3 7)) (Start 0 1 ∷ Start 0 1 ∷ []) gives 17)
     -- (7) "order by post 1 on fresh A gives 12"
-    ∷ (answer (fresh (line telephone)) (Order 1 ∷ []) gives 12)
+    ∷ (answer (fresh (telephone 3 7)) (Order 1 ∷ []) gives 12)
     -- (8) "set to CVT without measures gives 16"
-    ∷ (answer (fresh (line telephone)) (Order 0 ∷ Set 0 ∷ []) gives 16)
+    ∷ (answer (fresh (telephone 3 7)) (Order 0 ∷ Set 0 ∷ []) gives 16)
     -- (9) "n = 3, mask 7, train in block section 1 of A: order gives 13 by telephone, is accepted when materialised"
-    ∷ (answer (fresh (line telephone)) (Start 0 1 ∷ Pass 1 1 ∷ Order 0 ∷ []) gives 13)
-    ∷ (answer (fresh (line materialised)) (Start 0 1 ∷ Pass 1 1 ∷ Order 0 ∷ []) gives 0)
+    ∷ (answer (fresh (telephone 3 7)) (Start 0 1 ∷ Pass 1 1 ∷ Order 0 ∷ []) gives 13)
+    ∷ (answer (fresh (materialised 3 7)) (Start 0 1 ∷ Pass 1 1 ∷ Order 0 ∷ []) gives 0)
     -- (10) "key at count 998 is accepted, at 999 gives 20"
-    ∷ (answer (sealedSection 998) (MeasuresOn 0 ∷ FaultOn 0 Two ∷ Order 0 ∷ Key 0 ∷ []) gives 0)
-    ∷ (answer (sealedSection 999) (MeasuresOn 0 ∷ FaultOn 0 Two ∷ Order 0 ∷ Key 0 ∷ []) gives 20)
+    ∷ (answer (sealedAt A 0 998 (fresh (telephone 3 7))) (MeasuresOn 0 ∷ FaultOn 0 Two ∷ Order 0 ∷ Key 0 ∷ []) gives 0)
+    ∷ (answer (sealedAt A 0 999 (fresh (telephone 3 7))) (MeasuresOn 0 ∷ FaultOn 0 Two ∷ Order 0 ∷ Key 0 ∷ []) gives 20)
     ∷ []
-
--- every instance gives what the paper says
-abbrev pub GivesWhatThePaperSays : List Instance → Type 0
-GivesWhatThePaperSays table = map (λ (i : Instance). i .given) table ≡ map (λ (i : Instance). i .paper) table

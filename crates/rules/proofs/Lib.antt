@@ -24,3 +24,13 @@ pub mod Sort
 pub mod Starts
 pub mod VoieOccupee
 pub mod Theorem
+pub mod Days
+pub mod Rows
+pub mod ReversalExamples
+pub mod TrainExamples
+pub mod ConditionExamples
+pub mod EmergencyExamples
+pub mod StateExamples
+pub mod IndicationExamples
+pub mod OfferedExamples
+pub mod ChecksColumn

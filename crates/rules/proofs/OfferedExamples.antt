@@ -1,0 +1,62 @@
+-- Examples of what the engine tests before the table: 6, the state handed in, and then 4, the bytes offered.
+use Prim.Native.Nat.{ℕ}
+use mathlib.Core.Path.{refl}
+use mathlib.Core.List.{List, [], _∷_}
+use Rattle.section.specs.declared.Act.the-variants as act
+use Rattle.section.specs.declared.Walk.the-variants.{Turn}
+use Rattle.section.specs.declared.Section.{Section}
+use Rattle.rules.proofs.Days.{A, B, VNS, telephone, fresh, changedTrack, running, holding, sealedAt, refusals}
+use Rattle.rules.proofs.Rows.{_gives_, Holds}
+
+-- one byte string offered to a section: 0 or the refusal
+unfoldable pub answerTo : Section → List ℕ → List ℕ
+unfolding refusals fresh sealedAt
+answerTo s bytes = refusals s (bytes ∷ [])
+
+-- order by post 0 of A, and its bytes with kind 14
+abbrev pub orderA0 : List ℕ
+orderA0 = 1 ∷ 0 ∷ 0 ∷ 0 ∷ 0 ∷ 0 ∷ 0 ∷ 0 ∷ []
+
+abbrev pub kind14 : List ℕ
+kind14 = 14 ∷ 0 ∷ 0 ∷ 0 ∷ 0 ∷ 0 ∷ 0 ∷ 0 ∷ []
+
+-- 4: "a step outside the above. A single step offered to the engine is tested alike."
+pub malformed-refused-4 :
+    Holds
+    ((answerTo (fresh (telephone 3 7)) orderA0 gives 0 ∷ [])
+    ∷ (answerTo (fresh (telephone 3 7)) kind14 gives 4 ∷ [])
+    ∷ (answerTo (fresh (telephone 3 7)) [] gives 4 ∷ [])
+    ∷ (answerTo (fresh (telephone 3 7)) (1 ∷ 0 ∷ 0 ∷ 0 ∷ 0 ∷ 0 ∷ 0 ∷ []) gives 4 ∷ [])
+    -- track 2, post 3 of three, a fault in an order, bytes 6–7
+    ∷ (answerTo (fresh (telephone 3 7)) (1 ∷ 2 ∷ 0 ∷ 0 ∷ 0 ∷ 0 ∷ 0 ∷ 0 ∷ []) gives 4 ∷ [])
+    ∷ (answerTo (fresh (telephone 3 7)) (1 ∷ 0 ∷ 3 ∷ 0 ∷ 0 ∷ 0 ∷ 0 ∷ 0 ∷ []) gives 4 ∷ [])
+    ∷ (answerTo (fresh (telephone 3 7)) (1 ∷ 0 ∷ 0 ∷ 1 ∷ 0 ∷ 0 ∷ 0 ∷ 0 ∷ []) gives 4 ∷ [])
+    ∷ (answerTo (fresh (telephone 3 7)) (1 ∷ 0 ∷ 0 ∷ 0 ∷ 0 ∷ 0 ∷ 0 ∷ 1 ∷ []) gives 4 ∷ [])
+    -- start of 9,999 = 15 + 39 × 256, of 10,000, and of 0
+    ∷ (answerTo (fresh (telephone 3 7)) (5 ∷ 0 ∷ 0 ∷ 0 ∷ 15 ∷ 39 ∷ 0 ∷ 0 ∷ []) gives 0 ∷ [])
+    ∷ (answerTo (fresh (telephone 3 7)) (5 ∷ 0 ∷ 0 ∷ 0 ∷ 16 ∷ 39 ∷ 0 ∷ 0 ∷ []) gives 4 ∷ [])
+    ∷ (answerTo (fresh (telephone 3 7)) (5 ∷ 0 ∷ 0 ∷ 0 ∷ 0 ∷ 0 ∷ 0 ∷ 0 ∷ []) gives 4 ∷ [])
+    ∷ [])
+unfolding answerTo
+malformed-refused-4 = refl
+
+-- 6: "engine only, before 4: the state handed in has settings or a field outside its range"
+pub out-of-range-refused-6 :
+    Holds
+    -- the end post 2 not signalled, a seal count of 1,000, a train 10,000, post 3 of three in turn, the last post to announce
+    ((answerTo (fresh (telephone 3 3)) orderA0 gives 6 ∷ [])
+    ∷ (answerTo (sealedAt B 1 1000 (fresh (telephone 3 7))) orderA0 gives 6 ∷ [])
+    ∷ (answerTo (changedTrack B (holding (0 ∷ 10000 ∷ [])) (fresh (telephone 3 7))) orderA0 gives 6 ∷ [])
+    ∷ (answerTo (changedTrack B (running VNS (Turn 3 act.Set)) (fresh (telephone 3 7))) orderA0 gives 6 ∷ [])
+    ∷ (answerTo (changedTrack B (running VNS (Turn 0 act.Announce)) (fresh (telephone 3 7))) orderA0 gives 6 ∷ [])
+    -- before 4
+    ∷ (answerTo (fresh (telephone 3 3)) kind14 gives 6 ∷ [])
+    ∷ (answerTo (fresh (telephone 3 3)) [] gives 6 ∷ [])
+    -- "Cells past post n−1 or block section n−2 are neither tested nor changed."
+    ∷ (answerTo (sealedAt A 3 1000 (fresh (telephone 3 7))) orderA0 gives 0 ∷ [])
+    ∷ (answerTo (changedTrack A (holding (0 ∷ 0 ∷ 10000 ∷ [])) (fresh (telephone 3 7))) orderA0 gives 0 ∷ [])
+    -- "A state inside the ranges is judged by the table of steps, reachable or not."
+    ∷ (answerTo (changedTrack B (running VNS (Turn 0 act.Acknowledge)) (fresh (telephone 3 7))) orderA0 gives 14 ∷ [])
+    ∷ [])
+unfolding answerTo
+out-of-range-refused-6 = refl

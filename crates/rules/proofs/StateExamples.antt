@@ -1,0 +1,229 @@
+-- Examples of what accepted steps leave: the whole record of a post, and what the track keeps beside its posts.
+use Prim.Native.Nat.{ℕ}
+use mathlib.Core.Bool.{Bool, true}
+use mathlib.Core.Path.{refl}
+use mathlib.Core.List.{List, [], _∷_, _++_}
+use mathlib.Core.Option.{Option, some}
+use Rattle.section.specs.declared.Settings.{Settings}
+use Rattle.section.specs.declared.Post.{Post}
+use Rattle.section.specs.declared.Act.the-variants as act
+use Rattle.section.specs.declared.Walk.{Walk}
+use Rattle.section.specs.declared.Walk.the-variants.{Settled, Turn}
+use Rattle.section.specs.declared.Section.{Section}
+use Rattle.section.specs.declared.TrackStep.{TrackStep}
+use Rattle.section.specs.declared.Fault.the-variants.{One, Two, Three}
+use Rattle.section.specs.declared.Step.the-variants.{Order, Set, Announce, Acknowledge, Start, Pass, Leave, MeasuresOn, MeasuresOff}
+use Rattle.section.specs.declared.Step.the-variants.{FaultOn, FaultOff, Release, Key}
+use Rattle.section.specs.Post.{blank, turned, permitted, measured, faulty, marked, sealed}
+use Rattle.section.specs.Store.{trackOf, postOn}
+use Rattle.rules.proofs.Days.{A, B, VNS, CVT, telephone, materialised, fresh, changedPost, cells, on, reversal, reversalToCvt}
+use Rattle.rules.proofs.Rows.{_gives_, Holds, seenFrom, seen}
+use Rattle.rules.proofs.TrainExamples.{twoInOneStretch}
+
+-- ## What a post keeps
+
+abbrev pub ownOf : Bool → ℕ → Section → Post
+ownOf track p s = postOn (trackOf s track) p
+
+abbrev pub postAfter : Settings → List TrackStep → Bool → ℕ → Option Post
+postAfter c day track p = seen (ownOf track p) c day
+
+-- "permission gone" at the order
+pub order-takes-the-permission :
+    Holds
+    ((postAfter (telephone 2 3) [] A 0 gives some (permitted true blank))
+    ∷ (postAfter (telephone 2 3) (on A (Order 0 ∷ [])) A 0 gives some blank)
+    ∷ (postAfter (materialised 3 7) [] B 2 gives some (permitted true blank))
+    ∷ (postAfter (materialised 3 7) (on B (Order 2 ∷ [])) B 2 gives some blank)
+    -- that of the other track stays
+    ∷ (postAfter (materialised 3 7) (on B (Order 2 ∷ [])) A 0 gives some (permitted true blank))
+    ∷ [])
+unfolding seen
+order-takes-the-permission = refl
+
+-- "The running direction changes, and the last post gets permission, at that last set": not at the acknowledgement
+pub last-set-gives-the-permission :
+    Holds
+    ((postAfter (telephone 2 3) (on A (MeasuresOn 0 ∷ Order 0 ∷ Set 0 ∷ Announce 0 ∷ Acknowledge 1 ∷ [])) A 1 gives some blank)
+    ∷ (postAfter (telephone 2 3) (on A (reversalToCvt (0 ∷ 1 ∷ []))) A 1 gives some (permitted true (turned CVT (measured true blank))))
+    ∷ (postAfter (telephone 2 3) (on A (reversalToCvt (0 ∷ 1 ∷ []))) A 0 gives some (turned CVT (measured true blank)))
+    ∷ (postAfter (materialised 3 7) (on B (reversalToCvt (2 ∷ 1 ∷ 0 ∷ []))) B 1 gives some (turned CVT (measured true blank)))
+    ∷ (postAfter (materialised 3 7) (on B (reversalToCvt (2 ∷ 1 ∷ 0 ∷ []))) B 0 gives some (permitted true (turned CVT (measured true blank))))
+    ∷ [])
+unfolding seen
+last-set-gives-the-permission = refl
+
+-- "device turned": to CVT and back to VNS
+pub set-turns-the-device :
+    Holds
+    ((postAfter (telephone 2 3) (on A (MeasuresOn 0 ∷ Order 0 ∷ Set 0 ∷ [])) A 0 gives some (turned CVT (measured true blank)))
+    ∷ (postAfter (telephone 2 3) (on A (reversalToCvt (0 ∷ 1 ∷ []) ++ Order 1 ∷ Set 1 ∷ [])) A 1 gives some (measured true blank))
+    ∷ (postAfter (telephone 2 3) (on A (reversalToCvt (0 ∷ 1 ∷ []) ++ reversal (1 ∷ 0 ∷ []))) A 0 gives some (permitted true (measured true blank)))
+    -- the order, announce and acknowledge do not
+    ∷ (postAfter (telephone 2 3) (on A (MeasuresOn 0 ∷ Order 0 ∷ [])) A 0 gives some (measured true blank))
+    ∷ (postAfter (telephone 2 3) (on B (MeasuresOn 1 ∷ Order 1 ∷ Set 1 ∷ Announce 1 ∷ Acknowledge 0 ∷ [])) B 0 gives some blank)
+    ∷ [])
+unfolding seen
+set-turns-the-device = refl
+
+-- "release mark": release makes it, whatever else the post keeps
+pub release-makes-the-mark :
+    Holds
+    ((postAfter (telephone 2 3) (on A (FaultOn 0 One ∷ Release 0 0 ∷ [])) A 0 gives some (marked true (faulty One true (permitted true blank))))
+    ∷ (postAfter (materialised 3 7) (on B (FaultOn 2 One ∷ Order 2 ∷ Release 2 0 ∷ [])) B 2 gives some (marked true (faulty One true blank)))
+    ∷ [])
+unfolding seen
+release-makes-the-mark = refl
+
+-- "release mark gone" at set and key; "mark gone" at start; "for fault 1 the mark too"
+pub mark-taken :
+    Holds
+    ((postAfter (telephone 2 3) (on A (MeasuresOn 0 ∷ FaultOn 0 One ∷ Order 0 ∷ Release 0 0 ∷ Set 0 ∷ [])) A 0
+    gives some (turned CVT (faulty One true (measured true blank))))
+    ∷ (postAfter (telephone 2 3) (on B (MeasuresOn 1 ∷ FaultOn 1 One ∷ FaultOn 1 Two ∷ Order 1 ∷ Release 1 0 ∷ Key 1 ∷ [])) B 1
+    gives some (sealed (turned CVT (faulty Two true (faulty One true (measured true blank))))))
+    ∷ (postAfter (telephone 2 3) (on A (FaultOn 0 One ∷ Release 0 0 ∷ Start 0 7 ∷ [])) A 0 gives some (faulty One true (permitted true blank)))
+    ∷ (postAfter (telephone 2 3) (on B (FaultOn 1 One ∷ Release 1 0 ∷ FaultOff 1 One ∷ [])) B 1 gives some (permitted true blank))
+    ∷ [])
+unfolding seen
+mark-taken = refl
+
+-- a mark at post 1, which the train passes: no day reaches it
+unfoldable pub markedAtOne : Section
+unfolding fresh
+markedAtOne = changedPost A 1 (marked true) (fresh (telephone 3 7))
+
+-- order, pass, leave and the end of another fault leave the mark
+pub mark-left :
+    Holds
+    ((postAfter (telephone 2 3) (on A (FaultOn 0 One ∷ Release 0 0 ∷ Order 0 ∷ [])) A 0 gives some (marked true (faulty One true blank)))
+    ∷ (seenFrom (ownOf A 1) markedAtOne (on A (Start 0 7 ∷ Pass 1 7 ∷ Leave 2 7 ∷ [])) gives some (marked true blank))
+    ∷ (postAfter (telephone 2 3) (on B (FaultOn 1 Two ∷ FaultOn 1 One ∷ Release 1 0 ∷ FaultOff 1 Two ∷ [])) B 1
+    gives some (marked true (faulty One true (permitted true blank))))
+    ∷ (postAfter (telephone 2 3) (on B (FaultOn 1 Three ∷ FaultOn 1 One ∷ Release 1 0 ∷ FaultOff 1 Three ∷ [])) B 1
+    gives some (marked true (faulty One true (permitted true blank))))
+    ∷ [])
+unfolding seen markedAtOne
+mark-left = refl
+
+-- key: "as set, seal count one more"; the fault stays
+pub key-adds-a-seal :
+    Holds
+    ((postAfter (telephone 2 3) (on A (MeasuresOn 0 ∷ FaultOn 0 Two ∷ Order 0 ∷ Key 0 ∷ [])) A 0
+    gives some (sealed (turned CVT (faulty Two true (measured true blank)))))
+    -- the last post, and then back: two seals
+    ∷ (postAfter (materialised 2 3)
+    (on B (MeasuresOn 1 ∷ MeasuresOn 0 ∷ FaultOn 0 Two ∷ Order 1 ∷ Set 1 ∷ Announce 1 ∷ Acknowledge 0 ∷ Key 0 ∷ [])) B 0
+    gives some (permitted true (sealed (turned CVT (faulty Two true (measured true blank))))))
+    ∷ (postAfter (materialised 2 3)
+    (on B (MeasuresOn 1 ∷ MeasuresOn 0 ∷ FaultOn 0 Two ∷ Order 1 ∷ Set 1 ∷ Announce 1 ∷ Acknowledge 0 ∷ Key 0 ∷ Order 0 ∷ Key 0 ∷ [])) B 0
+    gives some (sealed (sealed (faulty Two true (measured true blank)))))
+    ∷ [])
+unfolding seen
+key-adds-a-seal = refl
+
+-- measures "in place" and "lifted", "fault stands" and "fault gone"
+pub conditions-kept :
+    Holds
+    ((postAfter (telephone 2 3) (on A (MeasuresOn 1 ∷ [])) A 1 gives some (measured true blank))
+    ∷ (postAfter (telephone 2 3) (on A (MeasuresOn 1 ∷ MeasuresOff 1 ∷ [])) A 1 gives some blank)
+    ∷ (postAfter (telephone 3 7) (on B (FaultOn 1 One ∷ [])) B 1 gives some (faulty One true blank))
+    ∷ (postAfter (telephone 3 7) (on B (FaultOn 1 Two ∷ [])) B 1 gives some (faulty Two true blank))
+    ∷ (postAfter (telephone 3 7) (on B (FaultOn 1 Three ∷ [])) B 1 gives some (faulty Three true blank))
+    ∷ (postAfter (telephone 3 7) (on B (FaultOn 1 One ∷ FaultOn 1 Two ∷ FaultOn 1 Three ∷ FaultOff 1 One ∷ [])) B 1
+    gives some (faulty Two true (faulty Three true blank)))
+    ∷ (postAfter (telephone 3 7) (on B (FaultOn 1 One ∷ FaultOn 1 Two ∷ FaultOn 1 Three ∷ FaultOff 1 Two ∷ [])) B 1
+    gives some (faulty One true (faulty Three true blank)))
+    ∷ (postAfter (telephone 3 7) (on B (FaultOn 1 One ∷ FaultOn 1 Two ∷ FaultOn 1 Three ∷ FaultOff 1 Three ∷ [])) B 1
+    gives some (faulty One true (faulty Two true blank)))
+    ∷ [])
+unfolding seen
+conditions-kept = refl
+
+-- ## What a track keeps
+
+-- beside its posts: the running direction and the walk, and of each block section its train and the last train that entered it
+pub record Kept : Type 0 where
+  pub cvt : Bool
+  pub walk : Walk
+  pub trains : List ℕ
+  pub last : List ℕ
+
+abbrev pub keptOn : Bool → Section → Kept
+keptOn track s =
+    let t = trackOf s track in
+    record { cvt = t .cvt; walk = t .walk; trains = t .trains; last = t .last }
+
+abbrev pub keptAfter : Settings → List TrackStep → Bool → Option Kept
+keptAfter c day track = seen (keptOn track) c day
+
+-- a track with no train, on which none has run
+abbrev pub walking : Bool → Walk → Option Kept
+walking cvt walk = some (record { cvt = cvt; walk = walk; trains = cells []; last = cells [] })
+
+-- a settled track, with these trains and last trains in block sections 0, 1 and so on
+abbrev pub carrying : Bool → List ℕ → List ℕ → Option Kept
+carrying cvt trains last = some (record { cvt = cvt; walk = Settled; trains = cells trains; last = cells last })
+
+-- "set, announce, acknowledge at the next post, set there, and so on"; the direction changes at the last set
+pub reversal-walks :
+    Holds
+    ((keptAfter (telephone 2 3) [] A gives walking VNS Settled)
+    ∷ (keptAfter (telephone 2 3) (on A (Order 0 ∷ [])) A gives walking VNS (Turn 0 act.Set))
+    ∷ (keptAfter (telephone 2 3) (on A (MeasuresOn 0 ∷ Order 0 ∷ Set 0 ∷ [])) A gives walking VNS (Turn 0 act.Announce))
+    ∷ (keptAfter (telephone 2 3) (on A (MeasuresOn 0 ∷ Order 0 ∷ Set 0 ∷ Announce 0 ∷ [])) A gives walking VNS (Turn 1 act.Acknowledge))
+    ∷ (keptAfter (telephone 2 3) (on A (MeasuresOn 0 ∷ Order 0 ∷ Set 0 ∷ Announce 0 ∷ Acknowledge 1 ∷ [])) A gives walking VNS (Turn 1 act.Set))
+    ∷ (keptAfter (telephone 2 3) (on A (reversalToCvt (0 ∷ 1 ∷ []))) A gives walking CVT Settled)
+    ∷ (keptAfter (telephone 2 3) (on A (reversalToCvt (0 ∷ 1 ∷ []))) B gives walking VNS Settled)
+    ∷ [])
+unfolding seen
+reversal-walks = refl
+
+-- on B downward to CVT, on A downward back to VNS
+pub reversal-walks-downward :
+    Holds
+    ((keptAfter (materialised 3 7) (on B (MeasuresOn 2 ∷ Order 2 ∷ Set 2 ∷ Announce 2 ∷ [])) B gives walking VNS (Turn 1 act.Acknowledge))
+    ∷ (keptAfter (materialised 3 7) (on B (reversalToCvt (2 ∷ 1 ∷ 0 ∷ []))) B gives walking CVT Settled)
+    ∷ (keptAfter (telephone 2 3) (on A (reversalToCvt (0 ∷ 1 ∷ []) ++ Order 1 ∷ Set 1 ∷ Announce 1 ∷ [])) A gives walking CVT (Turn 0 act.Acknowledge))
+    ∷ (keptAfter (telephone 2 3) (on A (reversalToCvt (0 ∷ 1 ∷ []) ++ reversal (1 ∷ 0 ∷ []))) A gives walking VNS Settled)
+    ∷ [])
+unfolding seen
+reversal-walks-downward = refl
+
+-- "train enters", "train moves one block section on", "train gone"; the last train of a block section stays
+pub trains-run :
+    Holds
+    ((keptAfter (telephone 3 7) (on A (Start 0 7 ∷ [])) A gives carrying VNS (7 ∷ []) (7 ∷ []))
+    ∷ (keptAfter (telephone 3 7) (on A (Start 0 7 ∷ Pass 1 7 ∷ [])) A gives carrying VNS (0 ∷ 7 ∷ []) (7 ∷ 7 ∷ []))
+    ∷ (keptAfter (telephone 3 7) (on A (Start 0 7 ∷ Pass 1 7 ∷ Leave 2 7 ∷ [])) A gives carrying VNS [] (7 ∷ 7 ∷ []))
+    ∷ (keptAfter (telephone 3 7) (on A (Start 0 7 ∷ Pass 1 7 ∷ Start 0 8 ∷ [])) A gives carrying VNS (8 ∷ 7 ∷ []) (8 ∷ 7 ∷ []))
+    ∷ (keptAfter (telephone 3 7) (on A (Start 0 7 ∷ Pass 1 7 ∷ Start 0 8 ∷ [])) B gives carrying VNS [] [])
+    ∷ [])
+unfolding seen
+trains-run = refl
+
+-- downward on B
+pub trains-run-downward :
+    Holds
+    ((keptAfter (materialised 4 9) (on B (Start 3 7 ∷ [])) B gives carrying VNS (0 ∷ 0 ∷ 7 ∷ []) (0 ∷ 0 ∷ 7 ∷ []))
+    ∷ (keptAfter (materialised 4 9) (on B (Start 3 7 ∷ Pass 2 7 ∷ [])) B gives carrying VNS (0 ∷ 7 ∷ []) (0 ∷ 7 ∷ 7 ∷ []))
+    ∷ (keptAfter (materialised 4 9) (on B (Start 3 7 ∷ Pass 2 7 ∷ Pass 1 7 ∷ [])) B gives carrying VNS (7 ∷ []) (7 ∷ 7 ∷ 7 ∷ []))
+    ∷ (keptAfter (materialised 4 9) (on B (Start 3 7 ∷ Pass 2 7 ∷ Pass 1 7 ∷ Leave 0 7 ∷ [])) B gives carrying VNS [] (7 ∷ 7 ∷ 7 ∷ []))
+    ∷ [])
+unfolding seen
+trains-run-downward = refl
+
+-- in CVT downward on A, upward on B
+pub trains-run-in-cvt :
+    Holds
+    ((keptAfter (telephone 3 7) (on A (reversalToCvt (0 ∷ 1 ∷ 2 ∷ []) ++ Start 2 7 ∷ [])) A gives carrying CVT (0 ∷ 7 ∷ []) (0 ∷ 7 ∷ []))
+    ∷ (keptAfter (telephone 3 7) (on A (reversalToCvt (0 ∷ 1 ∷ 2 ∷ []) ++ Start 2 7 ∷ Pass 1 7 ∷ [])) A gives carrying CVT (7 ∷ []) (7 ∷ 7 ∷ []))
+    ∷ (keptAfter (telephone 3 7) (on B (reversalToCvt (2 ∷ 1 ∷ 0 ∷ []) ++ Start 0 7 ∷ [])) B gives carrying CVT (7 ∷ []) (7 ∷ []))
+    ∷ [])
+unfolding seen
+trains-run-in-cvt = refl
+
+-- where no stretch begins, the number in the block section ahead is replaced
+pub pass-onto-a-train : Holds ((seenFrom (keptOn A) twoInOneStretch (on A (Pass 1 7 ∷ [])) gives carrying CVT (7 ∷ []) (7 ∷ [])) ∷ [])
+unfolding seen twoInOneStretch
+pass-onto-a-train = refl
