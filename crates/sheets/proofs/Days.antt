@@ -79,7 +79,7 @@ module _ (c : Settings) (steps lent : List ℕ) (count : ℕ) where
   unfolding notedLines lines lineOn
   lines-noted = same-texts _ _ count line-noted-at
 
--- ## The loop over the panel's lines
+-- ## How long the lines are, and the loop over the panel's
 
 abbrev pub lineAt : Section → List ℕ → ℕ → List ℕ
 lineAt first steps i = panelLine i (stepAt steps i) (answerTo first steps i)
@@ -91,10 +91,18 @@ module _ (first : Section) (steps : List ℕ) (r : inRange first ≡ true) where
       few-posts (judge (sectionBefore first steps i) (stepAt steps i) .section)
       (ranges-kept (sectionBefore first steps i) (stepAt steps i) (in-range-before first steps r i))
 
+  line-fits : (sheet : Sheet) (i : ℕ) → length (lineOn sheet i (stepAt steps i) (answerTo first steps i)) ≤ lineRoom sheet
+  unfolding lineOn lineRoom stepLine
+  line-fits OfSteps i = fields-length i _ _ _ _
+  line-fits OfPosts i = panel-line-length i (stepAt steps i) (answerTo first steps i) (few-posts-after i)
+
+  lines-fit : (sheet : Sheet) (m : ℕ) → length (lines (lineOn sheet) first steps m) ≤ lineRoom sheet * m
+  unfolding lines
+  lines-fit sheet m = in-turn-length (λ i. lineOn sheet i (stepAt steps i) (answerTo first steps i)) (lineRoom sheet) m (line-fits sheet)
+
   lines-length : (m : ℕ) → length (inTurn (lineAt first steps) m) ≤ panelLineRoom * m
-  lines-length m =
-      in-turn-length (lineAt first steps) panelLineRoom m
-      (λ i. panel-line-length i (stepAt steps i) (answerTo first steps i) (few-posts-after i))
+  unfolding lines lineOn lineRoom
+  lines-length m = lines-fit OfPosts m
 
   -- a buffer with room for all lines has room for one more
   pub one-more-fits :
@@ -138,25 +146,16 @@ module _ (file : List ℕ) (count : ℕ) (e : readOf file .reading ≡ Day count
 
 -- ## How long what is printed of a file is
 
-line-fits :
-    (sheet : Sheet) (c : Settings) (steps : List ℕ) (i : ℕ) → settingsRight c ≡ true
-    → length (lineOn sheet i (stepAt steps i) (answerTo (freshSection c) steps i)) ≤ lineRoom sheet
-unfolding lineOn lineRoom stepLine
-line-fits OfSteps c steps i right = fields-length i _ _ _ _
-line-fits OfPosts c steps i right =
-    panel-line-length i (stepAt steps i) (answerTo (freshSection c) steps i) (few-posts-after (freshSection c) steps (fresh-in-range c right) i)
-
 read-fits :
     (sheet : Sheet) (file : List ℕ) (reading : Reading) → readOf file .reading ≡ reading
     → length (printedRead (lineOn sheet) reading (readOf file .settings) (stepsIn file)) ≤ room sheet mostSteps
-unfolding printedRead lines room
+unfolding printedRead room
 read-fits sheet file (Refused number index) e = omega (arith, refused-length number index)
 read-fits sheet file (Day count) e =
     let c = readOf file .settings in
-    let all =
-    in-turn-length (λ i. lineOn sheet i (stepAt (stepsIn file) i) (answerTo (freshSection c) (stepsIn file) i)) (lineRoom sheet) count
-    (λ i. line-fits sheet c (stepsIn file) i (settings-read-right file count e)) in
-    simp length-append (omega (arith, all, header-length (c .posts) count, mul-le-mul-left (lineRoom sheet) (few-steps-read file count e)))
+    let range = fresh-in-range c (settings-read-right file count e) in
+    let all = lines-fit (freshSection c) (stepsIn file) range sheet count in
+    simp length-append (omega (arith, all, header-length (c .posts) count, fewer-fit sheet count (few-steps-read file count e)))
 
 -- every sheet fits its room
 pub printed-fits : (sheet : Sheet) (file : List ℕ) → length (printed (lineOn sheet) file) ≤ room sheet mostSteps

@@ -1,7 +1,3 @@
--- What was read is a part of the buffer, so it is no longer than `agrees` asks.
-use native.Mathlib.Omega.{arith}
-use lib.ListN.{length-take}
-use Rattle.sheets.specs.Sheet.{lineRoom, room}
 use borrow.Author.Needs.{needs}
 use Rattle.days.proofs.compare_sheet.Statement.{statement}
 use Rattle.days.proofs.compare_sheet.Tie as tie
@@ -34,8 +30,7 @@ part-agrees-end : tie.Need-part-agrees-end
 part-agrees-end c = search needs
 
 agrees-requires : tie.Need-agrees-requires
-unfolding room lineRoom
-agrees-requires c κs = simp length-take (omega arith)
+agrees-requires c κs = search needs
 
 returns-2 : tie.Need-returns-2
 returns-2 c = search needs
