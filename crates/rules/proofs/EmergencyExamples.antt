@@ -64,6 +64,8 @@ pub release-refused-13 :
     ∷ (judged (telephone 2 3) (on A (reversalToCvt (0 ∷ 1 ∷ []) ++ Start 1 7 ∷ FaultOn 1 One ∷ Release 1 7 ∷ [])) gives refused 13)
     -- not one that is further ahead
     ∷ (judged (telephone 3 5) (on A (Start 0 7 ∷ FaultOn 0 One ∷ Pass 1 7 ∷ Release 0 7 ∷ [])) gives accepted)
+    -- the block section, not the stretch
+    ∷ (judged (telephone 3 5) (on A (reversalToCvt (0 ∷ 1 ∷ 2 ∷ []) ++ Start 2 7 ∷ Pass 1 7 ∷ FaultOn 2 One ∷ Release 2 7 ∷ [])) gives accepted)
     ∷ [])
 unfolding judged
 release-refused-13 = refl
@@ -134,6 +136,8 @@ pub key-refused-13 :
     ∷ (judged (materialised 3 7)
     (on B (Start 2 7 ∷ Pass 1 7 ∷ MeasuresOn 2 ∷ MeasuresOn 1 ∷ FaultOn 1 Two ∷ Order 2 ∷ Set 2 ∷ Announce 2 ∷ Acknowledge 1 ∷ Key 1 ∷ []))
     gives refused 13)
+    -- the block section, not the stretch
+    ∷ (judged (materialised 3 5) (on A (reversalToCvt (0 ∷ 1 ∷ 2 ∷ []) ++ Start 2 7 ∷ Pass 1 7 ∷ FaultOn 2 Two ∷ Order 2 ∷ Key 2 ∷ [])) gives accepted)
     ∷ [])
 unfolding judged
 key-refused-13 = refl

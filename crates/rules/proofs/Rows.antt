@@ -51,7 +51,7 @@ judgedStep x s = record {
   failing = failingOf (checks (s .settings) (x .step) (siteOf s x) (occupancyOf s x));
 }
 
--- a day from that section: its last step, where those before it are accepted
+-- a day of one step or more from that section: its last step, where those before it are accepted
 unfoldable pub judgedFrom : Section → List TrackStep → Option Judged
 unfolding after judgedStep
 judgedFrom s day =
