@@ -210,6 +210,7 @@ pub direction-stays :
     ((seenFrom (keptOn A) bothOnCvt (on A (Order 2 ∷ [])) gives walking CVT (Turn 2 act.Set))
     ∷ (seenFrom (keptOn A) bothOnCvt (on A (Order 2 ∷ Set 2 ∷ [])) gives walking CVT (Turn 2 act.Announce))
     ∷ (seenFrom (keptOn A) bothOnCvt (on A (Order 2 ∷ Set 2 ∷ Announce 2 ∷ Acknowledge 1 ∷ [])) gives walking CVT (Turn 1 act.Set))
+    ∷ (seenFrom (keptOn A) bothOnCvt (on A (reversal (2 ∷ 1 ∷ 0 ∷ []))) gives walking VNS Settled)
     ∷ (seenFrom (keptOn A) bothOnCvt (on A (Start 2 7 ∷ [])) gives carrying CVT (0 ∷ 7 ∷ []) (0 ∷ 7 ∷ []))
     ∷ (seenFrom (keptOn A) bothOnCvt (on A (Start 2 7 ∷ Pass 1 7 ∷ Leave 0 7 ∷ [])) gives carrying CVT [] (7 ∷ 7 ∷ []))
     ∷ [])
