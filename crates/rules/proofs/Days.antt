@@ -75,8 +75,8 @@ cells numbers = numbers ++ replicate (mostBlocks - length numbers) 0
 abbrev pub holding : List ℕ → Track → Track
 holding trains t = record { posts = t .posts; trains = cells trains; last = t .last; cvt = t .cvt; walk = t .walk }
 
-abbrev pub lastEntered : List ℕ → Track → Track
-lastEntered numbers t = record { posts = t .posts; trains = t .trains; last = cells numbers; cvt = t .cvt; walk = t .walk }
+abbrev pub holdingLast : List ℕ → Track → Track
+holdingLast numbers t = record { posts = t .posts; trains = t .trains; last = cells numbers; cvt = t .cvt; walk = t .walk }
 
 unfoldable pub sealedTimes : ℕ → Post → Post
 sealedTimes zero o = o

@@ -5,7 +5,7 @@ use mathlib.Core.List.{[], _∷_, _++_}
 use Rattle.section.specs.declared.Section.{Section}
 use Rattle.section.specs.declared.Fault.the-variants.{One, Two, Three}
 use Rattle.section.specs.declared.Step.the-variants.{Order, Set, Announce, Acknowledge, Start, Pass, Leave, MeasuresOn, FaultOn, FaultOff, Release, Key}
-use Rattle.rules.proofs.Days.{A, B, telephone, materialised, fresh, changedTrack, lastEntered, sealedAt, on, reversalToCvt}
+use Rattle.rules.proofs.Days.{A, B, telephone, materialised, fresh, changedTrack, holdingLast, sealedAt, on, reversalToCvt}
 use Rattle.rules.proofs.Rows.{_gives_, Holds, judged, judgedFrom, accepted, refused, _before_}
 
 -- ## Kind 12, release: "15; 12 the last post; 21; 13; 17"
@@ -89,7 +89,7 @@ release-refused-17 = refl
 -- train 7 entered block section 0 last, train 8 block section 1: no day reaches it with both free
 unfoldable pub sevenAndEight : Section
 unfolding fresh
-sevenAndEight = changedTrack A (lastEntered (7 ∷ 8 ∷ [])) (fresh (telephone 3 7))
+sevenAndEight = changedTrack A (holdingLast (7 ∷ 8 ∷ [])) (fresh (telephone 3 7))
 
 -- the block section ahead of the post, not the one before it
 pub release-of-the-train-ahead :
