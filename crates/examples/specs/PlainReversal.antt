@@ -42,7 +42,7 @@ unfoldable pub endsOn : Row → Track → Bool
 endsOn r t =
     isSettled (t .walk) && (Bool·beq (t .cvt) (r .cvt) && postOn t (rank (r .posts) (upward (r .track) (r .cvt)) 0) .permission)
 
--- every step is accepted
+-- no step is refused, and the track ends so
 unfoldable pub endsWell : Row → Option Section → Bool
 unfolding endsOn
 endsWell r none = false
