@@ -16,7 +16,8 @@ use Rattle.section.specs.declared.Step.the-variants.{Order, Set, Announce, Ackn
 use Rattle.section.specs.declared.Step.the-variants.{FaultOn, FaultOff, Release, Key}
 use Rattle.section.specs.Post.{blank, turned, permitted, measured, faulty, marked, sealed}
 use Rattle.section.specs.Store.{trackOf, postOn}
-use Rattle.rules.proofs.Days.{A, B, VNS, CVT, telephone, materialised, fresh, changedPost, cells, on, reversal, reversalToCvt}
+use Rattle.rules.specs.Demand3.{stateAfter}
+use Rattle.rules.proofs.Days.{A, B, VNS, CVT, telephone, materialised, fresh, changedPost, cells, on, reversal, reversalToCvt, offeredAs}
 use Rattle.rules.proofs.Rows.{_gives_, Holds, seenFrom, seen}
 use Rattle.rules.proofs.ReversalExamples.{bothOnCvt}
 use Rattle.rules.proofs.TrainExamples.{twoInOneStretch}
@@ -259,3 +260,22 @@ trains-run-in-cvt = refl
 pub pass-onto-a-train : Holds ((seenFrom (keptOn A) twoInOneStretch (on A (Pass 1 7 ∷ [])) gives carrying CVT (7 ∷ []) (7 ∷ [])) ∷ [])
 unfolding seen twoInOneStretch
 pass-onto-a-train = refl
+
+-- ## A refused step
+
+-- "each later one the state returned for the step before it, accepted or refused": a refused step leaves the section as it was
+pub refused-leaves-the-post :
+    Holds
+    ((ownOf A 0 (stateAfter (fresh (telephone 2 3)) (offeredAs (on A (Order 0 ∷ Set 0 ∷ [])))) gives blank)
+    ∷ (ownOf B 2 (stateAfter (fresh (materialised 3 7)) (offeredAs (on B (Release 2 0 ∷ Key 2 ∷ FaultOff 2 One ∷ [])))) gives permitted true blank)
+    ∷ [])
+unfolding seen stateAfter
+refused-leaves-the-post = refl
+
+pub refused-leaves-the-track :
+    Holds
+    ((some (keptOn A (stateAfter (fresh (telephone 2 3)) (offeredAs (on A (Start 0 7 ∷ Start 0 8 ∷ Pass 1 7 ∷ Leave 1 8 ∷ Order 0 ∷ [])))))
+    gives carrying VNS (7 ∷ []) (7 ∷ []))
+    ∷ [])
+unfolding seen stateAfter
+refused-leaves-the-track = refl
