@@ -1,4 +1,5 @@
 // Prints the listing of the day file on standard input.
+use listing::sheets;
 use streams::Input;
 use text::Handed;
 

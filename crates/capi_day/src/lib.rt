@@ -5,9 +5,9 @@ ghost use lib.ListN.{length};
 ghost use Rattle.capi_day.specs.Day.{dayRefusal, dayAnswer, dayNotes};
 ghost use Rattle.packed.specs.Settings.{settingsGiven};
 use packed::settings_given;
+use ranges::settings::settings_right;
 use section::STEP_LENGTH;
 use section::Settings;
-use settings_range::settings_right;
 use whole_day::note_day;
 
 // Why a day cannot be noted: 6 for settings out of their ranges, else 5, for a buffer too short for the notes.

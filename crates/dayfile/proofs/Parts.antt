@@ -16,7 +16,7 @@ use Rattle.section.specs.Numbers.{leastPosts, mostPosts, largestLine}
 use Rattle.section.specs.Settings.{bit, noneFrom, settingsRight}
 use Rattle.layout.specs.Layout.{mostSteps, settingsLength, trailerLength, settingsDistance, stepsDistance, mark, pairBytes, fourBytes}
 use Rattle.layout.specs.Layout.{fourAt, settingsBytes, trailer, fromEnd, trailerIn, settingsIn, stepsIn, settingsOf}
-use Rattle.file_tests.specs.Tests.{markRight, trailerRight, zerosRight, settingsBytesRight}
+use Rattle.dayfile.specs.Tests.{markRight, trailerRight, zerosRight, settingsBytesRight}
 use Rattle.layout.proofs.Numbers.{pair-number, four-number, pair-bytes, four-bytes, listed}
 
 pub both : (a b : Bool) → a && b ≡ true → (a ≡ true) × (b ≡ true)

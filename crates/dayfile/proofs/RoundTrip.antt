@@ -12,16 +12,16 @@ use Rattle.section.specs.declared.Settings.{Settings}
 use Rattle.section.specs.Bytes.{AllBytes}
 use Rattle.section.specs.Numbers.{stepLength}
 use Rattle.section.specs.Settings.{settingsRight}
-use Rattle.file_tests.specs.Tests.{lengthWrong, trailerRight, settingsBytesRight}
+use Rattle.dayfile.specs.Tests.{lengthWrong, trailerRight, settingsBytesRight}
 use Rattle.layout.specs.Layout.{mostSteps, settingsDistance, stepsDistance, settingsBytes, trailer, stepCount, fileOf, trailerIn}
 use Rattle.layout.specs.Layout.{settingsIn, stepsIn, settingsOf, stepsPart}
-use Rattle.file_tests.specs.Tests.{someMalformed, firstMalformed}
+use Rattle.dayfile.specs.Tests.{someMalformed, firstMalformed}
 use Rattle.dayfile.specs.Answers.{refusalIndex, writerRefusalIndex, refusalNumber, readVerdict, readOf}
 use Rattle.dayfile.specs.Answers.{writeVerdict, writerRefusalNumber, writtenInto}
 use Rattle.dayfile.specs.declared.Reading.the-variants.{Day, Refused}
 use Rattle.dayfile.specs.declared.Written.the-variants.{Bytes, Refused as NotWritten}
 use Rattle.dayfile.specs.RoundTrip.{ReadsWhatIsWritten, WritesWhatIsRead, MeansOneThing, GivesItsSteps, IndexOnlyForFour}
-use Rattle.file_tests.proofs.Laws.{all-whole}
+use Rattle.dayfile.proofs.tests.Laws.{all-whole}
 use Rattle.dayfile.proofs.Parts.{settings-said, settings-bytes-right, settings-right, settings-bytes, trailer-right, trailer-bytes}
 use Rattle.dayfile.proofs.Parts.{steps-of, settings-of, trailer-of, of-its-parts, trailer-all-bytes, settings-all-bytes}
 use Rattle.dayfile.proofs.Reader.{LengthRight, not-wrong, trailer-length, settings-length, steps-length, few-steps, answer-day}

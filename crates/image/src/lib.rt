@@ -1,5 +1,9 @@
 // The image of a section, 392 bytes: its layout, and whether every byte of it stands for a value.
 // The layout is not stable: it may change with any delivery.
+
+pub mod reader;
+pub mod writer;
+
 ghost use mathlib.Core.Path.{_≡_};
 ghost use Prim.Native.Nat.{_+_, _≤_};
 ghost use lib.ListN.{length};

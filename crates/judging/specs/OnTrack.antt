@@ -2,9 +2,9 @@
 use Rattle.section.specs.declared.Settings.{Settings}
 use Rattle.section.specs.declared.Track.{Track}
 use Rattle.section.specs.declared.TrackStep.{TrackStep}
-use Rattle.sites.specs.declared.Running.{Running}
-use Rattle.table.specs.Judged.{judgedAt, trackAt, siteIn}
-use Rattle.judging.specs.declared.TrackAnswer.{TrackAnswer}
+use Rattle.site.specs.declared.running.Running.{Running}
+use Rattle.judging.specs.Judged.{judgedAt, trackAt, siteIn}
+use Rattle.judging.specs.declared.on_track.TrackAnswer.{TrackAnswer}
 
 unfoldable pub trackAnswer : Settings → TrackStep → Track → Running → TrackAnswer
 trackAnswer c x t other = record {

@@ -5,7 +5,8 @@ use Rattle.section.specs.declared.Answer.{Answer}
 use Rattle.section.specs.declared.Said.{Said}
 use Rattle.section.specs.Words.{refusalOf, saidBy}
 use Rattle.text.specs.Text.{ascii, decimal}
-use Rattle.lines.specs.Text.{word, trackLetter}
+use Rattle.section.specs.Words.{trackLetter}
+use Rattle.lines.specs.Text.{word}
 
 -- "one line, `refused K I` (number, index)"
 unfoldable pub refusedLine : ℕ → ℕ → List ℕ

@@ -8,7 +8,7 @@ use Rattle.section.specs.declared.Said.{Said}
 use Rattle.section.specs.declared.Said.the-variants.{Nothing, Cvt, Cvtz, Vns, Vnsz}
 use Rattle.section.specs.declared.Verdict.{Verdict}
 use Rattle.section.specs.Words.{refusalOf, saidBy, saidNumber}
-use Rattle.lines.specs.Text.{trackLetter}
+use Rattle.section.specs.Words.{trackLetter}
 
 abbrev pub noteLength : ℕ
 noteLength = 4

@@ -4,7 +4,7 @@ ghost use Prim.Native.Nat.{_+_, _≤_};
 ghost use lib.ListN.{length};
 ghost use Rattle.section.specs.Words.{refusalOf, saidBy, saidNumber};
 ghost use Rattle.text.specs.Text.{written};
-ghost use Rattle.lines.specs.Text.{letter};
+ghost use Rattle.section.specs.Words.{letter};
 ghost use Rattle.notes.specs.Note.{noteLength, noteWith, saidNumbered};
 use section::Said;
 use section::Verdict;

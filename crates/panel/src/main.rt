@@ -1,4 +1,5 @@
 // Prints the panel of the day file on standard input.
+use listing::sheets;
 use streams::Input;
 use text::Handed;
 

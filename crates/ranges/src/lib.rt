@@ -1,20 +1,23 @@
 // Whether settings and the fields of a state are in their ranges: refusal 6.
+
+pub mod settings;
+
 ghost use mathlib.Core.Path.{_≡_};
 ghost use mathlib.Core.Bool.{_&&_};
 ghost use Prim.Native.Nat.{_-_, _<_, _≤_};
 ghost use lib.Dec.{leb};
 ghost use Rattle.section.specs.Numbers.{largestTrain, mostSeals, leastPosts, mostPosts};
 ghost use Rattle.section.specs.Range.{sealsFit, numbersFit, actFits, walkFits, trackFits, inRange};
-use positions::is_first;
-use positions::is_last;
-use positions::is_upward;
+use crate::settings::settings_right;
 use section::Act;
 use section::LARGEST_TRAIN;
 use section::MOST_SEALS;
 use section::Section;
 use section::Track;
 use section::Walk;
-use settings_range::settings_right;
+use section::positions::is_first;
+use section::positions::is_last;
+use section::positions::is_upward;
 
 // A post's seal count, and the train and the last train of the block section beside it.
 fn post_and_block_fit(seals: u16, train: u16, last: u16) -> bool

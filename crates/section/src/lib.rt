@@ -1,6 +1,8 @@
 // The vocabulary of direction blocking (document 01): settings, steps, the state of a section, answers.
+
 mod fresh_section;
 mod little_endian;
+pub mod positions;
 mod post_record;
 
 pub use fresh_section::fresh;

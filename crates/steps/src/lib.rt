@@ -1,14 +1,17 @@
 // A step from its eight bytes.
+
+pub mod well_formed;
+
 ghost use mathlib.Core.Path.{_≡_};
 ghost use lib.ListN.{length};
 ghost use Rattle.section.specs.Numbers.{stepLength};
 ghost use Rattle.section.specs.Step.{faultOf, stepOf, stepSaid, decoded};
+use crate::well_formed::is_well_formed;
 use section::Decoded;
 use section::Fault;
 use section::Step;
 use section::TrackStep;
 use section::pair_of;
-use step_tests::is_well_formed;
 
 fn fault_of(fault: u8) -> Fault
     ensures { λ r. ⌜ r ≡ faultOf fault ⌝ }

@@ -18,12 +18,12 @@ use Rattle.section.specs.Step.{decoded, postOf}
 use Rattle.section.specs.Store.{trackOf, withTrack, postOn}
 use Rattle.rules.specs.declared.Site.{Site}
 use Rattle.rules.specs.Judge.{siteOf, judgeInRange}
-use Rattle.sites.specs.declared.Running.{Running}
-use Rattle.sites.specs.Running.{runningOf}
-use Rattle.sites.specs.Fit.{Fit}
-use Rattle.table.specs.declared.Judged.{Judged}
-use Rattle.table.specs.Judged.{judgedAt, trainsAt, lastAt, trackAt, siteFor}
-use Rattle.table.proofs.OnTrack.{site-in, step-judged, fit, judged}
+use Rattle.site.specs.declared.running.Running.{Running}
+use Rattle.site.specs.Running.{runningOf}
+use Rattle.site.specs.Fit.{Fit}
+use Rattle.judging.specs.declared.at_post.Judged.{Judged}
+use Rattle.judging.specs.Judged.{judgedAt, trainsAt, lastAt, trackAt, siteFor}
+use Rattle.judging.proofs.at_post.OnTrack.{site-in, step-judged, fit, judged}
 use Rattle.whole_day.specs.Rows.{row, settled}
 
 -- the section whose cells they are

@@ -20,11 +20,12 @@ use Rattle.section.proofs.Laws.{fresh-in-range}
 use Rattle.rules.specs.Judge.{judgeInRange}
 use Rattle.layout.specs.Layout.{stepAt}
 use Rattle.text.specs.Text.{written}
-use Rattle.lines.specs.Text.{trackLetter, inTurn}
+use Rattle.section.specs.Words.{trackLetter}
+use Rattle.lines.specs.Text.{inTurn}
 use Rattle.lines.proofs.Puts.{none-put}
 use Rattle.notes.specs.Note.{noteLength, noteWith, note}
-use Rattle.sites.specs.declared.Running.{Running}
-use Rattle.table.proofs.OnTrack.{malformed}
+use Rattle.site.specs.declared.running.Running.{Running}
+use Rattle.judging.proofs.at_post.OnTrack.{malformed}
 use Rattle.whole_day.specs.Day.{sectionBefore, answerTo}
 use Rattle.whole_day.specs.Notes.{noteOn, notesOf}
 use Rattle.whole_day.specs.Rows.{freshPosts, settled, letterAt}

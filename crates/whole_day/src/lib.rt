@@ -9,12 +9,14 @@ ghost use Rattle.section.specs.Settings.{settingsRight};
 ghost use Rattle.section.specs.Step.{decoded};
 ghost use Rattle.layout.specs.Layout.{stepAt};
 ghost use Rattle.text.specs.Text.{written};
-ghost use Rattle.lines.specs.Text.{letter};
+ghost use Rattle.section.specs.Words.{letter};
 ghost use Rattle.notes.specs.Note.{noteLength, noteWith};
 ghost use Rattle.whole_day.specs.Notes.{notesOf, canBeNoted, notesAfter};
 ghost use Rattle.whole_day.specs.Rows.{row, freshPosts, settled, letterAt};
+use judging::at_post::judge_step;
 use notes::NOTE_LENGTH;
 use notes::put_note;
+use ranges::settings::settings_right;
 use section::Decoded;
 use section::MOST_BLOCKS;
 use section::Posts;
@@ -23,10 +25,8 @@ use section::Settings;
 use section::Trains;
 use section::Verdict;
 use section::Walk;
-use settings_range::settings_right;
-use sites::Running;
-use sites::place_of;
-use table::judge_step;
+use site::running::Running;
+use site::running::place_of;
 
 // The place of a track among the two.
 fn row_of(track: bool) -> usize

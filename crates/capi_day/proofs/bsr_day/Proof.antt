@@ -4,26 +4,11 @@ use Rattle.capi_day.specs.Day.{dayAnswer}
 use Rattle.capi_day.proofs.bsr_day.Statement.{statement}
 use Rattle.capi_day.proofs.bsr_day.Tie as tie
 
-settings-given-requires : tie.Need-settings-given-requires
-settings-given-requires c κs = search needs
-
-note-day-requires : tie.Need-note-day-requires
-note-day-requires c κs = search needs
-
-same-length : tie.Need-same-length
-same-length c = search needs
-
 returns : tie.Need-returns
 unfolding dayAnswer
 returns c =
     let day = c .before .before .before in
     rw (← day .before .before .settings-given .ensures) (rw (← day .note-day .ensures .0, c .if1 .taken), day .note-day .ensures .1)
-
-day-refusal-requires : tie.Need-day-refusal-requires
-day-refusal-requires c κs = search needs
-
-same-length-2 : tie.Need-same-length-2
-same-length-2 c = search needs
 
 returns-2 : tie.Need-returns-2
 unfolding dayAnswer
@@ -39,10 +24,10 @@ pub bsr-day-spec : {M : Type 1} → statement M
 bsr-day-spec =
     tie.close
     (tie.spec
-    settings-given-requires
-    note-day-requires
-    same-length
+    (λ c κs. search needs)
+    (λ c κs. search needs)
+    (λ c. search needs)
     returns
-    day-refusal-requires
-    same-length-2
+    (λ c κs. search needs)
+    (λ c. search needs)
     returns-2)

@@ -4,9 +4,6 @@ use Rattle.capi_day.specs.Day.{dayRefusal}
 use Rattle.capi_day.proofs.day_refusal.Statement.{statement}
 use Rattle.capi_day.proofs.day_refusal.Tie as tie
 
-settings-right-requires : tie.Need-settings-right-requires
-settings-right-requires c κs = search needs
-
 returns : tie.Need-returns
 unfolding dayRefusal
 returns c = rw (told (c .before .settings-right .ensures) (c .if1 .taken))
@@ -16,4 +13,4 @@ unfolding dayRefusal
 returns-2 c = rw (told (c .before .settings-right .ensures) (c .if1 .left))
 
 pub day-refusal-spec : {M : Type 1} → statement M
-day-refusal-spec = tie.close (tie.spec settings-right-requires returns returns-2)
+day-refusal-spec = tie.close (tie.spec (λ c κs. search needs) returns returns-2)

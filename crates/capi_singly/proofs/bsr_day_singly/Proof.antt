@@ -7,15 +7,6 @@ use Rattle.capi_day.specs.Day.{stepsOffered, dayAnswer}
 use Rattle.capi_singly.proofs.bsr_day_singly.Statement.{statement}
 use Rattle.capi_singly.proofs.bsr_day_singly.Tie as tie
 
-settings-given-requires : tie.Need-settings-given-requires
-settings-given-requires c κs = search needs
-
-can-be-noted-requires : tie.Need-can-be-noted-requires
-can-be-noted-requires c κs = search needs
-
-day-refusal-requires : tie.Need-day-refusal-requires
-day-refusal-requires c κs = search needs
-
 returns : tie.Need-returns
 unfolding dayAnswer
 returns c =
@@ -35,9 +26,6 @@ note-singly-requires c κs =
     let fits = day-fits _ _ _ _ (told-true (else .before .can-be-noted .ensures) (else .if1 .left)) in
     (fits .steps-there, fits .notes-fit)
 
-same-length : tie.Need-same-length
-same-length c = search needs
-
 returns-2 : tie.Need-returns-2
 unfolding dayAnswer
 returns-2 c =
@@ -56,10 +44,10 @@ pub bsr-day-singly-spec : {M : Type 1} → statement M
 bsr-day-singly-spec =
     tie.close
     (tie.spec
-    settings-given-requires
-    can-be-noted-requires
-    day-refusal-requires
+    (λ c κs. search needs)
+    (λ c κs. search needs)
+    (λ c κs. search needs)
     returns
     note-singly-requires
-    same-length
+    (λ c. search needs)
     returns-2)

@@ -35,9 +35,6 @@ settings-kept s c e = ap (λ (x : Section). x .settings) e
 fresh-again : (s : Section) (c : Settings) → s ≡ freshSection c → s ≡ freshSection (s .settings)
 fresh-again s c e = e ∙ ap freshSection (sym (settings-kept s c e))
 
-fresh-requires : tie.Need-fresh-requires Inv-loop μ-loop
-fresh-requires c κs = search needs
-
 loop-holds : tie.Need-loop-holds Inv-loop μ-loop
 unfolding sectionBefore
 loop-holds c =
@@ -58,9 +55,6 @@ part-judge-start c = omega arith
 
 part-judge-end : tie.Need-part-judge-end Inv-loop μ-loop
 part-judge-end c = omega arith
-
-judge-requires : tie.Need-judge-requires Inv-loop μ-loop
-judge-requires c κs = search needs
 
 mul-put-answer : tie.Need-mul-put-answer Inv-loop μ-loop
 mul-put-answer c = omega (arith, c .before .before .before .before .loop-test .taken)
@@ -103,9 +97,6 @@ loop-again c =
       ),
     )
 
-same-length : tie.Need-same-length Inv-loop μ-loop
-same-length c = search needs
-
 returns : tie.Need-returns Inv-loop μ-loop
 unfolding notesOf
 returns c =
@@ -121,18 +112,18 @@ note-singly-spec =
     (tie.spec
     Inv-loop
     μ-loop
-    fresh-requires
+    (λ c κs. search needs)
     loop-holds
     mul-start
     add-judge
     sub-judge
     part-judge-start
     part-judge-end
-    judge-requires
+    (λ c κs. search needs)
     mul-put-answer
     put-answer-requires
     add-i
     loop-less
     loop-again
-    same-length
+    (λ c. search needs)
     returns)

@@ -8,20 +8,11 @@ use borrow.Author.Needs.{needs}
 use Rattle.dayfile.proofs.read.Statement.{statement}
 use Rattle.dayfile.proofs.read.Tie as tie
 
-length-wrong-requires : tie.Need-length-wrong-requires
-length-wrong-requires c κs = search needs
-
-refused-requires : tie.Need-refused-requires
-refused-requires c κs = search needs
-
 returns : tie.Need-returns
 returns c = c .refused .ensures ∙ answer-1 _ (told (c .before .before .length-wrong .ensures) (c .before .if1 .taken))
 
 steps-in-requires : tie.Need-steps-in-requires
 steps-in-requires c κs = length-right _ (told (c .before .length-wrong .ensures) (c .if1 .left)) .least
-
-step-count-requires : tie.Need-step-count-requires
-step-count-requires c κs = search needs
 
 trailer-in-requires : tie.Need-trailer-in-requires
 trailer-in-requires c κs = let e = c .before .before in
@@ -34,9 +25,6 @@ trailer-right-requires c κs = let e = c .before .before .before in
       rw (c .before .step-count .ensures, c .before .before .steps-in .ensures) (few-steps f h),
       rw (c .trailer-in .ensures, trailer-length f (h .least)) (omega arith),
     )
-
-refused-requires-2 : tie.Need-refused-requires-2
-refused-requires-2 c κs = search needs
 
 returns-2 : tie.Need-returns-2
 returns-2 c = let q = c .before .before in
@@ -55,9 +43,6 @@ settings-bytes-right-requires c κs = let e = c .before .before .before .before 
     let h = length-right _ (told (e .before .length-wrong .ensures) (e .if1 .left)) in
     rw (c .settings-in .ensures, settings-length (now (e .before .before .before .args .file)) (h .least)) (omega arith)
 
-refused-requires-3 : tie.Need-refused-requires-3
-refused-requires-3 c κs = search needs
-
 returns-3 : tie.Need-returns-3
 returns-3 c = let p = c .before .before in
     let q = p .before .before .before in
@@ -72,12 +57,6 @@ settings-of-requires : tie.Need-settings-of-requires
 settings-of-requires c κs = let e = c .before .before .before .before .before .before .before .before in
     let h = length-right _ (told (e .before .length-wrong .ensures) (e .if1 .left)) in
     rw (c .before .before .settings-in .ensures, settings-length (now (e .before .before .before .args .file)) (h .least)) (omega arith)
-
-first-malformed-requires : tie.Need-first-malformed-requires
-first-malformed-requires c κs = search needs
-
-refused-requires-4 : tie.Need-refused-requires-4
-refused-requires-4 c κs = search needs
 
 returns-4 : tie.Need-returns-4
 returns-4 c = let g = c .before .before in
@@ -106,21 +85,21 @@ pub read-spec : {M : Type 1} → statement M
 read-spec =
     tie.close
     (tie.spec
-    length-wrong-requires
-    refused-requires
+    (λ c κs. search needs)
+    (λ c κs. search needs)
     returns
     steps-in-requires
-    step-count-requires
+    (λ c κs. search needs)
     trailer-in-requires
     trailer-right-requires
-    refused-requires-2
+    (λ c κs. search needs)
     returns-2
     settings-in-requires
     settings-bytes-right-requires
-    refused-requires-3
+    (λ c κs. search needs)
     returns-3
     settings-of-requires
-    first-malformed-requires
-    refused-requires-4
+    (λ c κs. search needs)
+    (λ c κs. search needs)
     returns-4
     returns-5)

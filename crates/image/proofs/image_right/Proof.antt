@@ -9,15 +9,9 @@ returns : tie.Need-returns
 unfolding imageRight
 returns c = rw (ne-eqb _ _ (c .if1 .taken))
 
-track-right-requires : tie.Need-track-right-requires
-track-right-requires c κs = search needs
-
 returns-2 : tie.Need-returns-2
 unfolding imageRight
 returns-2 c = rw (eq-eqb _ _ (c .before .before .if1 .left), told-false (c .before .track-right .ensures) (c .if2 .taken))
-
-track-right-requires-2 : tie.Need-track-right-requires-2
-track-right-requires-2 c κs = search needs
 
 returns-3 : tie.Need-returns-3
 unfolding imageRight
@@ -27,4 +21,4 @@ returns-3 c =
 
 pub image-right-spec : {M : Type 1} → statement M
 image-right-spec =
-    tie.close (tie.spec returns track-right-requires returns-2 track-right-requires-2 returns-3)
+    tie.close (tie.spec returns (λ c κs. search needs) returns-2 (λ c κs. search needs) returns-3)

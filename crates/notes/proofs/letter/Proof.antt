@@ -1,13 +1,7 @@
 use borrow.Author.Needs.{needs}
-use Rattle.lines.specs.Text.{letter}
+use Rattle.section.specs.Words.{letter}
 use Rattle.notes.proofs.letter.Statement.{statement}
 use Rattle.notes.proofs.letter.Tie as tie
-
-enum-told : tie.Need-enum-told
-enum-told c = search needs
-
-enum-told-2 : tie.Need-enum-told-2
-enum-told-2 c = search needs
 
 returns : tie.Need-returns
 unfolding letter
@@ -26,4 +20,4 @@ unfolding letter
 returns-4 c = rw (c .before .enum-told2 .given .1, c .if2 .left)
 
 pub letter-spec : {M : Type 1} → statement M
-letter-spec = tie.close (tie.spec enum-told enum-told-2 returns returns-2 returns-3 returns-4)
+letter-spec = tie.close (tie.spec (λ c. search needs) (λ c. search needs) returns returns-2 returns-3 returns-4)

@@ -3,12 +3,6 @@ use Rattle.section.specs.Words.{refusalOf}
 use Rattle.notes.proofs.refusal_of.Statement.{statement}
 use Rattle.notes.proofs.refusal_of.Tie as tie
 
-enum-told : tie.Need-enum-told
-enum-told c = search needs
-
-enum-known-verdict : tie.Need-enum-known-verdict
-enum-known-verdict c = search needs
-
 returns : tie.Need-returns
 unfolding refusalOf
 returns c = search needs
@@ -18,4 +12,4 @@ unfolding refusalOf
 returns-2 c = search needs
 
 pub refusal-of-spec : {M : Type 1} → statement M
-refusal-of-spec = tie.close (tie.spec enum-told enum-known-verdict returns returns-2)
+refusal-of-spec = tie.close (tie.spec (λ c. search needs) (λ c. search needs) returns returns-2)

@@ -4,15 +4,9 @@ use borrow.Author.Needs.{needs}
 use Rattle.packed.proofs.packed_handed.Statement.{statement}
 use Rattle.packed.proofs.packed_handed.Tie as tie
 
-enum-known-done : tie.Need-enum-known-done
-enum-known-done c = search needs
-
 add-result : tie.Need-add-result
 unfolding packedHanded
 add-result c = let h = rw (c .before .done .given .1) at (c .before .before .before .pre) in omega arith
-
-enum-told : tie.Need-enum-told
-enum-told c = search needs
 
 returns : tie.Need-returns
 unfolding packedHanded
@@ -23,4 +17,4 @@ unfolding packedHanded
 returns-2 c = simp (c .enum-told .given .1)
 
 pub packed-handed-spec : {M : Type 1} → statement M
-packed-handed-spec = tie.close (tie.spec enum-known-done add-result enum-told returns returns-2)
+packed-handed-spec = tie.close (tie.spec (λ c. search needs) add-result (λ c. search needs) returns returns-2)

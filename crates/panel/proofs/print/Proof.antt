@@ -6,18 +6,6 @@ use Rattle.text.proofs.HandedOver.{bytes-counted}
 use Rattle.panel.proofs.print.Statement.{statement}
 use Rattle.panel.proofs.print.Tie as tie
 
-panel-room-requires : tie.Need-panel-room-requires
-panel-room-requires c κs = search needs
-
-slice-aggregate-panel : tie.Need-slice-aggregate-panel
-slice-aggregate-panel c = search needs
-
-panel-requires : tie.Need-panel-requires
-panel-requires c κs = search needs
-
-enum-known-n : tie.Need-enum-known-n
-enum-known-n c = search needs
-
 array-share-prefix-text : tie.Need-array-share-prefix-text
 array-share-prefix-text c =
     let at-n = c .before in
@@ -38,33 +26,18 @@ slice-aggregate-write-whole c =
     bytes-counted (panel (now (entry .args .file))) (at-panel-room .panel-room .result) _ (r .ensures .0) (r .last .1 .0) _ (at-n .n .given .1)
     (r .kept .1 .0) .1
 
-slice-aggregate-write-whole-2 : tie.Need-slice-aggregate-write-whole-2
-slice-aggregate-write-whole-2 c = search needs
-
-write-whole-requires : tie.Need-write-whole-requires
-write-whole-requires c κs = search needs
-
-enum-told : tie.Need-enum-told
-enum-told c = search needs
-
-returns : tie.Need-returns
-returns c = search needs
-
-returns-2 : tie.Need-returns-2
-returns-2 c = search needs
-
 pub print-spec : {M : Type 1} → statement M
 print-spec =
     tie.close
     (tie.spec
-    panel-room-requires
-    slice-aggregate-panel
-    panel-requires
-    enum-known-n
+    (λ c κs. search needs)
+    (λ c. search needs)
+    (λ c κs. search needs)
+    (λ c. search needs)
     array-share-prefix-text
     slice-aggregate-write-whole
-    slice-aggregate-write-whole-2
-    write-whole-requires
-    enum-told
-    returns
-    returns-2)
+    (λ c. search needs)
+    (λ c κs. search needs)
+    (λ c. search needs)
+    (λ c. search needs)
+    (λ c. search needs))

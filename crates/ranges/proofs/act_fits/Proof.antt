@@ -3,21 +3,6 @@ use Rattle.section.specs.Range.{actFits}
 use Rattle.ranges.proofs.act_fits.Statement.{statement}
 use Rattle.ranges.proofs.act_fits.Tie as tie
 
-enum-told : tie.Need-enum-told
-enum-told c = search needs
-
-enum-told-2 : tie.Need-enum-told-2
-enum-told-2 c = search needs
-
-is-last-requires : tie.Need-is-last-requires
-is-last-requires c κs = search needs
-
-enum-told-3 : tie.Need-enum-told-3
-enum-told-3 c = search needs
-
-is-first-requires : tie.Need-is-first-requires
-is-first-requires c κs = search needs
-
 returns : tie.Need-returns
 unfolding actFits
 returns c = simp (c .enum-told .given .1)
@@ -34,11 +19,11 @@ pub act-fits-spec : {M : Type 1} → statement M
 act-fits-spec =
     tie.close
     (tie.spec
-    enum-told
-    enum-told-2
-    is-last-requires
-    enum-told-3
-    is-first-requires
+    (λ c. search needs)
+    (λ c. search needs)
+    (λ c κs. search needs)
+    (λ c. search needs)
+    (λ c κs. search needs)
     returns
     returns-2
     returns-3)

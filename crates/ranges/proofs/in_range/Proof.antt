@@ -5,9 +5,6 @@ use Rattle.section.proofs.Told.{told-false, told-true}
 use Rattle.ranges.proofs.in_range.Statement.{statement}
 use Rattle.ranges.proofs.in_range.Tie as tie
 
-settings-right-requires : tie.Need-settings-right-requires
-settings-right-requires c κs = search needs
-
 returns : tie.Need-returns
 unfolding inRange
 returns c = rw (told-false (c .before .settings-right .ensures) (c .if1 .taken))
@@ -37,7 +34,7 @@ pub in-range-spec : {M : Type 1} → statement M
 in-range-spec =
     tie.close
     (tie.spec
-    settings-right-requires
+    (λ c κs. search needs)
     returns
     track-fits-requires
     returns-2

@@ -4,19 +4,10 @@ use Rattle.section.proofs.Told.{told-false, told-true}
 use Rattle.ranges.proofs.track_fits.Statement.{statement}
 use Rattle.ranges.proofs.track_fits.Tie as tie
 
-cells-fit-requires : tie.Need-cells-fit-requires
-cells-fit-requires c κs = search needs
-
 returns : tie.Need-returns
 returns c =
     let a = c .before .before .args in
     rw (track-cells (a .n) (a .track) (a .t), told-false (c .before .cells-fit .ensures) (c .if1 .taken))
-
-is-upward-requires : tie.Need-is-upward-requires
-is-upward-requires c κs = search needs
-
-walk-fits-requires : tie.Need-walk-fits-requires
-walk-fits-requires c κs = search needs
 
 returns-2 : tie.Need-returns-2
 returns-2 c =
@@ -31,4 +22,4 @@ returns-2 c =
 
 pub track-fits-spec : {M : Type 1} → statement M
 track-fits-spec =
-    tie.close (tie.spec cells-fit-requires returns is-upward-requires walk-fits-requires returns-2)
+    tie.close (tie.spec (λ c κs. search needs) returns (λ c κs. search needs) (λ c κs. search needs) returns-2)

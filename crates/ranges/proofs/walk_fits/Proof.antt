@@ -4,15 +4,6 @@ use Rattle.section.specs.Range.{walkFits}
 use Rattle.ranges.proofs.walk_fits.Statement.{statement}
 use Rattle.ranges.proofs.walk_fits.Tie as tie
 
-enum-told : tie.Need-enum-told
-enum-told c = search needs
-
-enum-known-walk : tie.Need-enum-known-walk
-enum-known-walk c = search needs
-
-act-fits-requires : tie.Need-act-fits-requires
-act-fits-requires c κs = search needs
-
 returns : tie.Need-returns
 unfolding walkFits
 returns c = simp (c .enum-told .given .1)
@@ -27,4 +18,4 @@ returns-3 c = let e = c .before .before .walk .given .1 in rw (e, le-ltb _ _ (c 
 
 pub walk-fits-spec : {M : Type 1} → statement M
 walk-fits-spec =
-    tie.close (tie.spec enum-told enum-known-walk act-fits-requires returns returns-2 returns-3)
+    tie.close (tie.spec (λ c. search needs) (λ c. search needs) (λ c κs. search needs) returns returns-2 returns-3)

@@ -12,12 +12,6 @@ returns : tie.Need-returns
 unfolding handed handedOver
 returns c = rw (lt-leb _ _ (c .if1 .taken)) (refl, refl)
 
-put-text-requires : tie.Need-put-text-requires
-put-text-requires c κs = search needs
-
-same-length : tie.Need-same-length
-same-length c = search needs
-
 returns-2 : tie.Need-returns-2
 unfolding handed handedOver
 returns-2 c =
@@ -28,4 +22,4 @@ returns-2 c =
     rw (le-leb _ _ (at-if1 .if1 .left)) (refl, at-put-text .put-text .ensures .1 ∙ at-front (now (a .buffer)) (now (a .text)))
 
 pub hand-over-spec : {M : Type 1} → statement M
-hand-over-spec = tie.close (tie.spec returns put-text-requires same-length returns-2)
+hand-over-spec = tie.close (tie.spec returns (λ c κs. search needs) (λ c. search needs) returns-2)

@@ -60,9 +60,6 @@ placed c = judged c .before .before .before .before .before .before
 
 -- ## The places
 
-both-settled-requires : tie.Need-both-settled-requires Inv-loop μ-loop
-both-settled-requires c κs = search needs
-
 loop-holds : tie.Need-loop-holds Inv-loop μ-loop
 loop-holds c =
     let entry = c .before .before .before in
@@ -70,12 +67,6 @@ loop-holds c =
 
 step-at-requires : tie.Need-step-at-requires Inv-loop μ-loop
 step-at-requires c κs = omega arith
-
-enum-known-d : tie.Need-enum-known-d Inv-loop μ-loop
-enum-known-d c = search needs
-
-enum-told : tie.Need-enum-told Inv-loop μ-loop
-enum-told c = search needs
 
 note-verdict-requires : tie.Need-note-verdict-requires Inv-loop μ-loop
 note-verdict-requires c κs =
@@ -97,12 +88,6 @@ loop-again c =
     passes-over (in-loop .before .loop .inv) (in-loop .loop-test .taken) (sym (offered .step-at .ensures) ∙ told .enum-told .given .1)
     (noted .note-verdict .ensures) (noted .note-verdict .kept .0)
 
-row-of-requires : tie.Need-row-of-requires Inv-loop μ-loop
-row-of-requires c κs = search needs
-
-place-of-requires : tie.Need-place-of-requires Inv-loop μ-loop
-place-of-requires c κs = search needs
-
 mul-judge-step : tie.Need-mul-judge-step Inv-loop μ-loop
 mul-judge-step c = omega (arith, row-among c)
 
@@ -118,17 +103,11 @@ index-2-judge-step c = omega (arith, c .place-of .ensures, post-among c)
 mul-judge-step-3 : tie.Need-mul-judge-step-3 Inv-loop μ-loop
 mul-judge-step-3 c = omega (arith, row-among (c .before))
 
-array-copy-out-judge-step : tie.Need-array-copy-out-judge-step Inv-loop μ-loop
-array-copy-out-judge-step c = search needs
-
 sub-judge-step : tie.Need-sub-judge-step Inv-loop μ-loop
 sub-judge-step c = omega (arith, row-among (c .before .before))
 
 mul-judge-step-4 : tie.Need-mul-judge-step-4 Inv-loop μ-loop
 mul-judge-step-4 c = omega (arith, row-among (c .before .before))
-
-array-copy-out-judge-step-2 : tie.Need-array-copy-out-judge-step-2 Inv-loop μ-loop
-array-copy-out-judge-step-2 c = search needs
 
 mul-judge-step-5 : tie.Need-mul-judge-step-5 Inv-loop μ-loop
 mul-judge-step-5 c = omega (arith, row-among (c .before .before .before))
@@ -163,9 +142,6 @@ index-2-own c = let place = placed c in omega (arith, place .place-of .ensures, 
 
 mul-running : tie.Need-mul-running Inv-loop μ-loop
 mul-running c = omega (arith, row-among (placed c))
-
-array-set-from-running : tie.Need-array-set-from-running Inv-loop μ-loop
-array-set-from-running c = search needs
 
 note-verdict-requires-2 : tie.Need-note-verdict-requires-2 Inv-loop μ-loop
 note-verdict-requires-2 c κs =
@@ -202,26 +178,26 @@ note-from-spec =
     (tie.spec
     Inv-loop
     μ-loop
-    both-settled-requires
+    (λ c κs. search needs)
     loop-holds
     step-at-requires
-    enum-known-d
-    enum-told
+    (λ c. search needs)
+    (λ c. search needs)
     note-verdict-requires
     add-i
     loop-less
     loop-again
-    row-of-requires
-    place-of-requires
+    (λ c κs. search needs)
+    (λ c κs. search needs)
     mul-judge-step
     mul-judge-step-2
     index-1-judge-step
     index-2-judge-step
     mul-judge-step-3
-    array-copy-out-judge-step
+    (λ c. search needs)
     sub-judge-step
     mul-judge-step-4
-    array-copy-out-judge-step-2
+    (λ c. search needs)
     mul-judge-step-5
     index-1-judge-step-2
     mul-judge-step-6
@@ -232,7 +208,7 @@ note-from-spec =
     index-1-own
     index-2-own
     mul-running
-    array-set-from-running
+    (λ c. search needs)
     note-verdict-requires-2
     add-i-2
     loop-less-2

@@ -21,9 +21,6 @@ part-decode-start c = omega arith
 part-decode-end : tie.Need-part-decode-end
 part-decode-end c = omega arith
 
-decode-requires : tie.Need-decode-requires
-decode-requires c κs = search needs
-
 returns : tie.Need-returns
 returns c = c .decode .ensures ∙ ap (decoded _) (step-part _ _)
 
@@ -36,5 +33,5 @@ step-at-spec =
     sub-decode
     part-decode-start
     part-decode-end
-    decode-requires
+    (λ c κs. search needs)
     returns)

@@ -1,0 +1,80 @@
+-- After i turns the first i of the image stand in the buffer.
+use borrow.Author.Needs.{needs}
+use Prim.Native.Nat.{_-_, _≤_}
+use mathlib.Core.Path.{_≡_, ap, _∙_}
+use native.Mathlib.Omega.{arith}
+use denote.Ref.{now}
+use lib.ListN.{length}
+use Rattle.image.specs.Image.{numbersImage}
+use Rattle.text.proofs.Laws.{Put}
+use Rattle.image.proofs.Laws.{numbers-length, pair-length, numbers-more, nothing-put, same-after, room-after, put-next}
+use Rattle.image.proofs.writer.put_numbers.Statement.{statement}
+use Rattle.image.proofs.writer.put_numbers.Tie as tie
+
+abbrev Inv-loop : tie.InvT-loop
+Inv-loop buffer₀ at numbers next₀ i₀ buffer next i = (i ≤ 15) × Put buffer₀ at (numbersImage i numbers) next buffer
+
+abbrev μ-loop : tie.MeasureT-loop
+μ-loop buffer₀ at numbers next₀ i₀ buffer next i = 15 - i
+
+loop-holds : tie.Need-loop-holds Inv-loop μ-loop
+unfolding numbersImage
+loop-holds c = let x = c .before .args in (omega arith, nothing-put (now (x .buffer)) (x .at))
+
+mul-pair-bytes : tie.Need-mul-pair-bytes Inv-loop μ-loop
+mul-pair-bytes c = omega arith
+
+array-read-pair-bytes : tie.Need-array-read-pair-bytes Inv-loop μ-loop
+array-read-pair-bytes c = omega arith
+
+pair-bytes-requires : tie.Need-pair-bytes-requires Inv-loop μ-loop
+pair-bytes-requires c κs = tt
+
+put-text-requires : tie.Need-put-text-requires Inv-loop μ-loop
+put-text-requires c κs =
+    let p = c .before .before .pair-bytes in
+    let a = c .before .before .before .before in
+    room-after (a .loop .inv .1) (length (p .result))
+    (omega (arith, numbers-length (a .loop .i) (a .before .before .args .t3), ap length (p .ensures) ∙ pair-length _))
+
+add-i : tie.Need-add-i Inv-loop μ-loop
+add-i c = omega arith
+
+loop-less : tie.Need-loop-less Inv-loop μ-loop
+loop-less c = omega arith
+
+loop-again : tie.Need-loop-again Inv-loop μ-loop
+loop-again c =
+    let p = c .before .before .before .before .before in
+    let a = p .before .before in
+    let l = a .before .before .args .t3 in
+    let one-more = put-next (a .loop .inv .1) (p .pair-bytes .result) (omega (arith, numbers-length (a .loop .i) l)) (c .before .before .put-text .ensures) in
+    (omega arith, rw (numbers-more (a .loop .i) l, ← p .pair-bytes .ensures) one-more)
+
+same-length : tie.Need-same-length Inv-loop μ-loop
+same-length c = let a = c .before .loop in same-after (a .inv .1) (omega (arith, numbers-length (a .i) (c .before .before .before .args .t3)))
+
+returns : tie.Need-returns Inv-loop μ-loop
+returns c =
+    let a = c .before .loop in
+    let e : a .i ≡ 15 = omega arith in
+    let p = rw e at (a .inv .1) in
+    (omega (arith, p .next, numbers-length 15 (c .before .before .before .args .t3)), p .after)
+
+pub put-numbers-spec : {M : Type 1} → statement M
+put-numbers-spec =
+    tie.close
+    (tie.spec
+    Inv-loop
+    μ-loop
+    loop-holds
+    mul-pair-bytes
+    array-read-pair-bytes
+    pair-bytes-requires
+    (λ c. search needs)
+    put-text-requires
+    add-i
+    loop-less
+    loop-again
+    same-length
+    returns)

@@ -1,0 +1,37 @@
+-- A line of the panel: what every post shows on the step's track after the step.
+use Prim.Native.Nat.{ℕ}
+use Prim.Native.Char.{code}
+use mathlib.Core.Bool.{cond}
+use mathlib.Core.List.{List, [], _∷_, _++_}
+use lib.Dec.{eqb}
+use Rattle.section.specs.declared.Answer.{Answer}
+use Rattle.section.specs.declared.Indications.{Indications}
+use Rattle.section.specs.declared.Section.{Section}
+use Rattle.section.specs.Bytes.{byte}
+use Rattle.rules.specs.Indications.{indications}
+use Rattle.text.specs.Text.{ascii, digit, decimal}
+use Rattle.lines.specs.Text.{inTurn}
+
+-- a post's CIRCULATION, TRONÇON and permission, a stroke between, after a space
+unfoldable pub lamps : Indications → List ℕ
+lamps l =
+    ascii " " ++ (digit (l .circulation) ∷ (ascii "/" ++ (digit (l .troncon) ∷ (ascii "/" ++ (digit (l .permission) ∷ [])))))
+
+-- those of every post, from post 0 on
+unfoldable pub lampsOf : Section → ℕ → List ℕ
+lampsOf s track = inTurn (λ p. lamps (indications s track p)) (s .settings .posts)
+
+-- the step's track
+unfoldable pub trackName : ℕ → ℕ
+trackName track = cond (eqb track 1) (code "B") (code "A")
+
+-- the index, the step's track as a letter, and every post's lamps
+unfoldable pub panelFields : ℕ → ℕ → Section → List ℕ
+panelFields index track s = decimal index ++ (ascii " " ++ (trackName track ∷ (lampsOf s track ++ ascii "\n")))
+
+unfoldable pub panelLine : ℕ → List ℕ → Answer → List ℕ
+panelLine index bytes answer = panelFields index (byte bytes 1) (answer .section)
+
+-- room for the longest
+abbrev pub panelLineRoom : ℕ
+panelLineRoom = 104

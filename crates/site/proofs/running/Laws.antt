@@ -1,0 +1,19 @@
+-- A site of a track in its ranges.
+use Prim.Native.Nat.{ℕ, _<_}
+use mathlib.Core.Bool.{Bool, true}
+use mathlib.Core.Path.{_≡_}
+use Rattle.section.specs.declared.Settings.{Settings}
+use Rattle.section.specs.declared.Track.{Track}
+use Rattle.section.specs.Range.{trackFits}
+use Rattle.section.specs.Settings.{settingsRight}
+use Rattle.section.proofs.Laws.{posts-right, track-right}
+use Rattle.rules.specs.Site.{siteOn}
+use Rattle.site.specs.Fit.{Fit}
+
+pub fit-on :
+    (c : Settings) (vns track : Bool) (t : Track) (p : ℕ) → settingsRight c ≡ true → trackFits (c .posts) track t ≡ true → p < c .posts
+    → Fit c (siteOn vns track p t)
+fit-on c vns track t p right fits below =
+    let n = posts-right c right in
+    let r = track-right (c .posts) track t fits in
+    record { placed = record { least = n .0; most = n .1; post = below }; seals = r .seals p below; walk = r .walk }

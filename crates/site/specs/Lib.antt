@@ -1,0 +1,5 @@
+pub mod Placed
+pub mod VerdictAt
+pub mod Fit
+pub mod Running
+pub mod Stretch

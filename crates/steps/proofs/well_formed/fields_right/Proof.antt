@@ -1,0 +1,46 @@
+use borrow.Author.Needs.{needs}
+use Rattle.section.specs.Step.{fieldsRight}
+use Rattle.section.proofs.Told.{told-false, told-true}
+use Rattle.steps.proofs.well_formed.fields_right.Statement.{statement}
+use Rattle.steps.proofs.well_formed.fields_right.Tie as tie
+
+returns : tie.Need-returns
+unfolding fieldsRight
+returns c = rw (told-false (c .before .place-right .ensures) (c .if1 .taken))
+
+returns-2 : tie.Need-returns-2
+unfolding fieldsRight
+returns-2 c = let b = c .before .before in
+    rw (told-true (b .before .place-right .ensures) (b .if1 .left), told-false (c .before .fault-right .ensures) (c .if2 .taken))
+
+returns-3 : tie.Need-returns-3
+unfolding fieldsRight
+returns-3 c = let d = c .before .before in
+    let b = d .before .before in
+    rw (
+      told-true (b .before .place-right .ensures) (b .if1 .left),
+      told-true (d .before .fault-right .ensures) (d .if2 .left),
+      told-false (c .before .number-right .ensures) (c .if3 .taken),
+    )
+
+returns-4 : tie.Need-returns-4
+unfolding fieldsRight
+returns-4 c = let d = c .before .before in
+    let b = d .before .before in
+    rw (
+      told-true (b .before .place-right .ensures) (b .if1 .left),
+      told-true (d .before .fault-right .ensures) (d .if2 .left),
+      told-true (c .before .number-right .ensures) (c .if3 .left),
+    )
+
+pub fields-right-spec : {M : Type 1} → statement M
+fields-right-spec =
+    tie.close
+    (tie.spec
+    (λ c κs. search needs)
+    returns
+    (λ c κs. search needs)
+    returns-2
+    (λ c κs. search needs)
+    returns-3
+    returns-4)
