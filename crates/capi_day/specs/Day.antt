@@ -1,24 +1,26 @@
 -- What a call returns that notes the steps of a day, and the lent buffer afterwards.
-use Prim.Native.Nat.{ℕ, _/_}
-use mathlib.Core.Bool.{cond}
+use Prim.Native.Nat.{ℕ, _*_, _/_}
+use mathlib.Core.Bool.{Bool, cond}
 use mathlib.Core.List.{List}
 use lib.ListN.{length}
+use lib.Dec.{ltb}
 use Rattle.section.specs.declared.Settings.{Settings}
 use Rattle.section.specs.Numbers.{stepLength}
 use Rattle.section.specs.Settings.{settingsRight}
-use Rattle.whole_day.specs.Notes.{canBeNoted, notesAfter}
+use Rattle.notes.specs.Note.{noteLength}
+use Rattle.whole_day.specs.Notes.{notesAfter}
 
 -- the whole steps that are offered
 abbrev pub stepsOffered : List ℕ → ℕ
 stepsOffered steps = length steps / stepLength
 
--- of a day that cannot be noted: 6 for settings out of their ranges, else 5, for the buffer is too short for the notes
-unfoldable pub dayRefusal : Settings → ℕ
-dayRefusal c = cond (settingsRight c) 5 6
+-- the buffer is too short for their notes
+abbrev pub notesTooLong : List ℕ → ℕ → Bool
+notesTooLong steps room = ltb room (noteLength * stepsOffered steps)
 
--- 0 where the day can be noted
+-- 6, then 5
 unfoldable pub dayAnswer : Settings → List ℕ → ℕ → ℕ
-dayAnswer c steps room = cond (canBeNoted c steps (stepsOffered steps) room) 0 (dayRefusal c)
+dayAnswer c steps room = cond (settingsRight c) (cond (notesTooLong steps room) 5 0) 6
 
 -- the notes at the buffer's front; a refused call leaves it untouched
 abbrev pub dayNotes : Settings → List ℕ → List ℕ → List ℕ

@@ -1,8 +1,10 @@
 // The C interface to the steps of a day: for the comparison with a second implementation and for its benchmark.
 // It is not stable: names and the notes' layout may change with any delivery.
+ghost use mathlib.Core.Bool.{cond};
 ghost use mathlib.Core.Path.{_≡_};
 ghost use lib.ListN.{length};
-ghost use Rattle.capi_day.specs.Day.{dayRefusal, dayAnswer, dayNotes};
+ghost use Rattle.section.specs.Settings.{settingsRight};
+ghost use Rattle.capi_day.specs.Day.{dayAnswer, dayNotes};
 ghost use Rattle.packed.specs.Settings.{settingsGiven};
 use packed::settings_given;
 use ranges::settings::settings_right;
@@ -10,9 +12,9 @@ use section::STEP_LENGTH;
 use section::Settings;
 use whole_day::note_day;
 
-// Why a day cannot be noted: 6 for settings out of their ranges, else 5, for a buffer too short for the notes.
+// Why the whole steps of a day cannot be noted: 6 for settings out of their ranges, else 5, for a buffer too short for the notes.
 pub fn day_refusal(c: Settings) -> u8
-    ensures { λ r. ⌜ r ≡ dayRefusal c ⌝ }
+    ensures { λ r. ⌜ r ≡ cond (settingsRight c) 5 6 ⌝ }
 {
     if settings_right(c) { 5 } else { 6 }
 }

@@ -40,7 +40,7 @@ unfoldable pub endsOn : Reversal → Track → Bool
 endsOn r t =
     isSettled (t .walk) && (Bool·beq (t .cvt) (r .cvt) && postOn t (rank (r .posts) (upward (r .track) (r .cvt)) 0) .permission)
 
--- every step is accepted
+-- no step is refused, and the track ends so
 unfoldable pub endsWell : Reversal → Option Section → Bool
 endsWell r none = false
 endsWell r (some s) = endsOn r (trackOf s (r .track))

@@ -79,7 +79,8 @@ fn room_for_notes() -> [u8; NOTES_ROOM]
     [0; NOTES_ROOM]
 }
 
-// Writes the listing's lines of all steps, from the notes taken of them, and returns the next place.
+// Writes the listing's lines of all steps, from the notes taken of them, and returns the next place. Such a day can be noted, so the answer
+// is not looked at.
 fn put_step_lines(buffer: &mut [u8], at: usize, c: Settings, steps: &[u8], count: usize) -> usize
     requires { ⌜ (at + stepLineRoom * count ≤ length (now buffer)) × (count ≤ mostSteps) ⌝ }
     requires { ⌜ (stepLength * count ≤ length (now steps)) × (settingsRight c ≡ true) ⌝ }

@@ -71,9 +71,12 @@ running cvt walk t = record { posts = t .posts; trains = t .trains; last = t .la
 abbrev pub cells : List ℕ → List ℕ
 cells numbers = numbers ++ replicate (mostBlocks - length numbers) 0
 
--- a track with these trains in its block sections
+-- a track with these trains, or these last trains, in its block sections
 abbrev pub holding : List ℕ → Track → Track
 holding trains t = record { posts = t .posts; trains = cells trains; last = t .last; cvt = t .cvt; walk = t .walk }
+
+abbrev pub holdingLast : List ℕ → Track → Track
+holdingLast numbers t = record { posts = t .posts; trains = t .trains; last = cells numbers; cvt = t .cvt; walk = t .walk }
 
 unfoldable pub sealedTimes : ℕ → Post → Post
 sealedTimes zero o = o

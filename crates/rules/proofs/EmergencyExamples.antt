@@ -2,9 +2,10 @@
 -- does.
 use mathlib.Core.Path.{refl}
 use mathlib.Core.List.{[], _∷_, _++_}
+use Rattle.section.specs.declared.Section.{Section}
 use Rattle.section.specs.declared.Fault.the-variants.{One, Two, Three}
 use Rattle.section.specs.declared.Step.the-variants.{Order, Set, Announce, Acknowledge, Start, Pass, Leave, MeasuresOn, FaultOn, FaultOff, Release, Key}
-use Rattle.rules.proofs.Days.{A, B, telephone, materialised, fresh, sealedAt, on, reversalToCvt}
+use Rattle.rules.proofs.Days.{A, B, telephone, materialised, fresh, changedTrack, holdingLast, sealedAt, on, reversalToCvt}
 use Rattle.rules.proofs.Rows.{_gives_, Holds, judged, judgedFrom, accepted, refused, _before_}
 
 -- ## Kind 12, release: "15; 12 the last post; 21; 13; 17"
@@ -64,6 +65,8 @@ pub release-refused-13 :
     ∷ (judged (telephone 2 3) (on A (reversalToCvt (0 ∷ 1 ∷ []) ++ Start 1 7 ∷ FaultOn 1 One ∷ Release 1 7 ∷ [])) gives refused 13)
     -- not one that is further ahead
     ∷ (judged (telephone 3 5) (on A (Start 0 7 ∷ FaultOn 0 One ∷ Pass 1 7 ∷ Release 0 7 ∷ [])) gives accepted)
+    -- the block section, not the stretch
+    ∷ (judged (telephone 3 5) (on A (reversalToCvt (0 ∷ 1 ∷ 2 ∷ []) ++ Start 2 7 ∷ Pass 1 7 ∷ FaultOn 2 One ∷ Release 2 7 ∷ [])) gives accepted)
     ∷ [])
 unfolding judged
 release-refused-13 = refl
@@ -82,6 +85,20 @@ pub release-refused-17 :
     ∷ [])
 unfolding judged
 release-refused-17 = refl
+
+-- train 7 entered block section 0 last, train 8 block section 1: no day reaches it with both free
+unfoldable pub sevenAndEight : Section
+unfolding fresh
+sevenAndEight = changedTrack A (holdingLast (7 ∷ 8 ∷ [])) (fresh (telephone 3 7))
+
+-- the block section ahead of the post, not the one before it
+pub release-of-the-train-ahead :
+    Holds
+    ((judgedFrom sevenAndEight (on A (MeasuresOn 0 ∷ Order 0 ∷ Set 0 ∷ Announce 0 ∷ Acknowledge 1 ∷ FaultOn 1 One ∷ Release 1 7 ∷ [])) gives refused 17)
+    ∷ (judgedFrom sevenAndEight (on A (MeasuresOn 0 ∷ Order 0 ∷ Set 0 ∷ Announce 0 ∷ Acknowledge 1 ∷ FaultOn 1 One ∷ Release 1 8 ∷ [])) gives accepted)
+    ∷ [])
+unfolding sevenAndEight judged
+release-of-the-train-ahead = refl
 
 -- "checks in order"
 pub release-checks-in-order :
@@ -134,6 +151,8 @@ pub key-refused-13 :
     ∷ (judged (materialised 3 7)
     (on B (Start 2 7 ∷ Pass 1 7 ∷ MeasuresOn 2 ∷ MeasuresOn 1 ∷ FaultOn 1 Two ∷ Order 2 ∷ Set 2 ∷ Announce 2 ∷ Acknowledge 1 ∷ Key 1 ∷ []))
     gives refused 13)
+    -- the block section, not the stretch
+    ∷ (judged (materialised 3 5) (on A (reversalToCvt (0 ∷ 1 ∷ 2 ∷ []) ++ Start 2 7 ∷ Pass 1 7 ∷ FaultOn 2 Two ∷ Order 2 ∷ Key 2 ∷ [])) gives accepted)
     ∷ [])
 unfolding judged
 key-refused-13 = refl

@@ -55,6 +55,7 @@ pub out-of-range-refused-6 :
     -- "Cells past post n−1 or block section n−2 are neither tested nor changed."
     ∷ (answerTo (sealedAt A 3 1000 (fresh (telephone 3 7))) orderA0 gives 0 ∷ [])
     ∷ (answerTo (changedTrack A (holding (0 ∷ 0 ∷ 10000 ∷ [])) (fresh (telephone 3 7))) orderA0 gives 0 ∷ [])
+    ∷ (answerTo (changedTrack A (holding (0 ∷ 0 ∷ 7 ∷ [])) (fresh (telephone 3 7))) (5 ∷ 0 ∷ 0 ∷ 0 ∷ 7 ∷ 0 ∷ 0 ∷ 0 ∷ []) gives 0 ∷ [])
     -- "A state inside the ranges is judged by the table of steps, reachable or not."
     ∷ (answerTo (changedTrack B (running VNS (Turn 0 act.Acknowledge)) (fresh (telephone 3 7))) orderA0 gives 14 ∷ [])
     ∷ [])

@@ -90,6 +90,8 @@ pub order-refused-13-materialised :
     ∷ (judged (materialised 3 7) (on A (Start 0 7 ∷ Pass 1 7 ∷ Order 0 ∷ [])) gives accepted)
     ∷ (judged (materialised 4 15) (on B (Start 3 7 ∷ Pass 2 7 ∷ Pass 1 7 ∷ Order 3 ∷ [])) gives accepted)
     ∷ (judged (materialised 3 7) (on A (reversalToCvt (0 ∷ 1 ∷ 2 ∷ []) ++ Start 2 7 ∷ Order 2 ∷ [])) gives refused 13)
+    -- the block section, not the stretch
+    ∷ (judged (materialised 3 5) (on A (reversalToCvt (0 ∷ 1 ∷ 2 ∷ []) ++ Start 2 7 ∷ Pass 1 7 ∷ Order 2 ∷ [])) gives accepted)
     ∷ [])
 unfolding judged
 order-refused-13-materialised = refl
@@ -147,6 +149,8 @@ pub set-refused-13 :
     ∷ (judged (materialised 4 15)
     (on A (Start 0 7 ∷ Pass 1 7 ∷ Pass 2 7 ∷ MeasuresOn 0 ∷ MeasuresOn 1 ∷ Order 0 ∷ Set 0 ∷ Announce 0 ∷ Acknowledge 1 ∷ Set 1 ∷ []))
     gives accepted)
+    -- the block section, not the stretch
+    ∷ (judged (materialised 3 5) (on A (reversalToCvt (0 ∷ 1 ∷ 2 ∷ []) ++ Start 2 7 ∷ Pass 1 7 ∷ Order 2 ∷ Set 2 ∷ [])) gives accepted)
     ∷ [])
 unfolding judged
 set-refused-13 = refl
@@ -229,8 +233,9 @@ pub announce-refused-15 :
     ((judged (telephone 2 3) (on A (Announce 0 ∷ [])) gives refused 15)
     -- it has not set
     ∷ (judged (telephone 2 3) (on B (Order 1 ∷ Announce 1 ∷ [])) gives refused 15)
-    -- another post's turn
+    -- another post's turn, and its own to acknowledge
     ∷ (judged (telephone 3 7) (on A (MeasuresOn 0 ∷ Order 0 ∷ Set 0 ∷ Announce 1 ∷ [])) gives refused 15)
+    ∷ (judged (telephone 3 7) (on A (MeasuresOn 0 ∷ Order 0 ∷ Set 0 ∷ Announce 0 ∷ Announce 1 ∷ [])) gives refused 15)
     -- "the last post only sets"
     ∷ (judged (telephone 2 3) (on A (reversalToCvt (0 ∷ 1 ∷ []) ++ Announce 1 ∷ [])) gives refused 15)
     ∷ [])
@@ -246,8 +251,10 @@ pub acknowledge-says :
     ∷ (judged (materialised 4 15) (on B (MeasuresOn 3 ∷ Order 3 ∷ Set 3 ∷ Announce 3 ∷ Acknowledge 2 ∷ [])) gives says Cvtz)
     ∷ (judged (materialised 3 7) (on A (reversalToCvt (0 ∷ 1 ∷ 2 ∷ []) ++ Order 2 ∷ Set 2 ∷ Announce 2 ∷ Acknowledge 1 ∷ [])) gives says Vnsz)
     ∷ (judged (telephone 2 3) (on B (reversalToCvt (1 ∷ 0 ∷ []) ++ Order 0 ∷ Set 0 ∷ Announce 0 ∷ Acknowledge 1 ∷ [])) gives says Vnsz)
+    -- the new direction, whatever the device stands at
+    ∷ (judgedFrom bothOnCvt (on A (Order 2 ∷ Set 2 ∷ Announce 2 ∷ Acknowledge 1 ∷ [])) gives says Vnsz)
     ∷ [])
-unfolding judged
+unfolding bothOnCvt judged
 acknowledge-says = refl
 
 -- "not this post's turn for it"
@@ -260,6 +267,9 @@ pub acknowledge-refused-15 :
     -- the announcer, and a post beyond the next
     ∷ (judged (telephone 3 7) (on A (MeasuresOn 0 ∷ Order 0 ∷ Set 0 ∷ Announce 0 ∷ Acknowledge 0 ∷ [])) gives refused 15)
     ∷ (judged (telephone 3 7) (on A (MeasuresOn 0 ∷ Order 0 ∷ Set 0 ∷ Announce 0 ∷ Acknowledge 2 ∷ [])) gives refused 15)
+    -- its own turn to set, and to announce
+    ∷ (judged (telephone 3 7) (on B (MeasuresOn 2 ∷ Order 2 ∷ Set 2 ∷ Announce 2 ∷ Acknowledge 1 ∷ Acknowledge 1 ∷ [])) gives refused 15)
+    ∷ (judged (telephone 3 7) (on B (MeasuresOn 2 ∷ Order 2 ∷ Set 2 ∷ Acknowledge 2 ∷ [])) gives refused 15)
     ∷ [])
 unfolding judged
 acknowledge-refused-15 = refl

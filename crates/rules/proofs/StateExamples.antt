@@ -16,8 +16,10 @@ use Rattle.section.specs.declared.Step.the-variants.{Order, Set, Announce, Ackn
 use Rattle.section.specs.declared.Step.the-variants.{FaultOn, FaultOff, Release, Key}
 use Rattle.section.specs.Post.{blank, turned, permitted, measured, faulty, marked, sealed}
 use Rattle.section.specs.Store.{trackOf, postOn}
-use Rattle.rules.proofs.Days.{A, B, VNS, CVT, telephone, materialised, fresh, changedPost, cells, on, reversal, reversalToCvt}
+use Rattle.rules.specs.Demand3.{stateAfter}
+use Rattle.rules.proofs.Days.{A, B, VNS, CVT, telephone, materialised, fresh, changedPost, cells, on, reversal, reversalToCvt, offeredAs}
 use Rattle.rules.proofs.Rows.{_gives_, Holds, seenFrom, seen}
+use Rattle.rules.proofs.ReversalExamples.{bothOnCvt}
 use Rattle.rules.proofs.TrainExamples.{twoInOneStretch}
 
 -- ## What a post keeps
@@ -190,6 +192,37 @@ pub reversal-walks-downward :
 unfolding seen
 reversal-walks-downward = refl
 
+-- "the post whose turn it is and its act" stay as they are where a train runs on, and where a post notes something of itself
+pub walk-stays :
+    Holds
+    ((keptAfter (materialised 3 7) (on A (Start 0 7 ∷ Pass 1 7 ∷ Order 0 ∷ MeasuresOn 0 ∷ [])) A
+    gives some (record { cvt = VNS; walk = Turn 0 act.Set; trains = cells (0 ∷ 7 ∷ []); last = cells (7 ∷ 7 ∷ []) }))
+    ∷ (keptAfter (materialised 3 7) (on A (Start 0 7 ∷ Pass 1 7 ∷ Order 0 ∷ Leave 2 7 ∷ [])) A
+    gives some (record { cvt = VNS; walk = Turn 0 act.Set; trains = cells []; last = cells (7 ∷ 7 ∷ []) }))
+    ∷ (keptAfter (materialised 4 15) (on A (Start 0 7 ∷ Pass 1 7 ∷ Order 0 ∷ Pass 2 7 ∷ [])) A
+    gives some (record { cvt = VNS; walk = Turn 0 act.Set; trains = cells (0 ∷ 0 ∷ 7 ∷ []); last = cells (7 ∷ 7 ∷ 7 ∷ []) }))
+    ∷ [])
+unfolding seen
+walk-stays = refl
+
+-- the running direction is the track's own, whatever the devices stand at
+pub direction-stays :
+    Holds
+    ((seenFrom (keptOn A) bothOnCvt (on A (Order 2 ∷ [])) gives walking CVT (Turn 2 act.Set))
+    ∷ (seenFrom (keptOn A) bothOnCvt (on A (Order 2 ∷ Set 2 ∷ [])) gives walking CVT (Turn 2 act.Announce))
+    ∷ (seenFrom (keptOn A) bothOnCvt (on A (Order 2 ∷ Set 2 ∷ Announce 2 ∷ Acknowledge 1 ∷ [])) gives walking CVT (Turn 1 act.Set))
+    ∷ (seenFrom (keptOn A) bothOnCvt (on A (reversal (2 ∷ 1 ∷ 0 ∷ []))) gives walking VNS Settled)
+    ∷ (seenFrom (keptOn A) bothOnCvt (on A (Start 2 7 ∷ [])) gives carrying CVT (0 ∷ 7 ∷ []) (0 ∷ 7 ∷ []))
+    ∷ (seenFrom (keptOn A) bothOnCvt (on A (Start 2 7 ∷ Pass 1 7 ∷ Leave 0 7 ∷ [])) gives carrying CVT [] (7 ∷ 7 ∷ []))
+    ∷ [])
+unfolding seen bothOnCvt
+direction-stays = refl
+
+-- set puts the device at the new direction, also one that stands there already
+pub set-does-not-toggle : Holds ((seenFrom (ownOf A 2) bothOnCvt (on A (Order 2 ∷ Set 2 ∷ [])) gives some blank) ∷ [])
+unfolding seen bothOnCvt
+set-does-not-toggle = refl
+
 -- "train enters", "train moves one block section on", "train gone"; the last train of a block section stays
 pub trains-run :
     Holds
@@ -227,3 +260,22 @@ trains-run-in-cvt = refl
 pub pass-onto-a-train : Holds ((seenFrom (keptOn A) twoInOneStretch (on A (Pass 1 7 ∷ [])) gives carrying CVT (7 ∷ []) (7 ∷ [])) ∷ [])
 unfolding seen twoInOneStretch
 pass-onto-a-train = refl
+
+-- ## A refused step
+
+-- "each later one the state returned for the step before it, accepted or refused": a refused step leaves the section as it was
+pub refused-leaves-the-post :
+    Holds
+    ((ownOf A 0 (stateAfter (fresh (telephone 2 3)) (offeredAs (on A (Order 0 ∷ Set 0 ∷ [])))) gives blank)
+    ∷ (ownOf B 2 (stateAfter (fresh (materialised 3 7)) (offeredAs (on B (Release 2 0 ∷ Key 2 ∷ FaultOff 2 One ∷ [])))) gives permitted true blank)
+    ∷ [])
+unfolding seen stateAfter
+refused-leaves-the-post = refl
+
+pub refused-leaves-the-track :
+    Holds
+    ((some (keptOn A (stateAfter (fresh (telephone 2 3)) (offeredAs (on A (Start 0 7 ∷ Start 0 8 ∷ Pass 1 7 ∷ Leave 1 8 ∷ Order 0 ∷ [])))))
+    gives carrying VNS (7 ∷ []) (7 ∷ []))
+    ∷ [])
+unfolding seen stateAfter
+refused-leaves-the-track = refl

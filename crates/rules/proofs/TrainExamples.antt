@@ -89,6 +89,16 @@ pub start-from-signalled-to-signalled :
 unfolding judged
 start-from-signalled-to-signalled = refl
 
+-- train 8 in the stretch from post 2 over post 1, which is not signalled, in CVT, with the devices at VNS: no day reaches it
+unfoldable pub devicesAtVns : Section
+unfolding fresh
+devicesAtVns = changedTrack A (λ t. holding (8 ∷ []) (running CVT Settled t)) (fresh (telephone 3 5))
+
+-- the stretch is of the running direction, not of the device
+pub start-looks-at-no-device : Holds ((judgedFrom devicesAtVns (on A (Start 2 7 ∷ [])) gives refused 13) ∷ [])
+unfolding devicesAtVns judged
+start-looks-at-no-device = refl
+
 -- "Fault 1 stops set, key and start until the train last sent is confirmed"
 pub start-refused-18 :
     Holds

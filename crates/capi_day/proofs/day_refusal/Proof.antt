@@ -1,15 +1,12 @@
 use borrow.Author.Needs.{needs}
 use Rattle.section.proofs.Told.{told}
-use Rattle.capi_day.specs.Day.{dayRefusal}
 use Rattle.capi_day.proofs.day_refusal.Statement.{statement}
 use Rattle.capi_day.proofs.day_refusal.Tie as tie
 
 returns : tie.Need-returns
-unfolding dayRefusal
 returns c = rw (told (c .before .settings-right .ensures) (c .if1 .taken))
 
 returns-2 : tie.Need-returns-2
-unfolding dayRefusal
 returns-2 c = rw (told (c .before .settings-right .ensures) (c .if1 .left))
 
 pub day-refusal-spec : {M : Type 1} → statement M

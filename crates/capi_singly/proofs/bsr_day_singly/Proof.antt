@@ -1,14 +1,15 @@
 -- By whether the day can be noted.
+use mathlib.Core.Path.{_∙_}
 use borrow.Author.Needs.{needs}
 use denote.Ref.{now}
 use Rattle.section.proofs.Told.{told-false, told-true}
 use Rattle.whole_day.proofs.Laws.{day-fits, notes-written, notes-untouched}
-use Rattle.capi_day.specs.Day.{stepsOffered, dayAnswer}
+use Rattle.capi_day.specs.Day.{stepsOffered}
+use Rattle.capi_day.proofs.Answers.{noted, refused}
 use Rattle.capi_singly.proofs.bsr_day_singly.Statement.{statement}
 use Rattle.capi_singly.proofs.bsr_day_singly.Tie as tie
 
 returns : tie.Need-returns
-unfolding dayAnswer
 returns c =
     let then = c .before in
     let asked = then .before in
@@ -16,7 +17,7 @@ returns c =
     let a = asked .before .before .before .before .args in
     let not-so = told-false (asked .can-be-noted .ensures) (then .if1 .taken) in
     rw (← given .ensures) (
-      rw not-so (c .day-refusal .ensures),
+      c .day-refusal .ensures ∙ refused (given .result) (now (a .steps)) _ not-so,
       rw (notes-untouched (given .result) (now (a .steps)) (stepsOffered (now (a .steps))) (now (a .buffer)) not-so),
     )
 
@@ -27,7 +28,6 @@ note-singly-requires c κs =
     (fits .steps-there, fits .notes-fit)
 
 returns-2 : tie.Need-returns-2
-unfolding dayAnswer
 returns-2 c =
     let walked = c .before .before in
     let else = walked .before .before in
@@ -36,7 +36,7 @@ returns-2 c =
     let a = asked .before .before .before .before .args in
     let so = told-true (asked .can-be-noted .ensures) (else .if1 .left) in
     rw (← given .ensures) (
-      rw so,
+      noted (given .result) (now (a .steps)) _ so,
       rw (notes-written (given .result) (now (a .steps)) (stepsOffered (now (a .steps))) (now (a .buffer)) so) (walked .note-singly .ensures),
     )
 
