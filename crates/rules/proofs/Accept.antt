@@ -15,7 +15,7 @@ use Rattle.section.specs.declared.Verdict.the-variants.{Accepted, Refused}
 use Rattle.section.specs.Range.{inRange}
 use Rattle.section.specs.Step.{decoded, numberOf}
 use Rattle.section.specs.Store.{trackOf, withTrack}
-use Rattle.rules.specs.Site.{siteOn, otherSettledOnVns, occupancyAt}
+use Rattle.rules.specs.Site.{siteOn, otherSettledOnVns, Occupancy, occupancyAt}
 use Rattle.rules.specs.Table.{Check, checks, effect, trackAfter}
 use Rattle.rules.specs.Judge.{verdictOf, answerOf, verdictOn, sectionAfter, judgeStep, judgeDecoded, judgeInRange, judge}
 use Rattle.rules.proofs.Facts.{T-true}
@@ -50,12 +50,15 @@ ruled (k ∷ ks) w = go (k .holds) refl (ruled ks w)
 -- ## A step on a track: its checks, the track after it
 
 module _ (c : Settings) where
-  abbrev pub checksAt : Bool → Bool → ℕ → View → Track → List Check
-  checksAt v b p k t =
-      checks c (flat p k) (siteOn v b p t) (occupancyAt c (siteOn v b p t) (numberOf (flat p k)) (t .trains) (t .last))
+  -- what its checks see of the trains, and of the other track: v, whether that is settled on VNS
+  abbrev pub occupancyOn : Bool → Bool → ℕ → View → Track → Occupancy
+  occupancyOn v b p k t = occupancyAt c v (siteOn b p t) (numberOf (flat p k)) (t .trains) (t .last)
 
-  abbrev pub moved : Bool → Bool → ℕ → View → Track → Track
-  moved v b p k t = trackAfter c (flat p k) (siteOn v b p t) t
+  abbrev pub checksAt : Bool → Bool → ℕ → View → Track → List Check
+  checksAt v b p k t = checks c (flat p k) (siteOn b p t) (occupancyOn v b p k t)
+
+  abbrev pub moved : Bool → ℕ → View → Track → Track
+  moved b p k t = trackAfter c (flat p k) (siteOn b p t) t
 
   pub record Passes (v b : Bool) (p : ℕ) (k : View) (t : Track) : Type 0 where
     pub fits : Fits (c .posts) p k
@@ -67,10 +70,10 @@ module _ (c : Settings) where
   Ok s x = Passes (otherSettledOnVns s (x .track)) (x .track) (x .post) (x .kind) (trackOf s (x .track))
 
   unfoldable pub word : Section → Seen → Said
-  word s x = effect c (flat (x .post) (x .kind)) (siteOn (otherSettledOnVns s (x .track)) (x .track) (x .post) (trackOf s (x .track))) .said
+  word s x = effect c (flat (x .post) (x .kind)) (siteOn (x .track) (x .post) (trackOf s (x .track))) .said
 
   unfoldable pub next : Section → Seen → Section
-  next s x = withTrack s (x .track) (moved (otherSettledOnVns s (x .track)) (x .track) (x .post) (x .kind) (trackOf s (x .track)))
+  next s x = withTrack s (x .track) (moved (x .track) (x .post) (x .kind) (trackOf s (x .track)))
 
   abbrev pub checksOf : Section → Seen → List Check
   checksOf s x = checksAt (otherSettledOnVns s (x .track)) (x .track) (x .post) (x .kind) (trackOf s (x .track))

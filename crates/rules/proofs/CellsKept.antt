@@ -19,14 +19,15 @@ use Rattle.section.proofs.Laws.{posts-right, settings-in-range}
 use Rattle.rules.specs.declared.Site.{Site}
 use Rattle.rules.specs.declared.Movement.{Movement}
 use Rattle.rules.specs.declared.Movement.the-variants.{Stays, Enters, Moves, Leaves}
-use Rattle.rules.specs.Site.{siteOn, otherSettledOnVns, atSendingEnd, atReceivingEnd, blockAhead, blockBefore}
+use Rattle.rules.specs.Site.{siteOn, otherSettledOnVns, blockAhead, blockBefore}
 use Rattle.rules.specs.Table.{checks, effect, trainsAfter, lastAfter, trackAfter}
 use Rattle.rules.specs.Judge.{judge}
 use Rattle.rules.specs.CellsPast.{SamePast, CellsPastKept}
-use Rattle.rules.proofs.Facts.{nor-l, nor-r, by-track, first-not-last, last-not-first, ahead-lt, before-lt}
+use Rattle.rules.proofs.Facts.{by-track, first-not-last, ahead-lt, before-lt}
 use Rattle.rules.proofs.View.{start, pass, leave, View, walks, runs, notes, releases, flat, Seen}
 use Rattle.rules.proofs.Frame.{still-train}
 use Rattle.rules.proofs.Accept.{Passes, moved, Ok, next, Judged, refused, accepted, judged}
+use Rattle.rules.proofs.Held.{start-held, pass-held, leave-not-first}
 use Rattle.rules.proofs.Exchange.{here-after, there-after}
 
 pub same-past : (n : ℕ) (t : Track) → SamePast n t t
@@ -63,7 +64,7 @@ module _ (c : Settings) where
 
   module _ (n2 : 2 ≤ c .posts) (v b : Bool) (p : ℕ) (t : Track) where
     abbrev e : Site
-    e = siteOn v b p t
+    e = siteOn b p t
 
     abbrev up : Bool
     up = upward b (t .cvt)
@@ -72,16 +73,16 @@ module _ (c : Settings) where
     stores-inside : (k : View) → Passes c v b p k t → StoresInside (effect c (flat p k) e .train) e
     unfolding checks effect flat
     stores-inside (walks r) h = rw (still-train c p (walks r) e tt) tt
-    stores-inside (runs start z) h = ahead-lt (c .posts) up p (h .fits .below) (first-not-last (c .posts) up p n2 (h .held .1 .0))
+    stores-inside (runs start z) h = ahead-lt (c .posts) up p (h .fits .below) (first-not-last (c .posts) up p n2 (start-held h .first))
     stores-inside (runs pass z) h = (
-      before-lt (c .posts) up p (h .fits .below) (nor-l (atSendingEnd c e) (atReceivingEnd c e) (h .held .0)),
-      ahead-lt (c .posts) up p (h .fits .below) (nor-r (atSendingEnd c e) (atReceivingEnd c e) (h .held .0)),
+      before-lt (c .posts) up p (h .fits .below) (pass-held h .not-first),
+      ahead-lt (c .posts) up p (h .fits .below) (pass-held h .not-last),
     )
-    stores-inside (runs leave z) h = before-lt (c .posts) up p (h .fits .below) (last-not-first (c .posts) up p n2 (h .held .0))
+    stores-inside (runs leave z) h = before-lt (c .posts) up p (h .fits .below) (leave-not-first n2 h)
     stores-inside (notes k) h = rw (still-train c p (notes k) e tt) tt
     stores-inside (releases z) h = tt
 
-    moved-past : (k : View) → Passes c v b p k t → SamePast (c .posts) (moved c v b p k t) t
+    moved-past : (k : View) → Passes c v b p k t → SamePast (c .posts) (moved c b p k t) t
     unfolding trackAfter
     moved-past k h = record {
       posts = λ q n≤q. getD-set-other (t .posts) _ q _ blank (omega (arith, h .fits .below));

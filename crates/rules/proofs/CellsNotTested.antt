@@ -25,7 +25,7 @@ use Rattle.section.specs.Numbers.{mostSeals, largestTrain}
 use Rattle.section.specs.Post.{blank}
 use Rattle.section.specs.Range.{sealsFit, numbersFit, trackFits, inRange}
 use Rattle.section.specs.Step.{decoded, postOf, numberOf}
-use Rattle.section.specs.Store.{trackOf, withTrack}
+use Rattle.section.specs.Store.{trackOf, postOn, withTrack}
 use Rattle.section.proofs.Laws.{rank-lt, block-lt, and-right}
 use Rattle.rules.specs.declared.Site.{Site}
 use Rattle.rules.specs.declared.Movement.{Movement}
@@ -110,13 +110,13 @@ module _ (c : Settings) (e : Site) (below : e .post < c .posts) (l k : List ℕ)
   unfolding lastEntered
   entered-alike = where-false (atReceivingEnd c e) 0 _ _ ahead-alike
 
-module _ (c : Settings) (e : Site) (below : e .post < c .posts) (number : ℕ) (trains trains′ last last′ : List ℕ)
+module _ (c : Settings) (v : Bool) (e : Site) (below : e .post < c .posts) (number : ℕ) (trains trains′ last last′ : List ℕ)
     (same : AlikeBelow (c .posts) trains trains′) (same-last : AlikeBelow (c .posts) last last′) where
   abbrev one : Occupancy
-  one = occupancyAt c e number trains last
+  one = occupancyAt c v e number trains last
 
   abbrev other : Occupancy
-  other = occupancyAt c e number trains′ last′
+  other = occupancyAt c v e number trains′ last′
 
   anywhere-alike : one .anywhere ≡ other .anywhere
   unfolding occupancyAt
@@ -205,14 +205,11 @@ module _ (s u : Section) (a : AgreeBelow s u) where
   vns-alike : (b : Bool) → otherSettledOnVns s b ≡ otherSettledOnVns u b
   vns-alike b = ap₂ settledVns (a .tracks (not b) .walk) (a .tracks (not b) .cvt)
 
-  abbrev siteIn : Section → Bool → ℕ → Site
-  siteIn w b p = siteOn (otherSettledOnVns w b) b p (trackOf w b)
-
-  own-alike : (b : Bool) (p : ℕ) → p < s .settings .posts → siteIn s b p .own ≡ siteIn u b p .own
+  own-alike : (b : Bool) (p : ℕ) → p < s .settings .posts → postOn (trackOf s b) p ≡ postOn (trackOf u b) p
   own-alike b p h = a .tracks b .cells .posts _ h
 
-  site-alike : (b : Bool) (p : ℕ) → p < s .settings .posts → siteIn s b p ≡ siteIn u b p
-  site-alike b p h = rw (vns-alike b, own-alike b p h, a .tracks b .cvt, a .tracks b .walk) refl
+  site-alike : (b : Bool) (p : ℕ) → p < s .settings .posts → siteOn b p (trackOf s b) ≡ siteOn b p (trackOf u b)
+  site-alike b p h = rw (own-alike b p h, a .tracks b .cvt, a .tracks b .walk) refl
 
   with-alike : (b : Bool) (t t′ : Track) → SameBelow (s .settings .posts) t t′ → AgreeBelow (withTrack s b t) (withTrack u b t′)
   with-alike true t t′ h = record {
@@ -235,9 +232,9 @@ module _ (s u : Section) (a : AgreeBelow s u) where
 
     occupancies : occupancyOf s x ≡ occupancyOf u x
     occupancies =
-        occupancy-alike (s .settings) (siteOf s x) below (numberOf (x .step)) (trackOf s (x .track) .trains) (trackOf u (x .track) .trains)
+        occupancy-alike (s .settings) (otherSettledOnVns s (x .track)) (siteOf s x) below (numberOf (x .step)) (trackOf s (x .track) .trains) (trackOf u (x .track) .trains)
         (trackOf s (x .track) .last) (trackOf u (x .track) .last) (a .tracks (x .track) .cells .trains) (a .tracks (x .track) .cells .last)
-        ∙ rw (sites, a .settings) refl
+        ∙ rw (vns-alike (x .track), sites, a .settings) refl
 
     verdict-alike : verdictOn s x ≡ verdictOn u x
     unfolding verdictOn
@@ -282,7 +279,7 @@ module _ (s u : Section) (a : AgreeBelow s u) where
   on-track-alike : (b : Bool) (p : ℕ) → p < s .settings .posts → indicationsOn s b p ≡ indicationsOn u b p
   unfolding indicationsOn
   on-track-alike b p h =
-      ap shown (lamps-alike (s .settings) (siteIn s b p) h (trackOf s b .trains) (trackOf u b .trains)
+      ap shown (lamps-alike (s .settings) (siteOn b p (trackOf s b)) h (trackOf s b .trains) (trackOf u b .trains)
       (a .tracks b .cells .trains) ∙ rw (site-alike b p h, a .settings) refl)
 
   indications-alike : (track post : ℕ) → indications s track post ≡ indications u track post

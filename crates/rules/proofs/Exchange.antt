@@ -3,19 +3,16 @@ use Prim.Native.Nat.{ℕ, _≤_}
 use mathlib.Core.Bool.{Bool, true, false, not, _&&_}
 use mathlib.Core.Path.{_≡_, refl, ap, ap₂, _∙_}
 use mathlib.Core.Logic.{_≢_}
-use mathlib.Core.List.{List}
 use lib.Dec.{T}
 use Rattle.section.specs.declared.Settings.{Settings}
 use Rattle.section.specs.declared.Said.the-variants.{Nothing}
 use Rattle.section.specs.declared.Track.{Track}
 use Rattle.section.specs.declared.Section.{Section}
 use Rattle.section.specs.Store.{trackOf, withTrack}
-use Rattle.rules.specs.declared.Movement.{Movement}
-use Rattle.rules.specs.declared.Movement.the-variants.{Stays, Enters, Moves, Leaves}
 use Rattle.rules.specs.Site.{isSettled, settledOnVns, siteOn, otherSettledOnVns, watchedOccupied, trainBefore, lastEntered, occupancyAt}
-use Rattle.rules.specs.Table.{checks, effect, trainsAfter, lastAfter, trackAfter}
+use Rattle.rules.specs.Table.{checks, trackAfter}
 use Rattle.rules.proofs.Facts.{by-track}
-use Rattle.rules.proofs.View.{order, setDevice, announce, acknowledge, key, Motion, start, pass, leave, Condition, measures, fault, View}
+use Rattle.rules.proofs.View.{Motion, start, pass, leave, Condition, measures, fault, View}
 use Rattle.rules.proofs.View.{walks, runs, notes, releases, flat, Seen, on}
 use Rattle.rules.proofs.Frame.{still, calm, onward, calm-effect}
 use Rattle.rules.proofs.Accept.{Passes, moved, Ok, word, next}
@@ -24,7 +21,7 @@ use Rattle.rules.proofs.Swap.{Swapped, swap-note, swap-onward}
 module _ (c : Settings) where
   -- ## The tracks after a step
 
-  pub here-after : (s : Section) (b : Bool) (p : ℕ) (k : View) → trackOf (next c s (on b p k)) b ≡ moved c (otherSettledOnVns s b) b p k (trackOf s b)
+  pub here-after : (s : Section) (b : Bool) (p : ℕ) (k : View) → trackOf (next c s (on b p k)) b ≡ moved c b p k (trackOf s b)
   unfolding next
   here-after s false p k = refl
   here-after s true p k = refl
@@ -40,30 +37,30 @@ module _ (c : Settings) where
 
   -- ## A calm step
 
-  pub calm-walk : (v b : Bool) (p : ℕ) (k : View) (t : Track) → T (calm k) → moved c v b p k t .walk ≡ t .walk
+  pub calm-walk : (b : Bool) (p : ℕ) (k : View) (t : Track) → T (calm k) → moved c b p k t .walk ≡ t .walk
   unfolding trackAfter
-  calm-walk v b p k t i = calm-effect c p k (siteOn v b p t) i .walk
+  calm-walk b p k t i = calm-effect c p k (siteOn b p t) i .walk
 
-  pub calm-cvt : (v b : Bool) (p : ℕ) (k : View) (t : Track) → T (calm k) → moved c v b p k t .cvt ≡ t .cvt
+  pub calm-cvt : (b : Bool) (p : ℕ) (k : View) (t : Track) → T (calm k) → moved c b p k t .cvt ≡ t .cvt
   unfolding trackAfter
-  calm-cvt v b p k t i = calm-effect c p k (siteOn v b p t) i .cvt
+  calm-cvt b p k t i = calm-effect c p k (siteOn b p t) i .cvt
 
-  pub calm-vns : (v b : Bool) (p : ℕ) (k : View) (t : Track) → T (calm k) → settledOnVns (moved c v b p k t) ≡ settledOnVns t
-  calm-vns v b p k t i = ap₂ (λ w d. isSettled w && not d) (calm-walk v b p k t i) (calm-cvt v b p k t i)
+  pub calm-vns : (b : Bool) (p : ℕ) (k : View) (t : Track) → T (calm k) → settledOnVns (moved c b p k t) ≡ settledOnVns t
+  calm-vns b p k t i = ap₂ (λ w d. isSettled w && not d) (calm-walk b p k t i) (calm-cvt b p k t i)
 
   pub calm-word : (s : Section) (b : Bool) (p : ℕ) (k : View) → T (calm k) → word c s (on b p k) ≡ Nothing
   unfolding word
-  calm-word s b p k i = calm-effect c p k (siteOn (otherSettledOnVns s b) b p (trackOf s b)) i .said
+  calm-word s b p k i = calm-effect c p k (siteOn b p (trackOf s b)) i .said
 
   pub calm-walks : (s : Section) (b : Bool) (p : ℕ) (k : View) → T (calm k) → (d : Bool) → trackOf (next c s (on b p k)) d .walk ≡ trackOf s d .walk
   calm-walks s b p k i =
       by-track (λ d. trackOf (next c s (on b p k)) d .walk ≡ trackOf s d .walk) b
-      (ap (λ t. t .walk) (here-after s b p k) ∙ calm-walk (otherSettledOnVns s b) b p k (trackOf s b) i) (ap (λ t. t .walk) (there-after s b p k))
+      (ap (λ t. t .walk) (here-after s b p k) ∙ calm-walk b p k (trackOf s b) i) (ap (λ t. t .walk) (there-after s b p k))
 
   pub calm-cvts : (s : Section) (b : Bool) (p : ℕ) (k : View) → T (calm k) → (d : Bool) → trackOf (next c s (on b p k)) d .cvt ≡ trackOf s d .cvt
   calm-cvts s b p k i =
       by-track (λ d. trackOf (next c s (on b p k)) d .cvt ≡ trackOf s d .cvt) b
-      (ap (λ t. t .cvt) (here-after s b p k) ∙ calm-cvt (otherSettledOnVns s b) b p k (trackOf s b) i) (ap (λ t. t .cvt) (there-after s b p k))
+      (ap (λ t. t .cvt) (here-after s b p k) ∙ calm-cvt b p k (trackOf s b) i) (ap (λ t. t .cvt) (there-after s b p k))
 
   -- ## The other track matters to an order alone
 
@@ -78,43 +75,6 @@ module _ (c : Settings) where
   passes-vns v v′ b p (notes (fault true f)) t i h = record { fits = h .fits; held = h .held }
   passes-vns v v′ b p (notes (fault false f)) t i h = record { fits = h .fits; held = h .held }
   passes-vns v v′ b p (releases z) t i h = record { fits = h .fits; held = h .held }
-
-  effect-vns : (v v′ b : Bool) (p : ℕ) (k : View) (t : Track) → effect c (flat p k) (siteOn v b p t) ≡ effect c (flat p k) (siteOn v′ b p t)
-  unfolding effect flat
-  effect-vns v v′ b p (walks order) t = refl
-  effect-vns v v′ b p (walks setDevice) t = refl
-  effect-vns v v′ b p (walks announce) t = refl
-  effect-vns v v′ b p (walks acknowledge) t = refl
-  effect-vns v v′ b p (walks key) t = refl
-  effect-vns v v′ b p (runs start z) t = refl
-  effect-vns v v′ b p (runs pass z) t = refl
-  effect-vns v v′ b p (runs leave z) t = refl
-  effect-vns v v′ b p (notes (measures true)) t = refl
-  effect-vns v v′ b p (notes (measures false)) t = refl
-  effect-vns v v′ b p (notes (fault true f)) t = refl
-  effect-vns v v′ b p (notes (fault false f)) t = refl
-  effect-vns v v′ b p (releases z) t = refl
-
-  trains-vns : (v v′ b : Bool) (p : ℕ) (m : Movement) (t : Track) (l : List ℕ) → trainsAfter c m (siteOn v b p t) l ≡ trainsAfter c m (siteOn v′ b p t) l
-  unfolding trainsAfter
-  trains-vns v v′ b p Stays t l = refl
-  trains-vns v v′ b p (Enters z) t l = refl
-  trains-vns v v′ b p (Moves z) t l = refl
-  trains-vns v v′ b p Leaves t l = refl
-
-  last-vns : (v v′ b : Bool) (p : ℕ) (m : Movement) (t : Track) (l : List ℕ) → lastAfter c m (siteOn v b p t) l ≡ lastAfter c m (siteOn v′ b p t) l
-  unfolding lastAfter
-  last-vns v v′ b p Stays t l = refl
-  last-vns v v′ b p (Enters z) t l = refl
-  last-vns v v′ b p (Moves z) t l = refl
-  last-vns v v′ b p Leaves t l = refl
-
-  moved-vns : (v v′ b : Bool) (p : ℕ) (k : View) (t : Track) → moved c v b p k t ≡ moved c v′ b p k t
-  unfolding trackAfter
-  moved-vns v v′ b p k t = rw (effect-vns v v′ b p k t, trains-vns v v′ b p m t (t .trains), last-vns v v′ b p m t (t .last)) refl
-    where
-      m : Movement
-      m = effect c (flat p k) (siteOn v′ b p t) .train
 
   -- ## The change of places
 
@@ -151,15 +111,13 @@ module _ (c : Settings) where
   unfolding Ok word next
   exchange-other false s q l p x i hl hx = record {
     x-first = passes-vns _ (settledOnVns (s .a)) true p x (s .b) i hx;
-    l-then = rw (calm-vns (settledOnVns (s .a)) true p x (s .b) i) hl;
-    same-end = ap₂ (λ t u. record { settings = s .settings; a = t; b = u }) (moved-vns _ (settledOnVns (s .b)) false q l (s .a))
-        (moved-vns (settledOnVns (s .a)) _ true p x (s .b));
-    l-says = ap (λ x. x .said) (effect-vns (settledOnVns (moved c (settledOnVns (s .a)) true p x (s .b))) (settledOnVns (s .b)) false q l (s .a));
+    l-then = rw (calm-vns true p x (s .b) i) hl;
+    same-end = refl;
+    l-says = refl;
   }
   exchange-other true s q l p x i hl hx = record {
     x-first = passes-vns _ (settledOnVns (s .b)) false p x (s .a) i hx;
-    l-then = rw (calm-vns (settledOnVns (s .b)) false p x (s .a) i) hl;
-    same-end = ap₂ (λ t u. record { settings = s .settings; a = u; b = t }) (moved-vns _ (settledOnVns (s .a)) true q l (s .b))
-        (moved-vns (settledOnVns (s .b)) _ false p x (s .a));
-    l-says = ap (λ x. x .said) (effect-vns (settledOnVns (moved c (settledOnVns (s .b)) false p x (s .a))) (settledOnVns (s .a)) true q l (s .b));
+    l-then = rw (calm-vns false p x (s .a) i) hl;
+    same-end = refl;
+    l-says = refl;
   }

@@ -91,7 +91,7 @@ module _ (c : Settings) (n2 : 2 ≤ c .posts) (n16 : c .posts ≤ mostPosts) whe
 
   module _ (ds : List Taken) (d : Taken) (x : Seen) (says : Says (c .posts) (d .bytes) (shown x)) where
     here-kept : (v : Bool) (t : Track) → Passes c v (x .track) (x .post) (x .kind) t → Sound c (x .track) t → TrackRuns (x .track) t ds
-        → TrackRuns (x .track) (moved c v (x .track) (x .post) (x .kind) t) (ds ++ d ∷ [])
+        → TrackRuns (x .track) (moved c (x .track) (x .post) (x .kind) t) (ds ++ d ∷ [])
     here-kept v t h so m =
         let k = trains-kept c n2 n16 (x .track) v t (x .post) (so .sizes .trains) (x .kind) h (so .low) in
         record {

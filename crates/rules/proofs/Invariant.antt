@@ -21,15 +21,16 @@ use Rattle.section.specs.Numbers.{mostPosts, mostBlocks}
 use Rattle.section.specs.Post.{blank}
 use Rattle.section.proofs.Laws.{rank-lt, rank-inj, block-inj, block-lt, block-block}
 use Rattle.rules.specs.declared.Site.{Site}
-use Rattle.rules.specs.Site.{siteOn, isTurn, atSendingEnd, atReceivingEnd, blockAhead, blockBefore, nextPost, trainAt, watchedOccupied}
+use Rattle.rules.specs.Site.{siteOn, isTurn, atReceivingEnd, blockAhead, blockBefore, nextPost, trainAt, watchedOccupied}
 use Rattle.rules.specs.Site.{occupancyAt}
 use Rattle.rules.specs.Table.{checks, effect, trainsAfter, trackAfter}
 use Rattle.rules.specs.Indications.{setCount}
-use Rattle.rules.proofs.Facts.{true-T, false-T, notnot, nor-l, nor-r, first-rank}
-use Rattle.rules.proofs.Facts.{not-first-rank, last-rank, not-last-rank, next-rank, far-end, before-is, set-zero}
+use Rattle.rules.proofs.Facts.{true-T, false-T, notnot, first-rank}
+use Rattle.rules.proofs.Facts.{not-first-rank, last-rank, not-last-rank, next-rank, far-end, set-zero}
 use Rattle.rules.proofs.View.{order, setDevice, announce, acknowledge, key, start, pass, leave, View, walks, runs, notes, releases, flat}
 use Rattle.rules.proofs.Frame.{is-turn, is-settled, still, calm, calm-effect, still-train, trains-length, last-length}
 use Rattle.rules.proofs.Accept.{Passes, moved}
+use Rattle.rules.proofs.Held.{order-held, set-held, key-held, announce-held, acknowledge-held, start-held, pass-held, pass-before}
 use Rattle.rules.proofs.Ranges.{rankOn, TurnFits, InRange, announce-next, in-range-kept}
 
 module _ (c : Settings) (b : Bool) where
@@ -69,7 +70,7 @@ module _ (c : Settings) (b : Bool) where
 
   module _ (v : Bool) (t : Track) (p : ℕ) where
     abbrev e : Site
-    e = siteOn v b p t
+    e = siteOn b p t
 
     abbrev r : ℕ
     r = rankOn c b (t .cvt) p
@@ -102,7 +103,7 @@ module _ (c : Settings) (b : Bool) where
         go (no ne) = before j (omega arith) k
 
     -- a train before a post stands at or past the limit
-    pub past-limit : (z : ℕ) → p < c .posts → r ≢ 0 → 0 < z → T (eqb (trainAt c b (t .cvt) (t .trains) (r - 1)) z)
+    pub past-limit : (z : ℕ) → p < c .posts → r ≢ 0 → 0 < z → trainAt c b (t .cvt) (t .trains) (r - 1) ≡ z
         → Low (t .cvt) (t .walk) (t .trains) → limit (t .cvt) (t .walk) < r
     past-limit z p<n r0 z0 hb low = go (decLt (limit (t .cvt) (t .walk)) r)
       where
@@ -111,10 +112,9 @@ module _ (c : Settings) (b : Bool) where
         go (no h) =
             let r<n : r < c .posts = rank-lt (c .posts) (upward b (t .cvt)) p p<n in
             let e0 : trainAt c b (t .cvt) (t .trains) (r - 1) ≡ 0 = low (r - 1) (omega arith) (omega arith) in
-            let ez : trainAt c b (t .cvt) (t .trains) (r - 1) ≡ z = eqb→eq (trainAt c b (t .cvt) (t .trains) (r - 1)) z hb in
             absurd (omega arith)
 
-    low-pass : (z : ℕ) → p < c .posts → r ≢ 0 → suc r < c .posts → 0 < z → T (eqb (trainAt c b (t .cvt) (t .trains) (r - 1)) z)
+    low-pass : (z : ℕ) → p < c .posts → r ≢ 0 → suc r < c .posts → 0 < z → trainAt c b (t .cvt) (t .trains) (r - 1) ≡ z
         → Low (t .cvt) (t .walk) (t .trains) → Low (t .cvt) (t .walk) (set (set (t .trains) (blockBefore c e) 0) (blockAhead c e) z)
     low-pass z p<n r0 rn z0 hb low j h k =
         let lim : limit (t .cvt) (t .walk) < r = past-limit z p<n r0 z0 hb low in
@@ -124,26 +124,24 @@ module _ (c : Settings) (b : Bool) where
 
     -- a step that moves no train and leaves walk and direction alone
     low-calm : (k : View) → T (still k) → T (calm k) → Low (t .cvt) (t .walk) (t .trains)
-        → Low (moved c v b p k t .cvt) (moved c v b p k t .walk) (moved c v b p k t .trains)
+        → Low (moved c b p k t .cvt) (moved c b p k t .walk) (moved c b p k t .trains)
     unfolding trackAfter trainsAfter
     low-calm k i j low = rw (still-train c p k e i, calm-effect c p k e j .walk, calm-effect c p k e j .cvt) low
 
     low-kept : (k : View) → Passes c v b p k t → Low (t .cvt) (t .walk) (t .trains) → TurnFits c b (t .cvt) (t .walk)
-        → Low (moved c v b p k t .cvt) (moved c v b p k t .walk) (moved c v b p k t .trains)
+        → Low (moved c b p k t .cvt) (moved c b p k t .walk) (moved c b p k t .trains)
     unfolding checks occupancyAt trackAfter effect trainsAfter flat setCount
-    low-kept (walks order) h low f = λ j l m. absurd (omega (arith, first-rank (c .posts) (upward b (t .cvt)) p (h .held .1 .0)))
-    low-kept (walks setDevice) h low f = low-set (atReceivingEnd c e) refl (h .held .0) (h .held .1 .0) low
+    low-kept (walks order) h low f = λ j l m. absurd (omega (arith, first-rank (c .posts) (upward b (t .cvt)) p (order-held h .first)))
+    low-kept (walks setDevice) h low f = low-set (atReceivingEnd c e) refl (set-held h .in-turn) (set-held h .free) low
     low-kept (walks announce) h low f = λ j l m.
-        subst (λ (w : Walk). Low (t .cvt) w (t .trains)) (is-turn (t .walk) p act.Announce (h .held .0)) low j
-        (rw (next-rank (c .posts) (upward b (t .cvt)) p (h .fits .below) (announce-next c b v t p (h .held .0) f)) at l) m
-    low-kept (walks acknowledge) h low f = subst (λ (w : Walk). Low (t .cvt) w (t .trains)) (is-turn (t .walk) p act.Acknowledge (h .held .0)) low
-    low-kept (walks key) h low f = low-set (atReceivingEnd c e) refl (h .held .0) (h .held .1 .1 .0) low
-    low-kept (runs start z) h low f = λ j l m. absurd (omega (arith, rw (is-settled (t .walk) (h .held .0)) at l))
+        subst (λ (w : Walk). Low (t .cvt) w (t .trains)) (is-turn (t .walk) p act.Announce (announce-held h .in-turn)) low j
+        (rw (next-rank (c .posts) (upward b (t .cvt)) p (h .fits .below) (announce-next c b v t p (announce-held h .in-turn) f)) at l) m
+    low-kept (walks acknowledge) h low f = subst (λ (w : Walk). Low (t .cvt) w (t .trains)) (is-turn (t .walk) p act.Acknowledge (acknowledge-held h .in-turn)) low
+    low-kept (walks key) h low f = low-set (atReceivingEnd c e) refl (key-held h .in-turn) (key-held h .free) low
+    low-kept (runs start z) h low f = λ j l m. absurd (omega (arith, rw (is-settled (t .walk) (start-held h .settled)) at l))
     low-kept (runs pass z) h low f =
-        let not-sending : T (not (atSendingEnd c e)) = nor-l (atSendingEnd c e) (atReceivingEnd c e) (h .held .0) in
-        low-pass z (h .fits .below) (not-first-rank (c .posts) (upward b (t .cvt)) p not-sending)
-        (not-last-rank (c .posts) (upward b (t .cvt)) p (h .fits .below) (nor-r (atSendingEnd c e) (atReceivingEnd c e) (h .held .0)))
-        (h .fits .number .0) (rw (before-is c e (t .trains) not-sending) at (h .held .1 .0)) low
+        low-pass z (h .fits .below) (not-first-rank (c .posts) (upward b (t .cvt)) p (pass-held h .not-first))
+        (not-last-rank (c .posts) (upward b (t .cvt)) p (h .fits .below) (pass-held h .not-last)) (h .fits .number .0) (pass-before h) low
     low-kept (runs leave z) h low f = λ j l m. set-zero (t .trains) (blockBefore c e) (block (c .posts) (upward b (t .cvt)) j) (low j l m)
     low-kept (notes k) h low f = low-calm (notes k) tt tt low
     low-kept (releases z) h low f = low
@@ -192,35 +190,35 @@ module _ (c : Settings) (b : Bool) where
           permit-same o (Turn p act.Announce) p<n (λ u. rw eo at u) (λ r m. subst (λ (v : Walk). MayHold v r) (is-turn (t .walk) p act.Set hw) m) old q q<n h
 
       permit-calm : (k : View) → Passes c v b p k t → T (calm k) → Permits (t .cvt) (t .walk) (t .posts)
-          → Permits (moved c v b p k t .cvt) (moved c v b p k t .walk) (moved c v b p k t .posts)
+          → Permits (moved c b p k t .cvt) (moved c b p k t .walk) (moved c b p k t .posts)
       unfolding trackAfter
       permit-calm k h i old =
           rw (calm-effect c p k e i .walk, calm-effect c p k e i .cvt)
           (permit-same (effect c (flat p k) e .own) (t .walk) (h .fits .below) (λ u. rw (calm-effect c p k e i .permission) at u) (λ r m. m) old)
 
       permits-kept : (k : View) → Passes c v b p k t → Permits (t .cvt) (t .walk) (t .posts)
-          → Permits (moved c v b p k t .cvt) (moved c v b p k t .walk) (moved c v b p k t .posts)
+          → Permits (moved c b p k t .cvt) (moved c b p k t .walk) (moved c b p k t .posts)
       unfolding checks trackAfter effect flat
       permits-kept (walks order) h old =
           permit-order (effect c (flat p (walks order)) e .own) (Turn p act.Set) (h .fits .below) (λ u. u)
-          (first-rank (c .posts) (upward b (t .cvt)) p (h .held .1 .0)) (is-settled (t .walk) (h .held .0)) old
+          (first-rank (c .posts) (upward b (t .cvt)) p (order-held h .first)) (is-settled (t .walk) (order-held h .settled)) old
       permits-kept (walks setDevice) h old =
-          permit-set (atReceivingEnd c e) refl (h .fits .below) (h .held .0) (effect c (flat p (walks setDevice)) e .own) refl old
+          permit-set (atReceivingEnd c e) refl (h .fits .below) (set-held h .in-turn) (effect c (flat p (walks setDevice)) e .own) refl old
       permits-kept (walks announce) h old =
           permit-same (e .own) (Turn (nextPost c e) act.Acknowledge) (h .fits .below) (λ u. u)
-          (λ r m. subst (λ (v : Walk). MayHold v r) (is-turn (t .walk) p act.Announce (h .held .0)) m) old
+          (λ r m. subst (λ (v : Walk). MayHold v r) (is-turn (t .walk) p act.Announce (announce-held h .in-turn)) m) old
       permits-kept (walks acknowledge) h old =
           permit-same (e .own) (Turn p act.Set) (h .fits .below) (λ u. u)
-          (λ r m. subst (λ (v : Walk). MayHold v r) (is-turn (t .walk) p act.Acknowledge (h .held .0)) m) old
+          (λ r m. subst (λ (v : Walk). MayHold v r) (is-turn (t .walk) p act.Acknowledge (acknowledge-held h .in-turn)) m) old
       permits-kept (walks key) h old =
-          permit-set (atReceivingEnd c e) refl (h .fits .below) (h .held .0) (effect c (flat p (walks key)) e .own) refl old
+          permit-set (atReceivingEnd c e) refl (h .fits .below) (key-held h .in-turn) (effect c (flat p (walks key)) e .own) refl old
       permits-kept (runs m y) h old = permit-calm (runs m y) h tt old
       permits-kept (notes k) h old = permit-calm (notes k) h tt old
       permits-kept (releases y) h old = permit-calm (releases y) h tt old
 
     -- ## The whole
 
-    sizes-kept : (k : View) → Sizes t → Sizes (moved c v b p k t)
+    sizes-kept : (k : View) → Sizes t → Sizes (moved c b p k t)
     unfolding trackAfter
     sizes-kept k z = record {
       posts = simp length-set (z .posts);
@@ -228,7 +226,7 @@ module _ (c : Settings) (b : Bool) where
       last = last-length c (effect c (flat p k) e .train) e (t .last) ∙ z .last;
     }
 
-    pub sound-kept : c .posts ≤ mostPosts → (k : View) → Passes c v b p k t → Sound t → Sound (moved c v b p k t)
+    pub sound-kept : c .posts ≤ mostPosts → (k : View) → Passes c v b p k t → Sound t → Sound (moved c b p k t)
     sound-kept n16 k h s = record {
       low = low-kept k h (s .low) (s .ranges .turn);
       permits = permits-kept n16 (s .sizes) k h (s .permits);

@@ -2,6 +2,7 @@ pub mod View
 pub mod Facts
 pub mod Reading
 pub mod Accept
+pub mod Held
 pub mod Frame
 pub mod CellsNotTested
 pub mod Ranges

@@ -27,6 +27,7 @@ use Rattle.rules.proofs.Facts.{rank-not-last, set-keeps, below-suc}
 use Rattle.rules.proofs.View.{order, setDevice, announce, acknowledge, key, start, pass, leave, View, walks, runs, notes, releases, flat}
 use Rattle.rules.proofs.Frame.{is-turn, calm-effect, still-train}
 use Rattle.rules.proofs.Accept.{Passes, moved}
+use Rattle.rules.proofs.Held.{key-held, announce-held}
 
 -- ## Tests of the first m cells
 
@@ -152,7 +153,7 @@ module _ (c : Settings) (b : Bool) where
 
   module _ (v : Bool) (t : Track) (p : ℕ) where
     abbrev e : Site
-    e = siteOn v b p t
+    e = siteOn b p t
 
     movement-fits : (k : View) → Passes c v b p k t → MovementFits (effect c (flat p k) e .train)
     unfolding MovementFits effect flat
@@ -170,7 +171,7 @@ module _ (c : Settings) (b : Bool) where
     seals-fit (walks setDevice) h o = o
     seals-fit (walks announce) h o = o
     seals-fit (walks acknowledge) h o = o
-    seals-fit (walks key) h o = omega (arith, neqb→ne (e .own .seals) mostSeals (h .held .1 .1 .1 .1 .1 .0))
+    seals-fit (walks key) h o = omega (arith, neqb→ne (e .own .seals) mostSeals (key-held h .seal-left))
     seals-fit (runs m z) h o = rw (calm-effect c p (runs m z) e tt .seals) o
     seals-fit (notes k) h o = rw (calm-effect c p (notes k) e tt .seals) o
     seals-fit (releases z) h o = o
@@ -190,7 +191,7 @@ module _ (c : Settings) (b : Bool) where
     turn-kept (walks order) h f = h .fits .below
     turn-kept (walks setDevice) h f = set-turn (atReceivingEnd c e) refl (h .fits .below)
     turn-kept (walks announce) h f =
-        let n : suc (rankOn (t .cvt) p) < c .posts = announce-next (h .held .0) f in
+        let n : suc (rankOn (t .cvt) p) < c .posts = announce-next (announce-held h .in-turn) f in
         (next-lt (c .posts) (upward b (t .cvt)) p (h .fits .below) n, omega (arith, next-rank (c .posts) (upward b (t .cvt)) p (h .fits .below) n))
     turn-kept (walks acknowledge) h f = h .fits .below
     turn-kept (walks key) h f = set-turn (atReceivingEnd c e) refl (h .fits .below)
@@ -198,7 +199,7 @@ module _ (c : Settings) (b : Bool) where
     turn-kept (notes k) h f = rw (calm-effect c p (notes k) e tt .walk, calm-effect c p (notes k) e tt .cvt) f
     turn-kept (releases z) h f = f
 
-    pub in-range-kept : (k : View) → Passes c v b p k t → InRange t → InRange (moved c v b p k t)
+    pub in-range-kept : (k : View) → Passes c v b p k t → InRange t → InRange (moved c b p k t)
     unfolding trackAfter AllFit
     in-range-kept k h r = record {
       seals = λ q q<n. set-keeps (λ (o : Post). o .seals ≤ mostSeals) (t .posts) p q (effect c (flat p k) e .own) blank (r .seals q q<n)

@@ -1,7 +1,7 @@
 -- Rows of a table: what the definitions give, by computation, beside what document 01 says. A row of steps tells all checks of the last step
 -- that fail, so that one that refuses alone is known to.
 use Prim.Native.Nat.{ℕ, _-_}
-use mathlib.Core.Bool.{Bool, cond}
+use mathlib.Core.Bool.{cond}
 use mathlib.Core.Path.{_≡_}
 use mathlib.Core.List.{List, [], _∷_, map}
 use mathlib.Core.Option.{Option, some, Option·map}

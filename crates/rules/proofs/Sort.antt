@@ -17,7 +17,7 @@ use Rattle.section.specs.declared.Section.{Section}
 use Rattle.section.specs.Fresh.{freshSection}
 use Rattle.section.specs.Geometry.{upward}
 use Rattle.section.specs.Store.{trackOf}
-use Rattle.rules.specs.Site.{isSettled, isTurn, siteOn, otherSettledOnVns, atSendingEnd, atReceivingEnd, nextPost}
+use Rattle.rules.specs.Site.{isSettled, isTurn, siteOn, otherSettledOnVns, atSendingEnd, atReceivingEnd, nextPost, occupancyAt}
 use Rattle.rules.specs.Table.{checks, effect, trackAfter}
 use Rattle.rules.specs.Demand3.{Taken, All, keep, isOfPost, isStepOfTrain, isSpoken}
 use Rattle.rules.proofs.Facts.{and-l, and-r, or-false, true-T, ne→neqb, by-track, next-rank}
@@ -25,6 +25,7 @@ use Rattle.rules.proofs.View.{Reversal, order, setDevice, announce, ack
 use Rattle.rules.proofs.View.{notes, releases, flat, post-flat, on}
 use Rattle.rules.proofs.Frame.{is-turn, is-settled, still, calm, onward}
 use Rattle.rules.proofs.Accept.{Passes, moved, Ok, word, next}
+use Rattle.rules.proofs.Held.{order-held, set-held, key-held, announce-held, acknowledge-held, start-held, release-held}
 use Rattle.rules.proofs.Ranges.{rankOn, announce-next}
 use Rattle.rules.proofs.Invariant.{limit, limit-turn, Sound, past-limit, NoTrain, last-free}
 use Rattle.rules.proofs.Swap.{onward-facts}
@@ -47,10 +48,10 @@ module _ (c : Settings) where
   settled-kind : (v b : Bool) (p : ℕ) (k : View) (t : Track) → Passes c v b p k t → t .walk ≡ Settled → T (calm k) ⊎ (k ≡ walks order)
   unfolding checks flat
   settled-kind v b p (walks order) t h e = inr refl
-  settled-kind v b p (walks setDevice) t h e = absurd (rw e at (h .held .0))
-  settled-kind v b p (walks announce) t h e = absurd (rw e at (h .held .0))
-  settled-kind v b p (walks acknowledge) t h e = absurd (rw e at (h .held .0))
-  settled-kind v b p (walks key) t h e = absurd (rw e at (h .held .0))
+  settled-kind v b p (walks setDevice) t h e = absurd (rw e at (set-held h .in-turn))
+  settled-kind v b p (walks announce) t h e = absurd (rw e at (announce-held h .in-turn))
+  settled-kind v b p (walks acknowledge) t h e = absurd (rw e at (acknowledge-held h .in-turn))
+  settled-kind v b p (walks key) t h e = absurd (rw e at (key-held h .in-turn))
   settled-kind v b p (runs m z) t h e = inl tt
   settled-kind v b p (notes k) t h e = inl tt
   settled-kind v b p (releases z) t h e = inl tt
@@ -60,17 +61,17 @@ module _ (c : Settings) where
   pub data Does (v b : Bool) (t : Track) (p q : ℕ) (k : View) : Type 0 where
     movesOn : (m : Motion) (z : ℕ) → k ≡ runs m z → T (onward m) → rankOn c b (t .cvt) p < rankOn c b (t .cvt) q → Does v b t p q k
     notesCondition : (n : Condition) → k ≡ notes n → Does v b t p q k
-    actsInTurn : T (still k) → q ≡ p → (p′ : ℕ) (a′ : Act) → moved c v b q k t .walk ≡ Turn p′ a′ → moved c v b q k t .cvt ≡ t .cvt
+    actsInTurn : T (still k) → q ≡ p → (p′ : ℕ) (a′ : Act) → moved c b q k t .walk ≡ Turn p′ a′ → moved c b q k t .cvt ≡ t .cvt
         → rankOn c b (t .cvt) p ≤ rankOn c b (t .cvt) p′ → Does v b t p q k
-    endsReversal : moved c v b q k t .walk ≡ Settled → NoTrain c t → Does v b t p q k
+    endsReversal : moved c b q k t .walk ≡ Settled → NoTrain c t → Does v b t p q k
 
   module _ (v b : Bool) (n2 : 2 ≤ c .posts) (t : Track) (p : ℕ) (a : Act) (e : t .walk ≡ Turn p a) (so : Sound c b t) where
-    does-set : (q : ℕ) (k : Reversal) (last : Bool) → atReceivingEnd c (siteOn v b q t) ≡ last → T (isTurn (t .walk) q act.Set)
-        → moved c v b q (walks k) t .walk ≡ cond (atReceivingEnd c (siteOn v b q t)) Settled (Turn q act.Announce)
-        → moved c v b q (walks k) t .cvt ≡ cond (atReceivingEnd c (siteOn v b q t)) (not (t .cvt)) (t .cvt) → Does v b t p q (walks k)
+    does-set : (q : ℕ) (k : Reversal) (last : Bool) → atReceivingEnd c (siteOn b q t) ≡ last → T (isTurn (t .walk) q act.Set)
+        → moved c b q (walks k) t .walk ≡ cond (atReceivingEnd c (siteOn b q t)) Settled (Turn q act.Announce)
+        → moved c b q (walks k) t .cvt ≡ cond (atReceivingEnd c (siteOn b q t)) (not (t .cvt)) (t .cvt) → Does v b t p q (walks k)
     does-set q k true er hw ew ec =
         endsReversal (ew ∙ ap (λ r. cond r Settled (Turn q act.Announce)) er)
-        (last-free c b t q (true-T (atReceivingEnd c (siteOn v b q t)) er) hw (so .low))
+        (last-free c b t q (true-T (atReceivingEnd c (siteOn b q t)) er) hw (so .low))
     does-set q k false er hw ew ec =
         let eq : q ≡ p = turn-post (t .walk) p q a act.Set e (is-turn (t .walk) q act.Set hw) in
         actsInTurn tt eq q act.Announce (ew ∙ ap (λ r. cond r Settled (Turn q act.Announce)) er)
@@ -87,28 +88,28 @@ module _ (c : Settings) where
         before : (x y z : ℕ) → x ≤ y → y < z → x < z
         before x y z h k = omega arith
 
-    pub release-turn : (q : ℕ) → T (isTurn (t .walk) q act.Set || (isSettled (t .walk) && atSendingEnd c (siteOn v b q t))) → q ≡ p
+    pub release-turn : (q : ℕ) → T (isTurn (t .walk) q act.Set || (isSettled (t .walk) && atSendingEnd c (siteOn b q t))) → q ≡ p
     release-turn q h =
         let g : T (isTurn (Turn p a) q act.Set || false) = rw e at h in
         turn-post (Turn p a) p q a act.Set refl (is-turn (Turn p a) q act.Set (or-false (isTurn (Turn p a) q act.Set) g))
 
     does : (k : View) (q : ℕ) → Passes c v b q k t → Does v b t p q k
     unfolding checks trackAfter effect flat
-    does (walks order) q h = absurd (rw e at (h .held .0))
-    does (walks setDevice) q h = does-set q setDevice (atReceivingEnd c (siteOn v b q t)) refl (h .held .0) refl refl
+    does (walks order) q h = absurd (rw e at (order-held h .settled))
+    does (walks setDevice) q h = does-set q setDevice (atReceivingEnd c (siteOn b q t)) refl (set-held h .in-turn) refl refl
     does (walks announce) q h =
-        let eq : q ≡ p = turn-post (t .walk) p q a act.Announce e (is-turn (t .walk) q act.Announce (h .held .0)) in
-        let n = next-rank (c .posts) (upward b (t .cvt)) q (h .fits .below) (announce-next c b v t q (h .held .0) (so .ranges .turn)) in
-        actsInTurn tt eq (nextPost c (siteOn v b q t)) act.Acknowledge refl refl (omega (arith, n, ap (rankOn c b (t .cvt)) eq))
+        let eq : q ≡ p = turn-post (t .walk) p q a act.Announce e (is-turn (t .walk) q act.Announce (announce-held h .in-turn)) in
+        let n = next-rank (c .posts) (upward b (t .cvt)) q (h .fits .below) (announce-next c b v t q (announce-held h .in-turn) (so .ranges .turn)) in
+        actsInTurn tt eq (nextPost c (siteOn b q t)) act.Acknowledge refl refl (omega (arith, n, ap (rankOn c b (t .cvt)) eq))
     does (walks acknowledge) q h =
-        let eq : q ≡ p = turn-post (t .walk) p q a act.Acknowledge e (is-turn (t .walk) q act.Acknowledge (h .held .0)) in
+        let eq : q ≡ p = turn-post (t .walk) p q a act.Acknowledge e (is-turn (t .walk) q act.Acknowledge (acknowledge-held h .in-turn)) in
         actsInTurn tt eq q act.Set refl refl (omega (arith, ap (rankOn c b (t .cvt)) eq))
-    does (walks key) q h = does-set q key (atReceivingEnd c (siteOn v b q t)) refl (h .held .0) refl refl
-    does (runs start z) q h = absurd (rw e at (h .held .0))
+    does (walks key) q h = does-set q key (atReceivingEnd c (siteOn b q t)) refl (key-held h .in-turn) refl refl
+    does (runs start z) q h = absurd (rw e at (start-held h .settled))
     does (runs pass z) q h = does-onward q pass z tt h
     does (runs leave z) q h = does-onward q leave z tt h
     does (notes k) q h = notesCondition k refl
-    does (releases z) q h = actsInTurn tt (release-turn q (h .held .0)) p a e refl (omega arith)
+    does (releases z) q h = actsInTurn tt (release-turn q (release-held h .in-turn)) p a e refl (omega arith)
 
   -- ## The order so far
 
@@ -217,7 +218,7 @@ module _ (c : Settings) where
     UpTo p i = rk (i .post) ≤ rk p
 
     abbrev after : AcceptedStep c (g .track) → Track
-    after x = moved c (otherSettledOnVns s (g .track)) (g .track) (x .post) (x .kind) (trackOf s (g .track))
+    after x = moved c (g .track) (x .post) (x .kind) (trackOf s (g .track))
 
     held-back : (x : AcceptedStep c (g .track)) → T (still (x .kind)) → Ok c s (stepOf c (g .track) x) → word c s (stepOf c (g .track) x) ≡ x .taken .said
         → (p′ : ℕ) (a′ : Act) → after x .walk ≡ Turn p′ a′ → after x .cvt ≡ trackOf s (g .track) .cvt → rk (g .post) ≤ rk p′ → rk (x .post) ≤ rk (g .post)
@@ -256,10 +257,10 @@ module _ (c : Settings) where
   -- so no order is accepted there
   pub no-second : (s : Section) (b : Bool) (p : ℕ) (a : Act) (q : ℕ) (k : View) → k ≡ walks order → trackOf s b .walk ≡ Turn p a → T (otherSettledOnVns s b)
       → Ok c s (on (not b) q k) → ⊥
-  unfolding Ok checks flat
+  unfolding Ok occupancyAt
   no-second s b p a q k ek w v h =
       let g : Ok c s (on (not b) q (walks order)) = rw ek at h in
-      let u : T (trackOf s (not b) .cvt || otherSettledOnVns s (not b)) = g .held .1 .1 .0 in
+      let u : T (trackOf s (not b) .cvt || otherSettledOnVns s (not b)) = order-held g .allowed in
       refuse (trackOf s (not b) .cvt) (and-r (isSettled (trackOf s (not b) .walk)) (not (trackOf s (not b) .cvt)) v) u
     where
       back : (b : Bool) → trackOf s b .walk ≡ Turn p a → T (otherSettledOnVns s (not b)) → ⊥
@@ -272,9 +273,9 @@ module _ (c : Settings) where
 
   -- ## Each accepted step
 
-  pub order-moves : (v b : Bool) (p : ℕ) (t : Track) → (moved c v b p (walks order) t .walk ≡ Turn p act.Set) × (moved c v b p (walks order) t .cvt ≡ t .cvt)
+  pub order-moves : (b : Bool) (p : ℕ) (t : Track) → (moved c b p (walks order) t .walk ≡ Turn p act.Set) × (moved c b p (walks order) t .cvt ≡ t .cvt)
   unfolding trackAfter effect flat
-  order-moves v b p t = (refl, refl)
+  order-moves b p t = (refl, refl)
 
   module _ (n2 : 2 ≤ c .posts) (s : Section) (ds : List Taken) (r : Reached c s) where
     module _ (g : Reversing s ds) where
@@ -334,8 +335,8 @@ module _ (c : Settings) where
               decide : Dec (rk s ds g q ≤ rk s ds g (g .post)) → Onward s ds (g .track) x
               decide (yes le) =
                   held-back s ds g x (rw e tt) h said (g .post) (g .act)
-                  (calm-walk c (otherSettledOnVns s (g .track)) (g .track) q (x .kind) (trackOf s (g .track)) (rw e tt) ∙ g .turns)
-                  (calm-cvt c (otherSettledOnVns s (g .track)) (g .track) q (x .kind) (trackOf s (g .track)) (rw e tt)) (omega arith) le
+                  (calm-walk c (g .track) q (x .kind) (trackOf s (g .track)) (rw e tt) ∙ g .turns)
+                  (calm-cvt c (g .track) q (x .kind) (trackOf s (g .track)) (rw e tt)) (omega arith) le
               decide (no nle) =
                   before (notes n) e tt (omega arith)
                   (λ s₀ i u st. exchange-note c (g .track) s₀ (i .post) (i .kind) q n (differ (omega arith) i u) (st .ok))
@@ -375,13 +376,13 @@ module _ (c : Settings) where
       performed = pf;
       settled-before = ws;
       held = (record { ok = h; said = said; moves-none = rw e tt; cvt-kept = cvt-same }, refl);
-      turns = ap (λ t. t .walk) (here-after c s b (x .post) (x .kind)) ∙ rw e (order-moves (otherSettledOnVns s b) b (x .post) (trackOf s b) .0);
+      turns = ap (λ t. t .walk) (here-after c s b (x .post) (x .kind)) ∙ rw e (order-moves b (x .post) (trackOf s b) .0);
       under = (omega arith, tt);
       kept = reordered-last ds first (x .taken) kp;
     })
       where
         cvt-same : trackOf (next c s (stepOf c b x)) b .cvt ≡ trackOf s b .cvt
-        cvt-same = ap (λ t. t .cvt) (here-after c s b (x .post) (x .kind)) ∙ rw e (order-moves (otherSettledOnVns s b) b (x .post) (trackOf s b) .1)
+        cvt-same = ap (λ t. t .cvt) (here-after c s b (x .post) (x .kind)) ∙ rw e (order-moves b (x .post) (trackOf s b) .1)
 
     unfoldable pub progress : (b : Bool) (x : AcceptedStep c b) → Ok c s (stepOf c b x) → word c s (stepOf c b x) ≡ x .taken .said → Progress s ds →
         Onward s ds b x

@@ -27,6 +27,7 @@ use Rattle.rules.proofs.View.{flat, post-flat, Seen, shown}
 use Rattle.rules.proofs.View as view
 use Rattle.rules.proofs.Reading.{Says, decoded-says}
 use Rattle.rules.proofs.Accept.{Passes, Ok, Judged, refused, accepted, judged}
+use Rattle.rules.proofs.Held.{start-held}
 use Rattle.rules.proofs.Ranges.{rankOn}
 use Rattle.rules.proofs.Invariant.{MayHold}
 use Rattle.rules.proofs.Reached.{Reached, reached-in-range}
@@ -41,7 +42,7 @@ module _ (c : Settings) where
   start-first v b p (walks announce) t e h = absurd (omega arith)
   start-first v b p (walks acknowledge) t e h = absurd (omega arith)
   start-first v b p (walks key) t e h = absurd (omega arith)
-  start-first v b p (runs view.start z) t e h = (first-rank (c .posts) (upward b (t .cvt)) p (h .held .1 .0), h .held .0)
+  start-first v b p (runs view.start z) t e h = (first-rank (c .posts) (upward b (t .cvt)) p (start-held h .first), start-held h .settled)
   start-first v b p (runs pass z) t e h = absurd (omega arith)
   start-first v b p (runs leave z) t e h = absurd (omega arith)
   start-first v b p (notes (measures true)) t e h = absurd (omega arith)

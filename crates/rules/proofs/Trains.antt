@@ -7,7 +7,7 @@ use mathlib.Core.List.{List}
 use native.Mathlib.Omega.{arith}
 use lib.ListN.{getD, set, length, length-set}
 use lib.Seq.{getD-set-other, getD-set-same}
-use lib.Dec.{T, eqb, eqb→eq}
+use lib.Dec.{T, eqb}
 use Rattle.section.specs.declared.Settings.{Settings}
 use Rattle.section.specs.declared.Act.the-variants as act
 use Rattle.section.specs.declared.Track.{Track}
@@ -16,15 +16,16 @@ use Rattle.section.specs.Numbers.{mostPosts, mostBlocks}
 use Rattle.section.specs.Step.{numberOf}
 use Rattle.section.proofs.Laws.{rank-rank, block-inj, block-lt}
 use Rattle.rules.specs.declared.Site.{Site}
-use Rattle.rules.specs.Site.{siteOn, isTurn, atSendingEnd, atReceivingEnd, stretchEnds, stretchHolds, trainAt, occupancyAt}
+use Rattle.rules.specs.Site.{siteOn, isTurn, atReceivingEnd, stretchEnds, stretchHolds, trainAt, occupancyAt}
 use Rattle.rules.specs.Table.{checks, effect, trainsAfter, trackAfter}
 use Rattle.rules.specs.Demand3.{Run}
-use Rattle.rules.proofs.Facts.{nor-l, nor-r, nand-r, true-T, T-false, ne→neqb, first-rank, not-first-rank}
-use Rattle.rules.proofs.Facts.{last-rank, not-last-rank, last-not-first, before-is, number-none}
+use Rattle.rules.proofs.Facts.{nand-r, true-T, T-false, ne→neqb, first-rank, not-first-rank}
+use Rattle.rules.proofs.Facts.{last-rank, not-last-rank, number-none}
 use Rattle.rules.proofs.View.{Reversal, order, setDevice, announce, acknowledge, key, start, pass, leave, View, walks, runs, notes, releases}
 use Rattle.rules.proofs.View.{flat}
 use Rattle.rules.proofs.Frame.{still, calm-effect, still-train}
 use Rattle.rules.proofs.Accept.{Passes, moved}
+use Rattle.rules.proofs.Held.{set-held, key-held, start-held, pass-held, leave-held, pass-before, leave-before}
 use Rattle.rules.proofs.Invariant.{Low, NoTrain, last-free}
 use Rattle.rules.proofs.Stretches.{TrainEnters, TrainMoves, TrainLeaves, Spaced, FreeFrom, free-from, free-ahead, free-first, enters-spaced}
 use Rattle.rules.proofs.Stretches.{moves-spaced, leaves-spaced, empty-spaced}
@@ -59,7 +60,7 @@ module _ (c : Settings) (n2 : 2 ≤ c .posts) (n16 : c .posts ≤ mostPosts) whe
 
     module _ (v : Bool) (t : Track) (p : ℕ) (size : length (t .trains) ≡ mostBlocks) where
       abbrev e : Site
-      e = siteOn v b p t
+      e = siteOn b p t
 
       abbrev up : Bool
       up = upward b (t .cvt)
@@ -75,7 +76,7 @@ module _ (c : Settings) (n2 : 2 ≤ c .posts) (n16 : c .posts ≤ mostPosts) whe
       f = trainAt c b (t .cvt) (t .trains)
 
       abbrev Kept : View → Type 0
-      Kept k = TrainsKept (t .cvt) (t .trains) (moved c v b p k t .cvt) (moved c v b p k t .trains) k p
+      Kept k = TrainsKept (t .cvt) (t .trains) (moved c b p k t .cvt) (moved c b p k t .trains) k p
 
       -- the post whose rank is one more than that of a block section
       post-past : (q : ℕ) → p < c .posts → suc q ≡ r → p ≡ rank (c .posts) up (suc q)
@@ -94,17 +95,17 @@ module _ (c : Settings) (n2 : 2 ≤ c .posts) (n16 : c .posts ≤ mostPosts) whe
           g = trainAt c b (t .cvt) (set (t .trains) (block (c .posts) up r) y)
 
           first : r ≡ 0
-          first = first-rank (c .posts) up p (h .held .1 .0)
+          first = first-rank (c .posts) up p (start-held h .first)
 
           at-first : p ≡ rank (c .posts) up 0
           at-first = sym (ap (rank (c .posts) up) (sym first) ∙ rank-rank (c .posts) up p (h .fits .below))
 
           free : FreeFrom (c .posts) ends f 0
-          free = subst (FreeFrom (c .posts) ends f) first (free-from (c .posts) ends f r (h .held .1 .1 .1 .0))
+          free = subst (FreeFrom (c .posts) ends f) first (free-from (c .posts) ends f r (start-held h .free))
 
           enters : TrainEnters (c .posts) f g y
           enters = record {
-            absent = λ j k. number-none (c .posts - 1) y (t .trains) (h .held .1 .1 .0) (block (c .posts) up j) (omega (arith, block-lt (c .posts) up j k));
+            absent = λ j k. number-none (c .posts - 1) y (t .trains) (start-held h .number-new) (block (c .posts) up j) (omega (arith, block-lt (c .posts) up j k));
             free = free-first (c .posts) ends f 0 (omega arith) free;
             entered = ap g (sym first) ∙ cell-same up (t .trains) r y size (omega (arith, first));
             others = λ j k ne. cell-other up (t .trains) r y j (omega (arith, first)) k (λ x. ne (x ∙ first));
@@ -131,21 +132,18 @@ module _ (c : Settings) (n2 : 2 ≤ c .posts) (n16 : c .posts ≤ mostPosts) whe
           ny : y ≢ 0
           ny x = omega (arith, h .fits .number .0)
 
-          not-sending : T (not (atSendingEnd c e))
-          not-sending = nor-l (atSendingEnd c e) (atReceivingEnd c e) (h .held .0)
-
           past : suc q ≡ r
-          past = omega (arith, not-first-rank (c .posts) up p not-sending)
+          past = omega (arith, not-first-rank (c .posts) up p (pass-held h .not-first))
 
           inside : suc r < c .posts
-          inside = not-last-rank (c .posts) up p (h .fits .below) (nor-r (atSendingEnd c e) (atReceivingEnd c e) (h .held .0))
+          inside = not-last-rank (c .posts) up p (h .fits .below) (pass-held h .not-last)
 
           before : f q ≡ y
-          before = eqb→eq (f q) y (rw (before-is c e (t .trains) not-sending) at (h .held .1 .0))
+          before = pass-before h
 
           -- 13, at a post that begins a stretch
           check : T (ends r) → FreeFrom (c .posts) ends f r
-          check u = free-from (c .posts) ends f r (nand-r (ends r) (stretchHolds ends f (c .posts - suc r) r) u (h .held .1 .1 .0))
+          check u = free-from (c .posts) ends f r (nand-r (ends r) (stretchHolds ends f (c .posts - suc r) r) u (pass-held h .free))
 
           free : SpacedOn (t .cvt) (t .trains) → FreeFrom (c .posts) ends f (suc q)
           free sp =
@@ -183,7 +181,7 @@ module _ (c : Settings) (n2 : 2 ≤ c .posts) (n16 : c .posts ≤ mostPosts) whe
           ny x = omega (arith, h .fits .number .0)
 
           final : suc r ≡ c .posts
-          final = last-rank (c .posts) up p (h .held .0)
+          final = last-rank (c .posts) up p (leave-held h .last)
 
           past : suc q ≡ r
           past = omega (arith, final)
@@ -191,7 +189,7 @@ module _ (c : Settings) (n2 : 2 ≤ c .posts) (n16 : c .posts ≤ mostPosts) whe
           leaves : TrainLeaves (c .posts) f g y q
           leaves = record {
             final = omega (arith, final, past);
-            before = eqb→eq (f q) y (rw (before-is c e (t .trains) (last-not-first (c .posts) up p n2 (h .held .0))) at (h .held .1 .0));
+            before = leave-before n2 h;
             vacated = cell-same up (t .trains) q 0 size (omega (arith, final, past));
             others = λ j k n. cell-other up (t .trains) q 0 j (omega (arith, final, past)) k n;
           }
@@ -231,10 +229,10 @@ module _ (c : Settings) (n2 : 2 ≤ c .posts) (n16 : c .posts ≤ mostPosts) whe
       pub trains-kept : (k : View) → Passes c v b p k t → Low c b (t .cvt) (t .walk) (t .trains) → Kept k
       unfolding checks trackAfter effect trainsAfter flat
       trains-kept (walks order) h low = still-kept (walks order) tt refl
-      trains-kept (walks setDevice) h low = set-kept setDevice (atReceivingEnd c e) refl (h .held .0) low
+      trains-kept (walks setDevice) h low = set-kept setDevice (atReceivingEnd c e) refl (set-held h .in-turn) low
       trains-kept (walks announce) h low = still-kept (walks announce) tt refl
       trains-kept (walks acknowledge) h low = still-kept (walks acknowledge) tt refl
-      trains-kept (walks key) h low = set-kept key (atReceivingEnd c e) refl (h .held .0) low
+      trains-kept (walks key) h low = set-kept key (atReceivingEnd c e) refl (key-held h .in-turn) low
       trains-kept (runs start y) h low = start-kept y h
       trains-kept (runs pass y) h low = pass-kept y h
       trains-kept (runs leave y) h low = leave-kept y h

@@ -28,6 +28,7 @@ use Rattle.rules.proofs.View.{releases, flat, post-flat, Seen, shown}
 use Rattle.rules.proofs.Reading.{Says}
 use Rattle.rules.proofs.Frame.{is-turn, calm}
 use Rattle.rules.proofs.Accept.{Passes, moved, Ok, next}
+use Rattle.rules.proofs.Held.{order-held, set-held, key-held, announce-held, acknowledge-held}
 use Rattle.rules.proofs.Exchange.{here-after, there-after, calm-walk, calm-cvt}
 use Rattle.rules.proofs.Lists.{keep-append}
 
@@ -100,18 +101,18 @@ module _ (c : Settings) where
     calm-noted (releases z) i = refl
 
     calm-kept : (k : View) → T (calm k)
-        → noteAt (c .posts) (kindOf (flat p k)) p (lastPost b (t .cvt) (t .walk)) ≡ lastPost b (moved c v b p k t .cvt) (moved c v b p k t .walk)
-    calm-kept k i = rw (calm-cvt c v b p k t i, calm-walk c v b p k t i) (calm-noted k i)
+        → noteAt (c .posts) (kindOf (flat p k)) p (lastPost b (t .cvt) (t .walk)) ≡ lastPost b (moved c b p k t .cvt) (moved c b p k t .walk)
+    calm-kept k i = rw (calm-cvt c b p k t i, calm-walk c b p k t i) (calm-noted k i)
 
     noted : (k : View) → Passes c v b p k t
-        → noteAt (c .posts) (kindOf (flat p k)) p (lastPost b (t .cvt) (t .walk)) ≡ lastPost b (moved c v b p k t .cvt) (moved c v b p k t .walk)
+        → noteAt (c .posts) (kindOf (flat p k)) p (lastPost b (t .cvt) (t .walk)) ≡ lastPost b (moved c b p k t .cvt) (moved c b p k t .walk)
     unfolding checks trackAfter effect flat kindOf
     noted (walks order) h =
-        ap some (far-post (c .posts) (upward b (t .cvt)) p n2 (h .fits .below) (first-rank (c .posts) (upward b (t .cvt)) p (h .held .1 .0)))
-    noted (walks setDevice) h = ap (endsAt p) (turn-last act.Set (t .walk) (h .held .0)) ∙ set-noted (atReceivingEnd c (siteOn v b p t)) refl (h .fits .below)
-    noted (walks announce) h = turn-last act.Announce (t .walk) (h .held .0)
-    noted (walks acknowledge) h = turn-last act.Acknowledge (t .walk) (h .held .0)
-    noted (walks key) h = ap (endsAt p) (turn-last act.Set (t .walk) (h .held .0)) ∙ set-noted (atReceivingEnd c (siteOn v b p t)) refl (h .fits .below)
+        ap some (far-post (c .posts) (upward b (t .cvt)) p n2 (h .fits .below) (first-rank (c .posts) (upward b (t .cvt)) p (order-held h .first)))
+    noted (walks setDevice) h = ap (endsAt p) (turn-last act.Set (t .walk) (set-held h .in-turn)) ∙ set-noted (atReceivingEnd c (siteOn b p t)) refl (h .fits .below)
+    noted (walks announce) h = turn-last act.Announce (t .walk) (announce-held h .in-turn)
+    noted (walks acknowledge) h = turn-last act.Acknowledge (t .walk) (acknowledge-held h .in-turn)
+    noted (walks key) h = ap (endsAt p) (turn-last act.Set (t .walk) (key-held h .in-turn)) ∙ set-noted (atReceivingEnd c (siteOn b p t)) refl (h .fits .below)
     noted (runs m z) h = calm-kept (runs m z) tt
     noted (notes k) h = calm-kept (notes k) tt
     noted (releases z) h = calm-kept (releases z) tt

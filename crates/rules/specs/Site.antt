@@ -1,12 +1,11 @@
 -- What a step looks at (document 01, "The section", "Steps, checks in order"): the site, where it is taken, and the occupancy, the trains
--- that it asks for. An effect takes the site alone.
+-- that it asks for and the other track. An effect takes the site alone.
 use Prim.Native.Nat.{ℕ, zero, suc, _-_}
 use mathlib.Core.Bool.{Bool, true, false, cond, not, _&&_, _||_}
 use mathlib.Core.List.{List}
 use lib.ListN.{getD}
 use lib.Dec.{eqb}
 use Rattle.section.specs.declared.Settings.{Settings}
-use Rattle.section.specs.declared.Post.{Post}
 use Rattle.section.specs.declared.Act.{Act}
 use Rattle.section.specs.declared.Act.the-variants.{Set, Announce, Acknowledge}
 use Rattle.section.specs.declared.Walk.{Walk}
@@ -49,12 +48,9 @@ settledOnVns t = settledVns (t .walk) (t .cvt)
 
 -- ## The site
 
--- at a post with that record, on a track with that running direction and walk; `vns`: the other track is settled on VNS
-abbrev pub siteAt : Bool → Bool → ℕ → Post → Bool → Walk → Site
-siteAt vns track p own cvt walk = record { track = track; post = p; cvt = cvt; walk = walk; vns = vns; own = own }
-
-abbrev pub siteOn : Bool → Bool → ℕ → Track → Site
-siteOn vns track p t = siteAt vns track p (postOn t p) (t .cvt) (t .walk)
+-- at a post, on a track
+abbrev pub siteOn : Bool → ℕ → Track → Site
+siteOn track p t = record { track = track; post = p; cvt = t .cvt; walk = t .walk; own = postOn t p }
 
 abbrev pub otherSettledOnVns : Section → Bool → Bool
 otherSettledOnVns s track = settledOnVns (trackOf s (not track))
@@ -87,6 +83,7 @@ pub record Occupancy : Type 0 where
   pub anywhere : Bool  -- a train anywhere on the track
   pub stretch : Bool  -- a train in the stretch that begins at the post
   pub known : Bool  -- the step's number is on the track
+  pub otherOnVns : Bool  -- the other track is settled on VNS
 
 module _ (c : Settings) where
   abbrev pub upAt : Site → Bool
@@ -133,8 +130,8 @@ module _ (c : Settings) where
   unfoldable pub lastEntered : Site → List ℕ → ℕ
   lastEntered e last = cond (atReceivingEnd e) 0 (getD last (blockAhead e) 0)
 
-  unfoldable pub occupancyAt : Site → ℕ → List ℕ → List ℕ → Occupancy
-  occupancyAt e number trains last = record {
+  unfoldable pub occupancyAt : Bool → Site → ℕ → List ℕ → List ℕ → Occupancy
+  occupancyAt otherOnVns e number trains last = record {
     watched = watchedOccupied e trains;
     before = trainBefore e trains;
     entered = lastEntered e last;
@@ -142,4 +139,5 @@ module _ (c : Settings) where
     stretch =
         stretchHolds (stretchEnds (e .track) (e .cvt)) (trainAt (e .track) (e .cvt) trains) (c .posts - suc (rankAt e)) (rankAt e);
     known = hasNumber (c .posts - 1) number trains;
+    otherOnVns = otherOnVns;
   }
