@@ -1,4 +1,5 @@
 // The steps for a device that fails: release, for fault 1, and key, for fault 2.
+ghost use mathlib.Core.Bool.{false};
 ghost use mathlib.Core.List.{[]};
 ghost use mathlib.Core.Path.{_≡_};
 ghost use Rattle.section.specs.declared.Step.the-variants.{Release, Key};
@@ -21,7 +22,7 @@ use site::trains::watched_occupied;
 
 pub fn release(c: Settings, e: Site, number: u16, trains: &Trains, last: &Trains) -> Verdict
     requires { ⌜ Placed c e ⌝ }
-    ensures { λ r. ⌜ r ≡ verdictAt c (Release (e .post) number) e (now (trains .entry)) (now (last .entry)) ⌝ }
+    ensures { λ r. ⌜ r ≡ verdictAt c false (Release (e .post) number) e (now (trains .entry)) (now (last .entry)) ⌝ }
 {
     if !release_in_turn(c, e) {
         return Verdict::Refused(15);
@@ -43,7 +44,7 @@ pub fn release(c: Settings, e: Site, number: u16, trains: &Trains, last: &Trains
 
 pub fn key(c: Settings, e: Site, trains: &Trains) -> Verdict
     requires { ⌜ Placed c e ⌝ }
-    ensures { λ r. ⌜ r ≡ verdictAt c (Key (e .post)) e (now (trains .entry)) [] ⌝ }
+    ensures { λ r. ⌜ r ≡ verdictAt c false (Key (e .post)) e (now (trains .entry)) [] ⌝ }
 {
     let walk = e.walk;
     if !is_turn(walk, e.post, Act::Set) {

@@ -1,4 +1,5 @@
 // A train's own steps: start, pass, leave.
+ghost use mathlib.Core.Bool.{false};
 ghost use mathlib.Core.List.{[]};
 ghost use mathlib.Core.Path.{_≡_};
 ghost use Rattle.section.specs.declared.Step.the-variants.{Start, Pass, Leave};
@@ -21,7 +22,7 @@ use site::trains::train_before;
 
 pub fn start(c: Settings, e: Site, number: u16, trains: &Trains) -> Verdict
     requires { ⌜ Placed c e ⌝ }
-    ensures { λ r. ⌜ r ≡ verdictAt c (Start (e .post) number) e (now (trains .entry)) [] ⌝ }
+    ensures { λ r. ⌜ r ≡ verdictAt c false (Start (e .post) number) e (now (trains .entry)) [] ⌝ }
 {
     let walk = e.walk;
     if !is_settled(walk) {
@@ -44,7 +45,7 @@ pub fn start(c: Settings, e: Site, number: u16, trains: &Trains) -> Verdict
 
 pub fn pass(c: Settings, e: Site, number: u16, trains: &Trains) -> Verdict
     requires { ⌜ Placed c e ⌝ }
-    ensures { λ r. ⌜ r ≡ verdictAt c (Pass (e .post) number) e (now (trains .entry)) [] ⌝ }
+    ensures { λ r. ⌜ r ≡ verdictAt c false (Pass (e .post) number) e (now (trains .entry)) [] ⌝ }
 {
     if at_end(c, e) {
         return Verdict::Refused(12);
@@ -60,7 +61,7 @@ pub fn pass(c: Settings, e: Site, number: u16, trains: &Trains) -> Verdict
 
 pub fn leave(c: Settings, e: Site, number: u16, trains: &Trains) -> Verdict
     requires { ⌜ Placed c e ⌝ }
-    ensures { λ r. ⌜ r ≡ verdictAt c (Leave (e .post) number) e (now (trains .entry)) [] ⌝ }
+    ensures { λ r. ⌜ r ≡ verdictAt c false (Leave (e .post) number) e (now (trains .entry)) [] ⌝ }
 {
     if !at_receiving_end(c, e) {
         return Verdict::Refused(12);

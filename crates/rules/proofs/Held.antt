@@ -26,7 +26,7 @@ module _ (c : Settings) (e : Site) (g : Occupancy) where
   pub record OrderHeld : Type 0 where
     pub settled : T (isSettled (e .walk))
     pub first : T (atSendingEnd c e)
-    pub allowed : T (orderAllowed e g)
+    pub allowed : T (orderAllowed e (g .otherOnVns))
     pub free : T (not (orderOccupied c g))
 
   pub record SetHeld : Type 0 where

@@ -46,8 +46,8 @@ cleared Three o = faulty Three false o
 -- ## What the refusals ask: first those that need no settings
 
 -- 14: "order to CVT while the other track isn't settled on VNS (art. 915)"; to CVT, since the running direction is VNS
-abbrev pub orderAllowed : Site → Occupancy → Bool
-orderAllowed e g = e .cvt || g .otherOnVns
+abbrev pub orderAllowed : Site → Bool → Bool
+orderAllowed e otherOnVns = e .cvt || otherOnVns
 
 -- 16: "set or key to CVT without measures"
 abbrev pub secured : Site → Bool
@@ -74,7 +74,7 @@ module _ (c : Settings) where
 
   unfoldable pub checks : Step → Site → Occupancy → List Check
   checks (Order p) e g =
-      (isSettled (e .walk) else 11) ∷ (atSendingEnd c e else 12) ∷ (orderAllowed e g else 14) ∷ (not (orderOccupied g) else 13) ∷ []
+      (isSettled (e .walk) else 11) ∷ (atSendingEnd c e else 12) ∷ (orderAllowed e (g .otherOnVns) else 14) ∷ (not (orderOccupied g) else 13) ∷ []
   checks (Set p) e g =
       (isTurn (e .walk) (e .post) act.Set else 15) ∷ (not (g .watched) else 13) ∷ (confirmed e else 18) ∷ (secured e else 16)
       ∷ (not (e .own .fault2) else 19) ∷ []

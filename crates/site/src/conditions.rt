@@ -70,13 +70,13 @@ pub fn at_end(c: Settings, e: Site) -> bool
 }
 
 // 14: an order to CVT needs the other track settled on VNS.
-pub fn order_allowed(e: Site) -> bool
-    ensures { λ r. ⌜ r ≡ orderAllowed e ⌝ }
+pub fn order_allowed(e: Site, other_on_vns: bool) -> bool
+    ensures { λ r. ⌜ r ≡ orderAllowed e «other_on_vns» ⌝ }
 {
     if e.cvt {
         return true;
     }
-    e.vns
+    other_on_vns
 }
 
 // 15 of release.

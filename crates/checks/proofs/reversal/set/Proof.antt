@@ -1,7 +1,7 @@
 -- Each return is past the checks that held and stops at the one that failed.
 use Prim.Native.Nat.{ℕ}
 use mathlib.Core.List.{[]}
-use mathlib.Core.Bool.{not}
+use mathlib.Core.Bool.{false, not}
 use mathlib.Core.Path.{ap}
 use Rattle.section.specs.declared.Step.the-variants.{Set}
 use Rattle.section.proofs.Told.{told, told-false, told-true}
@@ -14,7 +14,7 @@ use Rattle.checks.proofs.reversal.set.Tie as tie
 
 -- the first m checks hold
 abbrev Passed : ℕ → tie.Start → Type 0
-Passed m c = Through m (rowAt (c .args .c) (Set (c .args .e .post)) (c .args .e) (c .args .trains .now) [])
+Passed m c = Through m (rowAt (c .args .c) false (Set (c .args .e .post)) (c .args .e) (c .args .trains .now) [])
 
 is-turn-requires : tie.Need-is-turn-requires
 is-turn-requires c κs = tt

@@ -45,15 +45,15 @@ returns c =
     let v = told .before .before .verdict .ensures in
     let a = told .enum-told .given .1 in
     let f = does .effect-of .ensures in (
-      accepted _ _ _ _ _ v a f,
-      (accepted-trains _ _ _ _ _ v a f (moved .move-train .ensures), accepted-last _ _ _ _ _ v a f (noted .note-last .ensures)),
+      accepted _ _ _ _ _ _ v a f,
+      (accepted-trains _ _ _ _ _ _ v a f (moved .move-train .ensures), accepted-last _ _ _ _ _ _ v a f (noted .note-last .ensures)),
     )
 
 returns-2 : tie.Need-returns-2
 returns-2 c =
     let v = c .before .before .before .verdict .ensures in
     let r = c .before .enum-told2 .given .1 in
-    (c .as-before .ensures ∙ refused _ _ _ _ _ v r, (refused-trains _ _ _ _ _ v r, refused-last _ _ _ _ _ v r))
+    (c .as-before .ensures ∙ refused _ _ _ _ _ _ v r, (refused-trains _ _ _ _ _ _ v r, refused-last _ _ _ _ _ _ v r))
 
 pub judge-at-spec : {M : Type 1} → statement M
 judge-at-spec =
