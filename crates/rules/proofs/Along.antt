@@ -1,19 +1,25 @@
--- Along a list of offered byte strings from fresh: what every accepted step keeps holds at the end. Refused ones change nothing.
-use Prim.Native.Nat.{ℕ}
+-- Along a list of offered byte strings from fresh: what every accepted step keeps holds at the end. Refused ones change nothing. The one
+-- induction of this crate: the invariant, the runs, what is under way and the new order so far are kept together.
+use Prim.Native.Nat.{ℕ, _≤_}
 use mathlib.Core.Bool.{true}
-use mathlib.Core.Path.{_≡_, sym, subst}
+use mathlib.Core.Path.{_≡_, refl, sym, subst}
 use mathlib.Core.List.{List, [], _∷_, _++_, append-assoc, append-nil}
 use Rattle.section.specs.declared.Settings.{Settings}
 use Rattle.section.specs.declared.Section.{Section}
 use Rattle.section.specs.declared.Answer.{Answer}
 use Rattle.section.specs.Fresh.{freshSection}
+use Rattle.section.specs.Numbers.{leastPosts, mostPosts}
 use Rattle.section.specs.Settings.{settingsRight}
+use Rattle.section.proofs.Laws.{posts-right}
 use Rattle.rules.specs.Judge.{judge}
 use Rattle.rules.specs.Demand3.{stateAfter, Taken, taken, acceptedSteps}
 use Rattle.rules.proofs.View.{Seen, shown}
 use Rattle.rules.proofs.Reading.{Says, decoded-says}
 use Rattle.rules.proofs.Accept.{Ok, word, next, Judged, refused, accepted, judged}
-use Rattle.rules.proofs.Reached.{posts-right, Reached, reached-kept, fresh-reached, reached-in-range}
+use Rattle.rules.proofs.Reached.{Reached, reached-kept, fresh-reached, reached-in-range}
+use Rattle.rules.proofs.Fates.{SectionRuns, runs-kept, fresh-runs}
+use Rattle.rules.proofs.UnderWay.{Agrees, agrees-kept, fresh-agrees}
+use Rattle.rules.proofs.Sort.{Progress, progress, fresh-progress}
 
 -- the accepted step x that the bytes say
 abbrev pub acceptedAs : Settings → Section → Seen → List ℕ → Taken
@@ -49,3 +55,33 @@ module _ (c : Settings) (right : settingsRight c ≡ true) (P : Section → List
   unfolding along judged
   from-fresh step h offered =
       along step offered (freshSection c) [] (fresh-reached c (posts-right c right .0) (posts-right c right .1)) h
+
+-- ## All that is kept
+
+module _ (c : Settings) (right : settingsRight c ≡ true) where
+  pub n2 : leastPosts ≤ c .posts
+  n2 = posts-right c right .0
+
+  pub n16 : c .posts ≤ mostPosts
+  n16 = posts-right c right .1
+
+  pub record Kept (s : Section) (ds : List Taken) : Type 0 where
+    pub reached : Reached c s
+    pub runs : SectionRuns c n2 n16 s ds
+    pub agrees : Agrees c s ds
+    pub progress : Progress c s ds
+
+  unfoldable kept : KeptByAccepted c right Kept
+  kept s ds x bytes r says ok k = record {
+    reached = reached-kept c n16 s x ok r;
+    runs = runs-kept c n2 n16 ds (acceptedAs c s x bytes) x says s ok (r .sound) (k .runs);
+    agrees = agrees-kept c n2 s ds (acceptedAs c s x bytes) x says ok (k .agrees);
+    progress = progress c n2 s ds r (x .track)
+        (record { post = x .post; kind = x .kind; taken = acceptedAs c s x bytes; says = says }) ok refl (k .progress);
+  }
+
+  unfoldable pub all-kept : (offered : List (List ℕ)) → Kept (stateAfter (freshSection c) offered) (acceptedSteps (freshSection c) offered)
+  unfolding from-fresh kept progress fresh-progress
+  all-kept =
+      from-fresh c right Kept kept
+      (record { reached = fresh-reached c n2 n16; runs = fresh-runs c n2 n16; agrees = fresh-agrees c; progress = fresh-progress c })

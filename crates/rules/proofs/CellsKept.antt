@@ -20,7 +20,7 @@ use Rattle.rules.specs.declared.Site.{Site}
 use Rattle.rules.specs.declared.Movement.{Movement}
 use Rattle.rules.specs.declared.Movement.the-variants.{Stays, Enters, Moves, Leaves}
 use Rattle.rules.specs.Site.{siteOn, otherSettledOnVns, blockAhead, blockBefore}
-use Rattle.rules.specs.Table.{checks, effect, trainsAfter, lastAfter, trackAfter}
+use Rattle.rules.specs.Table.{checks, effect, vacated, cellsAfter, trackAfter}
 use Rattle.rules.specs.Judge.{judge}
 use Rattle.rules.specs.CellsPast.{SamePast, CellsPastKept}
 use Rattle.rules.proofs.Facts.{by-track, first-not-last, ahead-lt, before-lt}
@@ -45,20 +45,19 @@ module _ (c : Settings) where
   store-past : (l : List ℕ) (j z i : ℕ) → suc j < c .posts → c .posts ≤ suc i → getD (set l j z) i 0 ≡ getD l i 0
   store-past l j z i h k = getD-set-other l j i z 0 (omega arith)
 
-  trains-past : (m : Movement) (e : Site) (l : List ℕ) → StoresInside m e → (i : ℕ) → c .posts ≤ suc i → getD (trainsAfter c m e l) i 0 ≡ getD l i 0
-  unfolding trainsAfter
-  trains-past Stays e l h i k = refl
-  trains-past (Enters z) e l h i k = store-past l _ _ i h k
-  trains-past (Moves z) e l h i k =
-      store-past (set l (blockBefore c e) 0) (blockAhead c e) z i (h .1) k ∙ store-past l (blockBefore c e) 0 i (h .0) k
-  trains-past Leaves e l h i k = store-past l _ _ i h k
+  vacated-past : (clears : Bool) (e : Site) (l : List ℕ) → suc (blockBefore c e) < c .posts → (i : ℕ) → c .posts ≤ suc i
+      → getD (vacated c clears e l) i 0 ≡ getD l i 0
+  vacated-past true e l h i k = store-past l (blockBefore c e) 0 i h k
+  vacated-past false e l h i k = refl
 
-  last-past : (m : Movement) (e : Site) (l : List ℕ) → StoresInside m e → (i : ℕ) → c .posts ≤ suc i → getD (lastAfter c m e l) i 0 ≡ getD l i 0
-  unfolding lastAfter
-  last-past Stays e l h i k = refl
-  last-past (Enters z) e l h i k = store-past l _ _ i h k
-  last-past (Moves z) e l h i k = store-past l _ _ i (h .1) k
-  last-past Leaves e l h i k = refl
+  cells-past : (clears : Bool) (m : Movement) (e : Site) (l : List ℕ) → StoresInside m e → (i : ℕ) → c .posts ≤ suc i
+      → getD (cellsAfter c clears m e l) i 0 ≡ getD l i 0
+  unfolding cellsAfter
+  cells-past clears Stays e l h i k = refl
+  cells-past clears (Enters z) e l h i k = store-past l _ _ i h k
+  cells-past clears (Moves z) e l h i k =
+      store-past (vacated c clears e l) (blockAhead c e) z i (h .1) k ∙ vacated-past clears e l (h .0) i k
+  cells-past clears Leaves e l h i k = vacated-past clears e l h i k
 
   -- ## An accepted step
 
@@ -86,8 +85,8 @@ module _ (c : Settings) where
     unfolding trackAfter
     moved-past k h = record {
       posts = λ q n≤q. getD-set-other (t .posts) _ q _ blank (omega (arith, h .fits .below));
-      trains = trains-past (effect c (flat p k) e .train) e (t .trains) (stores-inside k h);
-      last = last-past (effect c (flat p k) e .train) e (t .last) (stores-inside k h);
+      trains = cells-past true (effect c (flat p k) e .train) e (t .trains) (stores-inside k h);
+      last = cells-past false (effect c (flat p k) e .train) e (t .last) (stores-inside k h);
     }
 
 -- ## Judging

@@ -1,5 +1,5 @@
--- For every list of offered steps: each run is between the posts or has left at the far end, the runs of a number come one after another,
--- and each block section keeps its train.
+-- A train's runs, noted step by step, and where its number stands on the track: each accepted step keeps the two in agreement. So each run is
+-- between the posts or has left at the far end, the runs of a number come one after another, and each block section keeps its train.
 use Prim.Native.Nat.{ℕ, suc, _≤_, _<_}
 use mathlib.Core.Bool.{Bool, true, false, cond, not, _&&_, Bool·beq}
 use mathlib.Core.Path.{_≡_, refl, sym, ap, _∙_, subst}
@@ -13,12 +13,11 @@ use Rattle.section.specs.declared.Track.{Track}
 use Rattle.section.specs.declared.Section.{Section}
 use Rattle.section.specs.Fresh.{freshTrack, freshSection}
 use Rattle.section.specs.Geometry.{upward, block}
-use Rattle.section.specs.Numbers.{leastPosts, mostPosts, mostBlocks}
-use Rattle.section.specs.Settings.{settingsRight}
+use Rattle.section.specs.Numbers.{mostPosts, mostBlocks}
 use Rattle.section.specs.Store.{trackOf}
 use Rattle.section.proofs.Laws.{block-lt}
 use Rattle.rules.specs.Site.{otherSettledOnVns, trainAt, stretchEnds}
-use Rattle.rules.specs.Demand3.{stateAfter, Taken, acceptedSteps, kind, post, isOfTrain, keep, All, Run, noteStep, runsFrom, runsOf}
+use Rattle.rules.specs.Demand3.{Taken, kind, post, isOfTrain, keep, All, Run, noteStep, runsFrom, runsOf}
 use Rattle.rules.specs.Demand3.{OneAfterAnother, TrainThere, Fate}
 use Rattle.rules.proofs.Facts.{by-track, beq-same, beq-other}
 use Rattle.rules.proofs.View.{Seen, shown}
@@ -26,8 +25,6 @@ use Rattle.rules.proofs.Reading.{Says}
 use Rattle.rules.proofs.Accept.{Passes, moved, Ok, next}
 use Rattle.rules.proofs.Invariant.{Sound}
 use Rattle.rules.proofs.Exchange.{here-after, there-after}
-use Rattle.rules.proofs.Reached.{posts-right}
-use Rattle.rules.proofs.Along.{acceptedAs, from-fresh}
 use Rattle.rules.proofs.Stretches.{empty-spaced}
 use Rattle.rules.proofs.Runs.{away, follows-in-turn, follows-fates, follows-there}
 use Rattle.rules.proofs.TrainSteps.{ofTrain, noteView, note-test}
@@ -155,18 +152,3 @@ module _ (c : Settings) (n2 : 2 ≤ c .posts) (n16 : c .posts ≤ mostPosts) whe
       keeps : (i : ℕ) → suc i < c .posts → Dec (getD (trackOf s b .trains) i 0 ≡ 0) → (getD (trackOf s b .trains) i 0 ≡ 0) ⊎ TrainThere c b (trackOf s b) ds i
       keeps i h (yes e) = inl e
       keeps i h (no n) = inr (follows-there c n2 b (trackOf s b) ds i (getD (trackOf s b .trains) i 0) h refl (m .follows (getD (trackOf s b .trains) i 0) n))
-
--- ## For every list of offered byte strings, from fresh
-
-pub all-runs-right : (c : Settings) → settingsRight c ≡ true → (offered : List (List ℕ)) (b : Bool)
-    → RunsRight c (stateAfter (freshSection c) offered) (acceptedSteps (freshSection c) offered) b
-all-runs-right c right offered b =
-    runs-right c n2 n16 (stateAfter (freshSection c) offered) (acceptedSteps (freshSection c) offered) b
-    (from-fresh c right (SectionRuns c n2 n16) (λ s ds x bytes r says ok. runs-kept c n2 n16 ds (acceptedAs c s x bytes) x says s ok (r .sound))
-    (fresh-runs c n2 n16) offered b)
-  where
-    n2 : leastPosts ≤ c .posts
-    n2 = posts-right c right .0
-
-    n16 : c .posts ≤ mostPosts
-    n16 = posts-right c right .1

@@ -1,7 +1,7 @@
 -- What a step leaves alone, by its kind.
 use Prim.Native.Nat.{ℕ}
 use mathlib.Core.Bool.{Bool, true, false}
-use mathlib.Core.Path.{_≡_, refl}
+use mathlib.Core.Path.{_≡_, refl, _∙_}
 use mathlib.Core.List.{List}
 use lib.ListN.{length, length-set}
 use lib.Dec.{T, eqb, eqb→eq}
@@ -16,8 +16,8 @@ use Rattle.rules.specs.declared.Site.{Site}
 use Rattle.rules.specs.declared.Effect.{Effect}
 use Rattle.rules.specs.declared.Movement.{Movement}
 use Rattle.rules.specs.declared.Movement.the-variants.{Stays, Enters, Moves, Leaves}
-use Rattle.rules.specs.Site.{sameAct, isTurn, isSettled}
-use Rattle.rules.specs.Table.{effect, trainsAfter, lastAfter}
+use Rattle.rules.specs.Site.{sameAct, isTurn, isSettled, blockAhead, blockBefore}
+use Rattle.rules.specs.Table.{effect, vacated, cellsAfter}
 use Rattle.rules.proofs.Facts.{and-l, and-r}
 use Rattle.rules.proofs.View.{order, setDevice, announce, acknowledge, key, Motion, start, pass, leave, measures, fault, View, walks, runs}
 use Rattle.rules.proofs.View.{notes, releases, flat}
@@ -67,19 +67,16 @@ is-settled (Turn p a) h = absurd h
 -- ## Lengths
 
 module _ (c : Settings) where
-  pub trains-length : (m : Movement) (e : Site) (l : List ℕ) → length (trainsAfter c m e l) ≡ length l
-  unfolding trainsAfter
-  trains-length Stays e l = refl
-  trains-length (Enters z) e l = simp length-set
-  trains-length (Moves z) e l = simp length-set
-  trains-length Leaves e l = simp length-set
+  pub vacated-length : (clears : Bool) (e : Site) (l : List ℕ) → length (vacated c clears e l) ≡ length l
+  vacated-length true e l = length-set l (blockBefore c e) 0
+  vacated-length false e l = refl
 
-  pub last-length : (m : Movement) (e : Site) (l : List ℕ) → length (lastAfter c m e l) ≡ length l
-  unfolding lastAfter
-  last-length Stays e l = refl
-  last-length (Enters z) e l = simp length-set
-  last-length (Moves z) e l = simp length-set
-  last-length Leaves e l = refl
+  pub cells-length : (clears : Bool) (m : Movement) (e : Site) (l : List ℕ) → length (cellsAfter c clears m e l) ≡ length l
+  unfolding cellsAfter
+  cells-length clears Stays e l = refl
+  cells-length clears (Enters z) e l = length-set l (blockAhead c e) z
+  cells-length clears (Moves z) e l = length-set (vacated c clears e l) (blockAhead c e) z ∙ vacated-length clears e l
+  cells-length clears Leaves e l = vacated-length clears e l
 
   -- ## Effects
 

@@ -1,8 +1,9 @@
--- What holds of a track in every state reached: kept by every accepted step.
+-- What holds of a track in every state reached: what a reversal has cleared holds no train, only the sending end of a settled track has
+-- permission, and the ranges hold. Each accepted step keeps this, kind by kind.
 use Prim.Native.Nat.{ℕ, suc, _-_, _≤_, _<_}
 use mathlib.Core.Bool.{Bool, true, false, cond, not, _&&_, _||_}
 use mathlib.Core.Path.{_≡_, refl, sym, _∙_, subst}
-use mathlib.Core.Logic.{_≢_}
+use mathlib.Core.Logic.{_≢_, _⊎_, inl, inr}
 use mathlib.Core.List.{List}
 use native.Mathlib.Omega.{arith}
 use native.Mathlib.Decide.{ℕ-discrete, decLt}
@@ -11,7 +12,6 @@ use lib.Seq.{getD-set-other, getD-set-same}
 use lib.Dec.{T, eqb, eqb→eq}
 use Rattle.section.specs.declared.Settings.{Settings}
 use Rattle.section.specs.declared.Post.{Post}
-use Rattle.section.specs.declared.Act.{Act}
 use Rattle.section.specs.declared.Act.the-variants as act
 use Rattle.section.specs.declared.Walk.{Walk}
 use Rattle.section.specs.declared.Walk.the-variants.{Settled, Turn}
@@ -23,31 +23,22 @@ use Rattle.section.proofs.Laws.{rank-lt, rank-inj, block-inj, block-lt, block-b
 use Rattle.rules.specs.declared.Site.{Site}
 use Rattle.rules.specs.Site.{siteOn, isTurn, atReceivingEnd, blockAhead, blockBefore, nextPost, trainAt, watchedOccupied}
 use Rattle.rules.specs.Site.{occupancyAt}
-use Rattle.rules.specs.Table.{checks, effect, trainsAfter, trackAfter}
-use Rattle.rules.specs.Indications.{setCount}
+use Rattle.rules.specs.Table.{checks, effect, cellsAfter, trackAfter}
 use Rattle.rules.proofs.Facts.{true-T, false-T, notnot, first-rank}
 use Rattle.rules.proofs.Facts.{not-first-rank, last-rank, not-last-rank, next-rank, far-end, set-zero}
 use Rattle.rules.proofs.View.{order, setDevice, announce, acknowledge, key, start, pass, leave, View, walks, runs, notes, releases, flat}
-use Rattle.rules.proofs.Frame.{is-turn, is-settled, still, calm, calm-effect, still-train, trains-length, last-length}
+use Rattle.rules.proofs.Frame.{is-turn, is-settled, still, calm, calm-effect, still-train, cells-length}
 use Rattle.rules.proofs.Accept.{Passes, moved}
 use Rattle.rules.proofs.Held.{order-held, set-held, key-held, announce-held, acknowledge-held, start-held, pass-held, pass-before}
+use Rattle.rules.proofs.Cleared.{none-below, cleared, cleared-settled, cleared-order, cleared-set, cleared-announced, cleared-acknowledged, cleared-all}
 use Rattle.rules.proofs.Ranges.{rankOn, TurnFits, InRange, announce-next, in-range-kept}
 
 module _ (c : Settings) (b : Bool) where
   -- ## What is kept
 
-  -- the block sections of a rank below this are empty: as many as posts have set in the reversal
-  abbrev pub limit : Bool → Walk → ℕ
-  limit cvt w = setCount (c .posts) (upward b cvt) w
-
-  pub limit-turn : (cvt : Bool) (p : ℕ) (a : Act) → rankOn c b cvt p ≤ limit cvt (Turn p a)
-  unfolding setCount
-  limit-turn cvt p act.Set = omega arith
-  limit-turn cvt p act.Announce = omega arith
-  limit-turn cvt p act.Acknowledge = omega arith
-
+  -- the block sections that the reversal has cleared hold no train
   abbrev pub Low : Bool → Walk → List ℕ → Type 0
-  Low cvt w l = (j : ℕ) → j < limit cvt w → suc j < c .posts → trainAt c b cvt l j ≡ 0
+  Low cvt w l = (j : ℕ) → j < cleared c b cvt w → suc j < c .posts → trainAt c b cvt l j ≡ 0
 
   -- a post of that rank may have permission: the sending end, while no reversal is under way
   abbrev pub MayHold : Walk → ℕ → Type 0
@@ -91,23 +82,22 @@ module _ (c : Settings) (b : Bool) where
 
     low-set : (last : Bool) → isLast (c .posts) (upward b (t .cvt)) p ≡ last → T (isTurn (t .walk) p act.Set) → T (not (watchedOccupied c e (t .trains)))
         → Low (t .cvt) (t .walk) (t .trains) → Low (cond last (not (t .cvt)) (t .cvt)) (cond last Settled (Turn p act.Announce)) (t .trains)
-    unfolding setCount
-    low-set true q hw ha low j h k = absurd (omega arith)
-    low-set false q hw ha low j h k = go (ℕ-discrete j r)
+    low-set true q hw ha low j h k = absurd (none-below j _ (cleared-settled c b (not (t .cvt))) h)
+    low-set false q hw ha low j h k = go (cleared-set c b (t .cvt) p j h)
       where
         before : Low (t .cvt) (Turn p act.Set) (t .trains)
         before = subst (λ (w : Walk). Low (t .cvt) w (t .trains)) (is-turn (t .walk) p act.Set hw) low
 
-        go : Dec (j ≡ r) → trainAt c b (t .cvt) (t .trains) j ≡ 0
-        go (yes x) = rw x (ahead-free (false-T (isLast (c .posts) (upward b (t .cvt)) p) q) ha)
-        go (no ne) = before j (omega arith) k
+        go : (j ≡ r) ⊎ (j < cleared c b (t .cvt) (Turn p act.Set)) → trainAt c b (t .cvt) (t .trains) j ≡ 0
+        go (inl x) = rw x (ahead-free (false-T (isLast (c .posts) (upward b (t .cvt)) p) q) ha)
+        go (inr l) = before j l k
 
-    -- a train before a post stands at or past the limit
-    pub past-limit : (z : ℕ) → p < c .posts → r ≢ 0 → 0 < z → trainAt c b (t .cvt) (t .trains) (r - 1) ≡ z
-        → Low (t .cvt) (t .walk) (t .trains) → limit (t .cvt) (t .walk) < r
-    past-limit z p<n r0 z0 hb low = go (decLt (limit (t .cvt) (t .walk)) r)
+    -- a train before a post stands at or past what is cleared
+    pub past-cleared : (z : ℕ) → p < c .posts → r ≢ 0 → 0 < z → trainAt c b (t .cvt) (t .trains) (r - 1) ≡ z
+        → Low (t .cvt) (t .walk) (t .trains) → cleared c b (t .cvt) (t .walk) < r
+    past-cleared z p<n r0 z0 hb low = go (decLt (cleared c b (t .cvt) (t .walk)) r)
       where
-        go : Dec (limit (t .cvt) (t .walk) < r) → limit (t .cvt) (t .walk) < r
+        go : Dec (cleared c b (t .cvt) (t .walk) < r) → cleared c b (t .cvt) (t .walk) < r
         go (yes h) = h
         go (no h) =
             let r<n : r < c .posts = rank-lt (c .posts) (upward b (t .cvt)) p p<n in
@@ -117,7 +107,7 @@ module _ (c : Settings) (b : Bool) where
     low-pass : (z : ℕ) → p < c .posts → r ≢ 0 → suc r < c .posts → 0 < z → trainAt c b (t .cvt) (t .trains) (r - 1) ≡ z
         → Low (t .cvt) (t .walk) (t .trains) → Low (t .cvt) (t .walk) (set (set (t .trains) (blockBefore c e) 0) (blockAhead c e) z)
     low-pass z p<n r0 rn z0 hb low j h k =
-        let lim : limit (t .cvt) (t .walk) < r = past-limit z p<n r0 z0 hb low in
+        let lim : cleared c b (t .cvt) (t .walk) < r = past-cleared z p<n r0 z0 hb low in
         getD-set-other (set (t .trains) (blockBefore c e) 0) (blockAhead c e) (block (c .posts) (upward b (t .cvt)) j) z 0
         (λ q. absurd (omega (arith, block-inj (c .posts) (upward b (t .cvt)) j r k rn q)))
         ∙ set-zero (t .trains) (blockBefore c e) (block (c .posts) (upward b (t .cvt)) j) (low j h k)
@@ -125,20 +115,23 @@ module _ (c : Settings) (b : Bool) where
     -- a step that moves no train and leaves walk and direction alone
     low-calm : (k : View) → T (still k) → T (calm k) → Low (t .cvt) (t .walk) (t .trains)
         → Low (moved c b p k t .cvt) (moved c b p k t .walk) (moved c b p k t .trains)
-    unfolding trackAfter trainsAfter
+    unfolding trackAfter cellsAfter
     low-calm k i j low = rw (still-train c p k e i, calm-effect c p k e j .walk, calm-effect c p k e j .cvt) low
 
     low-kept : (k : View) → Passes c v b p k t → Low (t .cvt) (t .walk) (t .trains) → TurnFits c b (t .cvt) (t .walk)
         → Low (moved c b p k t .cvt) (moved c b p k t .walk) (moved c b p k t .trains)
-    unfolding checks occupancyAt trackAfter effect trainsAfter flat setCount
-    low-kept (walks order) h low f = λ j l m. absurd (omega (arith, first-rank (c .posts) (upward b (t .cvt)) p (order-held h .first)))
+    unfolding checks occupancyAt trackAfter effect cellsAfter flat
+    low-kept (walks order) h low f = λ j l m. absurd (none-below j _ (cleared-order c b (t .cvt) p (first-rank (c .posts) (upward b (t .cvt)) p (order-held h .first))) l)
     low-kept (walks setDevice) h low f = low-set (atReceivingEnd c e) refl (set-held h .in-turn) (set-held h .free) low
     low-kept (walks announce) h low f = λ j l m.
         subst (λ (w : Walk). Low (t .cvt) w (t .trains)) (is-turn (t .walk) p act.Announce (announce-held h .in-turn)) low j
-        (rw (next-rank (c .posts) (upward b (t .cvt)) p (h .fits .below) (announce-next c b v t p (announce-held h .in-turn) f)) at l) m
-    low-kept (walks acknowledge) h low f = subst (λ (w : Walk). Low (t .cvt) w (t .trains)) (is-turn (t .walk) p act.Acknowledge (acknowledge-held h .in-turn)) low
+        (subst (λ (m : ℕ). j < m) (cleared-announced c b (t .cvt) p (nextPost c e)
+        (next-rank (c .posts) (upward b (t .cvt)) p (h .fits .below) (announce-next c b v t p (announce-held h .in-turn) f))) l) m
+    low-kept (walks acknowledge) h low f = λ j l m.
+        subst (λ (w : Walk). Low (t .cvt) w (t .trains)) (is-turn (t .walk) p act.Acknowledge (acknowledge-held h .in-turn)) low j
+        (subst (λ (m : ℕ). j < m) (cleared-acknowledged c b (t .cvt) p) l) m
     low-kept (walks key) h low f = low-set (atReceivingEnd c e) refl (key-held h .in-turn) (key-held h .free) low
-    low-kept (runs start z) h low f = λ j l m. absurd (omega (arith, rw (is-settled (t .walk) (start-held h .settled)) at l))
+    low-kept (runs start z) h low f = λ j l m. absurd (none-below j _ (cleared-settled c b (t .cvt)) (subst (λ (w : Walk). j < cleared c b (t .cvt) w) (is-settled (t .walk) (start-held h .settled)) l))
     low-kept (runs pass z) h low f =
         low-pass z (h .fits .below) (not-first-rank (c .posts) (upward b (t .cvt)) p (pass-held h .not-first))
         (not-last-rank (c .posts) (upward b (t .cvt)) p (h .fits .below) (pass-held h .not-last)) (h .fits .number .0) (pass-before h) low
@@ -222,8 +215,8 @@ module _ (c : Settings) (b : Bool) where
     unfolding trackAfter
     sizes-kept k z = record {
       posts = simp length-set (z .posts);
-      trains = trains-length c (effect c (flat p k) e .train) e (t .trains) ∙ z .trains;
-      last = last-length c (effect c (flat p k) e .train) e (t .last) ∙ z .last;
+      trains = cells-length c true (effect c (flat p k) e .train) e (t .trains) ∙ z .trains;
+      last = cells-length c false (effect c (flat p k) e .train) e (t .last) ∙ z .last;
     }
 
     pub sound-kept : c .posts ≤ mostPosts → (k : View) → Passes c v b p k t → Sound t → Sound (moved c b p k t)
@@ -241,11 +234,10 @@ NoTrain c t = (i : ℕ) → suc i < c .posts → getD (t .trains) i 0 ≡ 0
 
 pub all-free : (c : Settings) (b : Bool) (t : Track) (p : ℕ) → T (isLast (c .posts) (upward b (t .cvt)) p)
     → Low c b (t .cvt) (Turn p act.Set) (t .trains) → NoTrain c t
-unfolding setCount
 all-free c b t p hr low i h =
     let e : suc (rankOn c b (t .cvt) p) ≡ c .posts = last-rank (c .posts) (upward b (t .cvt)) p hr in
     let l : suc (block (c .posts) (upward b (t .cvt)) i) < c .posts = block-lt (c .posts) (upward b (t .cvt)) i h in
-    rw (block-block (c .posts) (upward b (t .cvt)) i h) at (low (block (c .posts) (upward b (t .cvt)) i) (omega arith) l)
+    rw (block-block (c .posts) (upward b (t .cvt)) i h) at (low (block (c .posts) (upward b (t .cvt)) i) (cleared-all c b (t .cvt) p _ e l) l)
 
 -- a turn at the last post, with its act set
 pub last-free : (c : Settings) (b : Bool) (t : Track) (p : ℕ) → T (isLast (c .posts) (upward b (t .cvt)) p) → T (isTurn (t .walk) p act.Set)

@@ -12,6 +12,7 @@ use Rattle.section.specs.declared.Walk.the-variants.{Settled}
 use Rattle.section.specs.declared.Section.{Section}
 use Rattle.section.specs.Settings.{settingsRight}
 use Rattle.section.specs.Store.{trackOf}
+use Rattle.section.proofs.Laws.{posts-right}
 use Rattle.rules.specs.Site.{isSettled, otherSettledOnVns}
 use Rattle.rules.specs.Demand3.{Taken, All, underWay, NoTrainInReversal, Performs}
 use Rattle.rules.proofs.Facts.{by-track}
@@ -22,7 +23,7 @@ use Rattle.rules.proofs.Accept.{Ok, word, next, ok-judge}
 use Rattle.rules.proofs.Invariant.{NoTrain}
 use Rattle.rules.proofs.Swap.{still-trains}
 use Rattle.rules.proofs.Exchange.{here-after, there-after, calm-cvts, Exchanged}
-use Rattle.rules.proofs.Reached.{posts-right, Reached, reached-kept, reached-in-range}
+use Rattle.rules.proofs.Reached.{Reached, reached-kept, reached-in-range}
 use Rattle.rules.proofs.UnderWay.{Agrees, agrees-kept, under-way}
 
 not-settled : (w : Walk) → w ≡ Settled → isSettled w ≡ false → ⊥

@@ -1,4 +1,5 @@
--- The invariant of the sections that are reached from a fresh one.
+-- The invariant of the sections that are reached from a fresh one: each track is sound, and at most one is not settled on VNS. The fresh section
+-- has it, an accepted step keeps it, and it implies the ranges.
 use Prim.Native.Nat.{ℕ, _-_, _≤_, _<_}
 use mathlib.Core.Bool.{Bool, true, false, cond, not, _||_}
 use mathlib.Core.Path.{_≡_, refl, _∙_}
@@ -14,7 +15,6 @@ use Rattle.section.specs.declared.Act.the-variants as act
 use Rattle.section.specs.declared.Walk.the-variants.{Settled}
 use Rattle.section.specs.declared.Track.{Track}
 use Rattle.section.specs.declared.Section.{Section}
-use Rattle.section.specs.Bytes.{within}
 use Rattle.section.specs.Fresh.{freshTrack, freshSection}
 use Rattle.section.specs.Geometry.{upward, rank}
 use Rattle.section.specs.Numbers.{leastPosts, mostPosts, mostBlocks, mostSeals, largestTrain}
@@ -22,23 +22,19 @@ use Rattle.section.specs.Post.{blank, permitted}
 use Rattle.section.specs.Range.{inRange}
 use Rattle.section.specs.Settings.{settingsRight}
 use Rattle.section.specs.Store.{trackOf}
+use Rattle.section.proofs.Laws.{posts-right, set-keeps}
 use Rattle.rules.specs.Site.{settledOnVns, otherSettledOnVns, occupancyAt}
 use Rattle.rules.specs.Table.{effect, trackAfter}
-use Rattle.rules.specs.Indications.{setCount}
 use Rattle.rules.specs.Judge.{judge}
-use Rattle.rules.proofs.Facts.{and-l, true-T, or-right, or-swap, within→, by-track, set-keeps, replicate-keeps}
+use Rattle.rules.proofs.Facts.{or-right, or-swap, by-track, replicate-keeps}
 use Rattle.rules.proofs.View.{order, setDevice, announce, acknowledge, key, View, walks, runs, notes, releases, flat, Seen}
 use Rattle.rules.proofs.Frame.{is-turn, is-settled}
 use Rattle.rules.proofs.Accept.{Passes, moved, Ok, next, Judged, refused, accepted, judged}
 use Rattle.rules.proofs.Held.{order-held, set-held, key-held, announce-held, acknowledge-held}
 use Rattle.rules.proofs.RangeLaw.{section-out}
+use Rattle.rules.proofs.Cleared.{none-below, cleared-settled}
 use Rattle.rules.proofs.Invariant.{Sound, sound-kept}
 use Rattle.rules.proofs.Exchange.{here-after, there-after, settings-after, calm-vns}
-
--- the number of posts of settings in their ranges
-pub posts-right : (c : Settings) → settingsRight c ≡ true → (leastPosts ≤ c .posts) × (c .posts ≤ mostPosts)
-unfolding settingsRight
-posts-right c h = within→ leastPosts mostPosts (c .posts) (and-l (within leastPosts mostPosts (c .posts)) _ (true-T (settingsRight c) h))
 
 module _ (c : Settings) where
   pub record Reached (s : Section) : Type 0 where
@@ -117,9 +113,9 @@ module _ (c : Settings) where
     fresh-permits true p p<n h = omega (arith, fresh-only (c .posts - 1) p (permitted true blank) (omega arith) h)
 
     fresh-sound : (b : Bool) → Sound c b (freshTrack (c .posts) b)
-    unfolding freshTrack setCount
+    unfolding freshTrack
     fresh-sound b = record {
-      low = λ j h k. absurd (omega arith);
+      low = λ j h k. absurd (none-below j _ (cleared-settled c b false) h);
       permits = λ p p<n h. fresh-permits b p p<n h;
       sizes = record { posts = length-set (replicate mostPosts blank) (cond b (c .posts - 1) 0) (permitted true blank); trains = refl; last = refl };
       ranges = record {
@@ -153,7 +149,7 @@ module _ (c : Settings) where
 
   pub reached-in-range : settingsRight c ≡ true → (s : Section) → Reached s → inRange s ≡ true
   reached-in-range w s r =
-      section-out s (record { settings = rw (r .settings) (true-T (settingsRight c) w); tracks = rw (r .settings) (λ b. r .sound b .ranges) })
+      section-out s (record { settings = rw (r .settings) w; tracks = rw (r .settings) (λ b. r .sound b .ranges) })
 
   pub reached-judge : settingsRight c ≡ true → (s : Section) (bytes : List ℕ) → Reached s → Reached (judge s bytes .section)
   reached-judge w s bytes r = go (judged c s (r .settings) (reached-in-range w s r) bytes)

@@ -27,7 +27,8 @@ use Rattle.rules.proofs.Frame.{is-turn, is-settled, still, calm, onward
 use Rattle.rules.proofs.Accept.{Passes, moved, Ok, word, next}
 use Rattle.rules.proofs.Held.{order-held, set-held, key-held, announce-held, acknowledge-held, start-held, release-held}
 use Rattle.rules.proofs.Ranges.{rankOn, announce-next}
-use Rattle.rules.proofs.Invariant.{limit, limit-turn, Sound, past-limit, NoTrain, last-free}
+use Rattle.rules.proofs.Cleared.{cleared, cleared-turn}
+use Rattle.rules.proofs.Invariant.{Sound, past-cleared, NoTrain, last-free}
 use Rattle.rules.proofs.Swap.{onward-facts}
 use Rattle.rules.proofs.Exchange.{here-after, there-after, calm-walk, calm-cvt, calm-walks, calm-cvts, calm-word, Exchanged, exchange-note}
 use Rattle.rules.proofs.Exchange.{exchange-onward, exchange-other}
@@ -80,10 +81,10 @@ module _ (c : Settings) where
     does-onward : (q : ℕ) (m : Motion) (z : ℕ) → T (onward m) → Passes c v b q (runs m z) t → Does v b t p q (runs m z)
     does-onward q m z o h =
         let f = onward-facts c v b n2 m z q t o h in
-        let l : rankOn c b (t .cvt) p ≤ limit c b (t .cvt) (t .walk) =
-        subst (λ (w : Walk). rankOn c b (t .cvt) p ≤ limit c b (t .cvt) w) (sym e) (limit-turn c b (t .cvt) p a) in
-        let g : limit c b (t .cvt) (t .walk) < rankOn c b (t .cvt) q = past-limit c b v t q z (f .below) (f .not-first) (f .number) (f .before) (so .low) in
-        movesOn m z refl o (before (rankOn c b (t .cvt) p) (limit c b (t .cvt) (t .walk)) (rankOn c b (t .cvt) q) l g)
+        let l : rankOn c b (t .cvt) p ≤ cleared c b (t .cvt) (t .walk) =
+        subst (λ (w : Walk). rankOn c b (t .cvt) p ≤ cleared c b (t .cvt) w) (sym e) (cleared-turn c b (t .cvt) p a) in
+        let g : cleared c b (t .cvt) (t .walk) < rankOn c b (t .cvt) q = past-cleared c b v t q z (f .below) (f .not-first) (f .number) (f .before) (so .low) in
+        movesOn m z refl o (before (rankOn c b (t .cvt) p) (cleared c b (t .cvt) (t .walk)) (rankOn c b (t .cvt) q) l g)
       where
         before : (x y z : ℕ) → x ≤ y → y < z → x < z
         before x y z h k = omega arith

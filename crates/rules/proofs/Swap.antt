@@ -18,9 +18,9 @@ use Rattle.section.specs.Settings.{isMaterialised}
 use Rattle.section.specs.Store.{postOn, withPost}
 use Rattle.section.proofs.Laws.{rank-lt, rank-inj, block-inj, block-lt}
 use Rattle.rules.specs.declared.Site.{Site}
-use Rattle.rules.specs.Site.{siteOn, Occupancy, occupancyAt, anyTrain, watchedOccupied, atReceivingEnd, blockAhead, blockBefore}
+use Rattle.rules.specs.Site.{siteOn, Occupancy, isTrain, anyOf, occupancyAt, watchedOccupied, atReceivingEnd, blockAhead, blockBefore}
 use Rattle.rules.specs.Site.{trainAt, trainBefore}
-use Rattle.rules.specs.Table.{checks, effect, trainsAfter, lastAfter, trackAfter}
+use Rattle.rules.specs.Table.{checks, effect, cellsAfter, trackAfter}
 use Rattle.rules.proofs.Facts.{eq→eqb, notnot, T-true, false-T, not-first-rank}
 use Rattle.rules.proofs.Facts.{not-last-rank, entered-is, set-zero, any-zero}
 use Rattle.rules.proofs.View.{order, setDevice, announce, acknowledge, key, Motion, start, pass, leave, Condition, measures, fault, View}
@@ -84,7 +84,7 @@ module _ (c : Settings) (v b : Bool) where
   noted k p t = effect c (flat p (notes k)) (siteOn b p t) .own
 
   note-moved : (k : Condition) (p : ℕ) (t : Track) → moved c b p (notes k) t ≡ withPost t p (noted k p t)
-  unfolding trackAfter trainsAfter lastAfter
+  unfolding trackAfter cellsAfter
   note-moved k p t =
       let same = calm-effect c p (notes k) (siteOn b p t) tt in
       rw (still-train c p (notes k) (siteOn b p t) tt, same .walk, same .cvt) refl
@@ -125,17 +125,21 @@ module _ (c : Settings) (v b : Bool) where
   onward-moved pass z p t i = rw (set-getD (t .posts) p blank) refl
   onward-moved leave z p t i = rw (set-getD (t .posts) p blank) refl
 
+  onward-cells : (clears : Bool) (m : Motion) (z p : ℕ) (t t′ : Track) (l l′ : List ℕ) → T (onward m) → t .cvt ≡ t′ .cvt → l ≡ l′
+      → cellsAfter c clears (effect c (flat p (runs m z)) (siteOn b p t) .train) (siteOn b p t) l
+      ≡ cellsAfter c clears (effect c (flat p (runs m z)) (siteOn b p t′) .train) (siteOn b p t′) l′
+  unfolding effect flat cellsAfter
+  onward-cells clears start z p t t′ l l′ i ec el = absurd i
+  onward-cells clears pass z p t t′ l l′ i ec el = rw (ec, el) refl
+  onward-cells clears leave z p t t′ l l′ i ec el = rw (ec, el) refl
+
   onward-trains : (m : Motion) (z p : ℕ) (t t′ : Track) → T (onward m) → t .cvt ≡ t′ .cvt → t .trains ≡ t′ .trains → trainsOf m z p t ≡ trainsOf m z p t′
-  unfolding trackAfter effect flat trainsAfter
-  onward-trains start z p t t′ i ec et = absurd i
-  onward-trains pass z p t t′ i ec et = rw (ec, et) refl
-  onward-trains leave z p t t′ i ec et = rw (ec, et) refl
+  unfolding trackAfter
+  onward-trains m z p t t′ i ec et = onward-cells true m z p t t′ (t .trains) (t′ .trains) i ec et
 
   onward-last : (m : Motion) (z p : ℕ) (t t′ : Track) → T (onward m) → t .cvt ≡ t′ .cvt → t .last ≡ t′ .last → lastOf m z p t ≡ lastOf m z p t′
-  unfolding trackAfter effect flat lastAfter
-  onward-last start z p t t′ i ec el = absurd i
-  onward-last pass z p t t′ i ec el = rw (ec, el) refl
-  onward-last leave z p t t′ i ec el = rw el refl
+  unfolding trackAfter
+  onward-last m z p t t′ i ec el = onward-cells false m z p t t′ (t .last) (t′ .last) i ec el
 
   -- a step that moves no train stays acceptable where the trains that it asks for are fewer
   pub record Fewer (e : Site) (g g′ : Occupancy) : Type 0 where
@@ -217,7 +221,7 @@ module _ (c : Settings) (v b : Bool) where
   }
 
   -- so a train is on the track
-  not-empty : (z p : ℕ) (t : Track) → Onward z p t → T (not (anyTrain (c .posts - 1) (t .trains))) → ⊥
+  not-empty : (z p : ℕ) (t : Track) → Onward z p t → T (not (anyOf isTrain (c .posts - 1) (t .trains))) → ⊥
   not-empty z p t w hy =
       let r<n : rankOn c b (t .cvt) p < c .posts = rank-lt (c .posts) (upward b (t .cvt)) p (w .below) in
       let i<n : suc (blockBefore c (siteOn b p t)) < c .posts =
@@ -232,7 +236,7 @@ module _ (c : Settings) (v b : Bool) where
 
   stays-empty : (m : Motion) (z p : ℕ) (t : Track) (i : ℕ) → T (onward m) → NotAhead p t i
       → Passes c v b p (runs m z) t → getD (t .trains) i 0 ≡ 0 → getD (trainsOf m z p t) i 0 ≡ 0
-  unfolding checks trackAfter effect flat trainsAfter
+  unfolding checks trackAfter effect flat cellsAfter
   stays-empty start z p t i o ne h e = absurd o
   stays-empty pass z p t i o ne h e =
       getD-set-other (set (t .trains) (blockBefore c (siteOn b p t)) 0) (blockAhead c (siteOn b p t)) i z 0
@@ -242,7 +246,7 @@ module _ (c : Settings) (v b : Bool) where
 
   stays-last : (m : Motion) (z p : ℕ) (t : Track) (i : ℕ) → T (onward m) → NotAhead p t i
       → Passes c v b p (runs m z) t → getD (t .last) i 0 ≡ getD (lastOf m z p t) i 0
-  unfolding checks trackAfter effect flat lastAfter
+  unfolding checks trackAfter effect flat cellsAfter
   stays-last start z p t i o ne h = absurd o
   stays-last pass z p t i o ne h =
       sym (getD-set-other (t .last) (blockAhead c (siteOn b p t)) i z 0
@@ -251,16 +255,16 @@ module _ (c : Settings) (v b : Bool) where
 
   -- what a step that moves no train leaves as it was
   pub still-trains : (l : View) (q : ℕ) (t : Track) → T (still l) → moved c b q l t .trains ≡ t .trains
-  unfolding trackAfter trainsAfter
+  unfolding trackAfter cellsAfter
   still-trains l q t i = rw (still-train c q l (siteOn b q t) i) refl
 
   still-last : (l : View) (q : ℕ) (t : Track) → T (still l) → moved c b q l t .last ≡ t .last
-  unfolding trackAfter lastAfter
+  unfolding trackAfter cellsAfter
   still-last l q t i = rw (still-train c q l (siteOn b q t) i) refl
 
   still-with : (l : View) (q : ℕ) (t : Track) (trains last : List ℕ) → T (still l)
       → moved c b q l (withTrains t trains last) ≡ withTrains (moved c b q l t) trains last
-  unfolding trackAfter trainsAfter lastAfter
+  unfolding trackAfter cellsAfter
   still-with l q t trains last i = rw (still-train c q l (siteOn b q t) i) refl
 
   module _ (n2 : 2 ≤ c .posts) (q : ℕ) (l : View) (p : ℕ) (m : Motion) (z : ℕ) (t : Track) (o : T (onward m)) (i : T (still l)) (apart : q ≢ p) where

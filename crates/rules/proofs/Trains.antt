@@ -17,7 +17,7 @@ use Rattle.section.specs.Step.{numberOf}
 use Rattle.section.proofs.Laws.{rank-rank, block-inj, block-lt}
 use Rattle.rules.specs.declared.Site.{Site}
 use Rattle.rules.specs.Site.{siteOn, isTurn, atReceivingEnd, stretchEnds, stretchHolds, trainAt, occupancyAt}
-use Rattle.rules.specs.Table.{checks, effect, trainsAfter, trackAfter}
+use Rattle.rules.specs.Table.{checks, effect, cellsAfter, trackAfter}
 use Rattle.rules.specs.Demand3.{Run}
 use Rattle.rules.proofs.Facts.{nand-r, true-T, T-false, ne→neqb, first-rank, not-first-rank}
 use Rattle.rules.proofs.Facts.{last-rank, not-last-rank, number-none}
@@ -85,7 +85,7 @@ module _ (c : Settings) (n2 : 2 ≤ c .posts) (n16 : c .posts ≤ mostPosts) whe
       -- ## A start
 
       start-kept : (y : ℕ) → Passes c v b p (runs start y) t → Kept (runs start y)
-      unfolding checks occupancyAt trackAfter effect trainsAfter flat numberOf
+      unfolding checks occupancyAt trackAfter effect cellsAfter flat numberOf
       start-kept y h = record {
         spaced = enters-spaced (c .posts) ends f g y enters free;
         follows = λ z rs nz sp. enters-follows c n2 up f g y z rs nz p at-first enters;
@@ -114,7 +114,7 @@ module _ (c : Settings) (n2 : 2 ≤ c .posts) (n16 : c .posts ≤ mostPosts) whe
       -- ## A pass
 
       pass-kept : (y : ℕ) → Passes c v b p (runs pass y) t → Kept (runs pass y)
-      unfolding checks occupancyAt trackAfter effect trainsAfter flat
+      unfolding checks occupancyAt trackAfter effect cellsAfter flat
       pass-kept y h = record {
         spaced = λ sp. moves-spaced (c .posts) ends f g y q (moves sp) ny (free sp) sp;
         follows = λ z rs nz sp. moves-follows c n2 up f g y z rs nz p q ny (post-past q (h .fits .below) past) (moves sp);
@@ -165,7 +165,7 @@ module _ (c : Settings) (n2 : 2 ≤ c .posts) (n16 : c .posts ≤ mostPosts) whe
       -- ## A leave
 
       leave-kept : (y : ℕ) → Passes c v b p (runs leave y) t → Kept (runs leave y)
-      unfolding checks occupancyAt trackAfter effect trainsAfter flat
+      unfolding checks occupancyAt trackAfter effect cellsAfter flat
       leave-kept y h = record {
         spaced = leaves-spaced (c .posts) ends f g y q leaves;
         follows = λ z rs nz sp. leaves-follows c n2 up f g y z rs nz p q ny (post-past q (h .fits .below) past) leaves;
@@ -218,7 +218,7 @@ module _ (c : Settings) (n2 : 2 ≤ c .posts) (n16 : c .posts ≤ mostPosts) whe
       still-other z (releases y) i = refl
 
       still-kept : (k : View) → T (still k) → effect c (flat p k) e .cvt ≡ t .cvt → Kept k
-      unfolding trackAfter trainsAfter
+      unfolding trackAfter cellsAfter
       still-kept k i q = record {
         spaced = λ sp. rw (q, still-train c p k e i) sp;
         follows = λ z rs nz sp h. rw (still-other z k i, q, still-train c p k e i) h;
@@ -227,7 +227,7 @@ module _ (c : Settings) (n2 : 2 ≤ c .posts) (n16 : c .posts ≤ mostPosts) whe
       -- ## The whole
 
       pub trains-kept : (k : View) → Passes c v b p k t → Low c b (t .cvt) (t .walk) (t .trains) → Kept k
-      unfolding checks trackAfter effect trainsAfter flat
+      unfolding checks trackAfter effect cellsAfter flat
       trains-kept (walks order) h low = still-kept (walks order) tt refl
       trains-kept (walks setDevice) h low = set-kept setDevice (atReceivingEnd c e) refl (set-held h .in-turn) low
       trains-kept (walks announce) h low = still-kept (walks announce) tt refl

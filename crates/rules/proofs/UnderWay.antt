@@ -20,7 +20,7 @@ use Rattle.section.specs.Store.{trackOf}
 use Rattle.section.proofs.Laws.{rank-rank}
 use Rattle.rules.specs.Site.{isSettled, isTurn, siteOn, otherSettledOnVns, atReceivingEnd}
 use Rattle.rules.specs.Table.{checks, effect, trackAfter}
-use Rattle.rules.specs.Demand3.{Taken, track, post, kind, keep, otherEnd, endsAt, noteReversal, reversalFrom, runs?, underWay}
+use Rattle.rules.specs.Demand3.{Taken, track, post, kind, isOnTrack, keep, otherEnd, endsAt, noteReversal, reversalFrom, runs?, underWay}
 use Rattle.rules.proofs.Facts.{T-true, T-false, true-T, false-T, eq→eqb, ne→neqb, by-track, beq-same, beq-other}
 use Rattle.rules.proofs.Facts.{first-rank, last-rank, not-last-rank}
 use Rattle.rules.proofs.View.{order, setDevice, announce, acknowledge, key, start, pass, leave, measures, fault, View, walks, runs, notes}
@@ -68,7 +68,7 @@ module _ (c : Settings) where
   lastPost b cvt (Turn p a) = some (rank (c .posts) (upward b cvt) (c .posts - 1))
 
   abbrev pub reversalOn : Bool → List Taken → Option ℕ
-  reversalOn b ds = reversalFrom (c .posts) none (keep (λ (d : Taken). Bool·beq (track d) b) ds)
+  reversalOn b ds = reversalFrom (c .posts) none (keep (isOnTrack b) ds)
 
   -- the accepted steps and the section agree on what is under way
   abbrev pub Agrees : Section → List Taken → Type 0
@@ -126,8 +126,8 @@ module _ (c : Settings) where
   reversal-last : (b : Bool) (ds : List Taken) (d : Taken)
       → reversalOn b (ds ++ d ∷ []) ≡ cond (Bool·beq (track d) b) (noteReversal (c .posts) d (reversalOn b ds)) (reversalOn b ds)
   reversal-last b ds d =
-      ap (reversalFrom (c .posts) none) (keep-append (λ (d : Taken). Bool·beq (track d) b) ds (d ∷ []))
-      ∙ reversal-append (c .posts) none (keep (λ (d : Taken). Bool·beq (track d) b) ds) (keep (λ (d : Taken). Bool·beq (track d) b) (d ∷ []))
+      ap (reversalFrom (c .posts) none) (keep-append (isOnTrack b) ds (d ∷ []))
+      ∙ reversal-append (c .posts) none (keep (isOnTrack b) ds) (keep (isOnTrack b) (d ∷ []))
       ∙ reversal-one (Bool·beq (track d) b) d (reversalOn b ds)
 
   pub agrees-kept : 2 ≤ c .posts → (s : Section) (ds : List Taken) (d : Taken) (x : Seen) → Says (c .posts) (d .bytes) (shown x) → Ok c s x

@@ -57,17 +57,21 @@ post d = byte (d .bytes) 2
 abbrev pub number : Taken → ℕ
 number d = pair (byte (d .bytes) 4) (byte (d .bytes) 5)
 
+-- on one track
+abbrev pub isOnTrack : Bool → Taken → Bool
+isOnTrack b d = Bool·beq (track d) b
+
 -- "A train's own steps are its starts, passes and leaves"
 abbrev pub isStepOfTrain : ℕ → Taken → Bool
 isStepOfTrain z d = within 5 7 (kind d) && eqb (number d) z
 
 -- those on one track
 abbrev pub isOfTrain : Bool → ℕ → Taken → Bool
-isOfTrain b z d = Bool·beq (track d) b && isStepOfTrain z d
+isOfTrain b z d = isOnTrack b d && isStepOfTrain z d
 
 -- "every step, these too, is its post's own": on one track
 abbrev pub isOfPost : Bool → ℕ → Taken → Bool
-isOfPost b p d = Bool·beq (track d) b && eqb (post d) p
+isOfPost b p d = isOnTrack b d && eqb (post d) p
 
 -- an announcement: something is said
 abbrev pub isSpoken : Said → Bool
@@ -163,7 +167,7 @@ runs? (some p) = true
 
 -- a reversal is under way on the track after these accepted steps
 unfoldable pub underWay : ℕ → Bool → List Taken → Bool
-underWay n b ds = runs? (reversalFrom n none (keep (λ (d : Taken). Bool·beq (track d) b) ds))
+underWay n b ds = runs? (reversalFrom n none (keep (isOnTrack b) ds))
 
 module _ (c : Settings) where
   -- ## Between the posts

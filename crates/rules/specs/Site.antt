@@ -55,24 +55,29 @@ siteOn track p t = record { track = track; post = p; cvt = t .cvt; walk = t .wal
 abbrev pub otherSettledOnVns : Section → Bool → Bool
 otherSettledOnVns s track = settledOnVns (trackOf s (not track))
 
--- ## The stretch, over a test of ranks
+-- ## Searches
+
+-- the number of a train: 0 says that there is none
+abbrev pub isTrain : ℕ → Bool
+isTrain z = not (eqb z 0)
+
+abbrev pub isNumber : ℕ → ℕ → Bool
+isNumber number z = eqb z number
+
+-- one of the first m block sections keeps a number that passes the test
+unfoldable pub anyOf : (ℕ → Bool) → ℕ → List ℕ → Bool
+anyOf test zero cells = false
+anyOf test (suc m) cells = test (getD cells m 0) || anyOf test m cells
+
+-- a rank passes the test: of f ranks from j on, up to the first at which `ends` holds
+unfoldable pub reach : (ℕ → Bool) → (ℕ → Bool) → ℕ → ℕ → Bool
+reach ends test zero j = false
+reach ends test (suc f) j = test j || (not (ends (suc j)) && reach ends test f (suc j))
 
 -- whether a train is in the stretch that begins at the post of rank j, f block sections before the receiving end: `ends` tells at which
 -- ranks a stretch ends, `train` which train follows a rank
-unfoldable pub stretchHolds : (ℕ → Bool) → (ℕ → ℕ) → ℕ → ℕ → Bool
-stretchHolds ends train zero j = false
-stretchHolds ends train (suc f) j =
-    not (eqb (train j) 0) || (not (ends (suc j)) && stretchHolds ends train f (suc j))
-
--- a train in one of the first m block sections
-unfoldable pub anyTrain : ℕ → List ℕ → Bool
-anyTrain zero trains = false
-anyTrain (suc m) trains = not (eqb (getD trains m 0) 0) || anyTrain m trains
-
--- that number in one of the first m block sections
-unfoldable pub hasNumber : ℕ → ℕ → List ℕ → Bool
-hasNumber zero number trains = false
-hasNumber (suc m) number trains = eqb (getD trains m 0) number || hasNumber m number trains
+abbrev pub stretchHolds : (ℕ → Bool) → (ℕ → ℕ) → ℕ → ℕ → Bool
+stretchHolds ends train f j = reach ends (λ (i : ℕ). isTrain (train i)) f j
 
 -- ## The occupancy
 
@@ -120,7 +125,7 @@ module _ (c : Settings) where
 
   -- a train in the part that the post watches: the block section ahead ("the last post has none")
   unfoldable pub watchedOccupied : Site → List ℕ → Bool
-  watchedOccupied e trains = not (atReceivingEnd e) && not (eqb (getD trains (blockAhead e) 0) 0)
+  watchedOccupied e trains = not (atReceivingEnd e) && isTrain (getD trains (blockAhead e) 0)
 
   -- the train in the block section before the post; the sending end has none
   unfoldable pub trainBefore : Site → List ℕ → ℕ
@@ -135,9 +140,9 @@ module _ (c : Settings) where
     watched = watchedOccupied e trains;
     before = trainBefore e trains;
     entered = lastEntered e last;
-    anywhere = anyTrain (c .posts - 1) trains;
+    anywhere = anyOf isTrain (c .posts - 1) trains;
     stretch =
         stretchHolds (stretchEnds (e .track) (e .cvt)) (trainAt (e .track) (e .cvt) trains) (c .posts - suc (rankAt e)) (rankAt e);
-    known = hasNumber (c .posts - 1) number trains;
+    known = anyOf (isNumber number) (c .posts - 1) trains;
     otherOnVns = otherOnVns;
   }

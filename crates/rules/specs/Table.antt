@@ -128,25 +128,23 @@ module _ (c : Settings) where
   effect (Release p number) e = keeping e (marked true (e .own))
   effect (Key p) e = setting e (sealed (e .own))
 
-  -- the trains, and the last train of each block section, after a movement
-  unfoldable pub trainsAfter : Movement → Site → List ℕ → List ℕ
-  trainsAfter Stays e l = l
-  trainsAfter (Enters number) e l = set l (blockAhead c e) number
-  trainsAfter (Moves number) e l = set (set l (blockBefore c e) 0) (blockAhead c e) number
-  trainsAfter Leaves e l = set l (blockBefore c e) 0
+  -- the block section before the post, left by its train: emptied where cells are cleared
+  abbrev pub vacated : Bool → Site → List ℕ → List ℕ
+  vacated clears e l = cond clears (set l (blockBefore c e) 0) l
 
-  unfoldable pub lastAfter : Movement → Site → List ℕ → List ℕ
-  lastAfter Stays e l = l
-  lastAfter (Enters number) e l = set l (blockAhead c e) number
-  lastAfter (Moves number) e l = set l (blockAhead c e) number
-  lastAfter Leaves e l = l
+  -- the numbers of the block sections after a movement: of the trains, where what is left is cleared, and of the last trains, where it is not
+  unfoldable pub cellsAfter : Bool → Movement → Site → List ℕ → List ℕ
+  cellsAfter clears Stays e l = l
+  cellsAfter clears (Enters number) e l = set l (blockAhead c e) number
+  cellsAfter clears (Moves number) e l = set (vacated clears e l) (blockAhead c e) number
+  cellsAfter clears Leaves e l = vacated clears e l
 
   -- the track after an accepted step
   unfoldable pub trackAfter : Step → Site → Track → Track
   trackAfter x e t = record {
     posts = set (t .posts) (e .post) (effect x e .own);
-    trains = trainsAfter (effect x e .train) e (t .trains);
-    last = lastAfter (effect x e .train) e (t .last);
+    trains = cellsAfter true (effect x e .train) e (t .trains);
+    last = cellsAfter false (effect x e .train) e (t .last);
     cvt = effect x e .cvt;
     walk = effect x e .walk;
   }
