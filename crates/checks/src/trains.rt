@@ -17,7 +17,8 @@ use site::place::at_receiving_end;
 use site::place::at_sending_end;
 use site::stretch::pass_occupied;
 use site::stretch::stretch_occupied;
-use site::trains::has_number;
+use site::trains::Sought;
+use site::trains::any_of;
 use site::trains::train_before;
 
 pub fn start(c: Settings, e: Site, number: u16, trains: &Trains) -> Verdict
@@ -31,7 +32,7 @@ pub fn start(c: Settings, e: Site, number: u16, trains: &Trains) -> Verdict
     if !at_sending_end(c, e) {
         return Verdict::Refused(12);
     }
-    if has_number(c.posts - 1, number as u64, trains) {
+    if any_of(c.posts - 1, Sought::Number(number as u64), trains) {
         return Verdict::Refused(17); // also where the stretch is occupied
     }
     if stretch_occupied(c, e, trains) {

@@ -1,6 +1,6 @@
 -- A step judged at its site, over the cells of its track: an accepted step leaves its effect, a refused one all as it was.
 use Prim.Native.Nat.{ℕ}
-use mathlib.Core.Bool.{Bool}
+use mathlib.Core.Bool.{Bool, true, false}
 use mathlib.Core.List.{List}
 use lib.ListN.{set}
 use Rattle.section.specs.declared.Post.{Post}
@@ -14,7 +14,7 @@ use Rattle.section.specs.Step.{postOf}
 use Rattle.rules.specs.declared.Effect.{Effect}
 use Rattle.rules.specs.declared.Site.{Site}
 use Rattle.rules.specs.Site.{settledVns, siteOn}
-use Rattle.rules.specs.Table.{effect, trainsAfter, lastAfter}
+use Rattle.rules.specs.Table.{effect, cellsAfter}
 use Rattle.site.specs.declared.running.Running.{Running}
 use Rattle.site.specs.Running.{siteWith}
 use Rattle.site.specs.VerdictAt.{verdictAt}
@@ -38,10 +38,10 @@ module _ (c : Settings) (otherOnVns : Bool) (x : Step) (e : Site) (trains last :
   judgedAt = judgedOf (verdictAt c otherOnVns x e trains last) (effect c x e) e
 
   unfoldable pub trainsAt : List ℕ
-  trainsAt = cellsOf (verdictAt c otherOnVns x e trains last) trains (trainsAfter c (effect c x e .train) e trains)
+  trainsAt = cellsOf (verdictAt c otherOnVns x e trains last) trains (cellsAfter c true (effect c x e .train) e trains)
 
   unfoldable pub lastAt : List ℕ
-  lastAt = cellsOf (verdictAt c otherOnVns x e trains last) last (lastAfter c (effect c x e .train) e last)
+  lastAt = cellsOf (verdictAt c otherOnVns x e trains last) last (cellsAfter c false (effect c x e .train) e last)
 
 -- the track with what a step judged at its site leaves in its places
 unfoldable pub trackAt : Settings → Bool → Step → Site → Track → Track

@@ -50,8 +50,8 @@ fn judge_at(c: Settings, x: Step, e: Site, other_on_vns: bool, trains: &mut Trai
         Verdict::Accepted(_) => {
             let f = effects::effect_of(c, x, e);
             let train = f.train;
-            movement::move_train(c, train, e, trains);
-            movement::note_last(c, train, e, last);
+            movement::move_cells(c, true, train, e, trains);
+            movement::move_cells(c, false, train, e, last);
             let own = f.own;
             let walk = f.walk;
             Judged {

@@ -40,19 +40,19 @@ at-sending-end : (c : tie.Else2) → Passed 2 (c .before .before .before .before
 unfolding checks occupancyAt numberOf
 at-sending-end c = then (settled (c .before .before)) (told-true (c .before .at-sending-end .ensures) (c .if2 .left))
 
-sub-has-number : tie.Need-sub-has-number
-sub-has-number c = omega arith
+sub-any-of : tie.Need-sub-any-of
+sub-any-of c = omega arith
 
-has-number-requires : tie.Need-has-number-requires
-has-number-requires c κs = omega arith
+any-of-requires : tie.Need-any-of-requires
+any-of-requires c κs = omega arith
 
 returns-3 : tie.Need-returns-3
 unfolding checks occupancyAt numberOf
-returns-3 c = refused _ (at-sending-end (c .before .before .before)) (ap not (told (c .before .has-number .ensures) (c .if3 .taken)))
+returns-3 c = refused _ (at-sending-end (c .before .before .before)) (ap not (told (c .before .any-of .ensures) (c .if3 .taken)))
 
 unknown : (c : tie.Else3) → Passed 3 (c .before .before .before .before .before .before .before)
 unfolding checks occupancyAt numberOf
-unknown c = then (at-sending-end (c .before .before .before)) (ap not (told (c .before .has-number .ensures) (c .if3 .left)))
+unknown c = then (at-sending-end (c .before .before .before)) (ap not (told (c .before .any-of .ensures) (c .if3 .left)))
 
 stretch-occupied-requires : tie.Need-stretch-occupied-requires
 stretch-occupied-requires c κs = c .before .before .before .before .before .before .before .pre
@@ -84,8 +84,8 @@ start-spec =
     returns
     at-sending-end-requires
     returns-2
-    sub-has-number
-    has-number-requires
+    sub-any-of
+    any-of-requires
     returns-3
     stretch-occupied-requires
     returns-4
