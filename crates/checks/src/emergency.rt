@@ -12,10 +12,10 @@ use section::Said;
 use section::Settings;
 use section::Trains;
 use section::Verdict;
-use site::conditions::confirmed;
+use site::conditions::fault1_confirmed;
 use site::conditions::is_turn;
 use site::conditions::release_in_turn;
-use site::conditions::secured;
+use site::conditions::measures_suffice;
 use site::place::at_receiving_end;
 use site::trains::train_ahead;
 use site::trains::watched_occupied;
@@ -56,10 +56,10 @@ pub fn key(c: Settings, e: Site, trains: &Trains) -> Verdict
     if watched_occupied(c, e, trains) {
         return Verdict::Refused(13);
     }
-    if !confirmed(c, e) {
+    if !fault1_confirmed(c, e) {
         return Verdict::Refused(18);
     }
-    if !secured(e) {
+    if !measures_suffice(e) {
         return Verdict::Refused(16);
     }
     if e.own.seals == MOST_SEALS {

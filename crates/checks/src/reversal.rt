@@ -12,11 +12,11 @@ use section::Said;
 use section::Settings;
 use section::Trains;
 use section::Verdict;
-use site::conditions::confirmed;
+use site::conditions::fault1_confirmed;
 use site::conditions::is_settled;
 use site::conditions::is_turn;
 use site::conditions::order_allowed;
-use site::conditions::secured;
+use site::conditions::measures_suffice;
 use site::place::at_sending_end;
 use site::trains::order_occupied;
 use site::trains::watched_occupied;
@@ -52,10 +52,10 @@ pub fn set(c: Settings, e: Site, trains: &Trains) -> Verdict
     if watched_occupied(c, e, trains) {
         return Verdict::Refused(13);
     }
-    if !confirmed(c, e) {
+    if !fault1_confirmed(c, e) {
         return Verdict::Refused(18);
     }
-    if !secured(e) {
+    if !measures_suffice(e) {
         return Verdict::Refused(16);
     }
     if e.own.fault2 {

@@ -11,7 +11,7 @@ use section::Settings;
 use section::Trains;
 use section::Verdict;
 use site::conditions::at_end;
-use site::conditions::confirmed;
+use site::conditions::fault1_confirmed;
 use site::conditions::is_settled;
 use site::place::at_receiving_end;
 use site::place::at_sending_end;
@@ -38,7 +38,7 @@ pub fn start(c: Settings, e: Site, number: u16, trains: &Trains) -> Verdict
     if stretch_occupied(c, e, trains) {
         return Verdict::Refused(13);
     }
-    if !confirmed(c, e) {
+    if !fault1_confirmed(c, e) {
         return Verdict::Refused(18);
     }
     Verdict::Accepted(Said::Nothing)

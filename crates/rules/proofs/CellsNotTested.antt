@@ -118,11 +118,11 @@ module _ (c : Settings) (v : Bool) (e : Site) (below : e .post < c .posts) (numb
   unfolding occupancyAt
   anywhere-alike = any-alike isTrain _ trains trains′ (λ i h. same i (omega arith))
 
-  known-alike : one .known ≡ other .known
+  number-alike : one .numberOnTrack ≡ other .numberOnTrack
   unfolding occupancyAt
-  known-alike = any-alike (isNumber number) _ trains trains′ (λ i h. same i (omega arith))
+  number-alike = any-alike (isNumber number) _ trains trains′ (λ i h. same i (omega arith))
 
-  stretch-alike : one .stretch ≡ other .stretch
+  stretch-alike : one .stretchOccupied ≡ other .stretchOccupied
   unfolding occupancyAt
   stretch-alike =
       holds-alike (stretchEnds c (e .track) (e .cvt)) (trainAt c (e .track) (e .cvt) trains) (trainAt c (e .track) (e .cvt) trains′) _ _
@@ -132,7 +132,7 @@ module _ (c : Settings) (v : Bool) (e : Site) (below : e .post < c .posts) (numb
   unfolding occupancyAt
   occupancy-alike =
       rw (watched-alike c e below trains trains′ same, before-alike c e below trains trains′ same, entered-alike c e below last last′ same-last)
-      (rw (anywhere-alike, stretch-alike, known-alike) refl)
+      (rw (anywhere-alike, stretch-alike, number-alike) refl)
 
 -- ## The ranges
 

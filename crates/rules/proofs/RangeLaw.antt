@@ -12,7 +12,7 @@ use Rattle.rules.specs.RangesKept.{RangesKept}
 use Rattle.rules.specs.Site.{otherSettledOnVns}
 use Rattle.rules.proofs.Facts.{by-track}
 use Rattle.rules.proofs.View.{Seen}
-use Rattle.rules.proofs.Accept.{Ok, next, Judged, refused, accepted, judged}
+use Rattle.rules.proofs.Accept.{AcceptedIn, sectionAfterStep, Judged, refused, accepted, judged}
 use Rattle.rules.proofs.Ranges.{InRange, track-in, track-out, in-range-kept}
 use Rattle.rules.proofs.Exchange.{here-after, there-after, settings-after}
 
@@ -29,11 +29,11 @@ section-in s h =
 pub section-out : (s : Section) → SectionInRange s → inRange s ≡ true
 section-out s r = section-in-range s (r .settings) (λ b. track-out (s .settings) b (trackOf s b) (r .tracks b))
 
-next-in : (s : Section) (x : Seen) → Ok (s .settings) s x → SectionInRange s → SectionInRange (next (s .settings) s x)
-unfolding Ok
-next-in s x h r = record {
+section-kept : (s : Section) (x : Seen) → AcceptedIn (s .settings) s x → SectionInRange s → SectionInRange (sectionAfterStep (s .settings) s x)
+unfolding AcceptedIn
+section-kept s x h r = record {
   settings = rw (settings-after (s .settings) s x) (r .settings);
-  tracks = rw (settings-after (s .settings) s x) (by-track (λ b. InRange (s .settings) b (trackOf (next (s .settings) s x) b)) (x .track)
+  tracks = rw (settings-after (s .settings) s x) (by-track (λ b. InRange (s .settings) b (trackOf (sectionAfterStep (s .settings) s x) b)) (x .track)
       (rw (here-after (s .settings) s (x .track) (x .post) (x .kind))
       (in-range-kept (s .settings) (x .track) (otherSettledOnVns s (x .track)) (trackOf s (x .track)) (x .post) (x .kind) h (r .tracks (x .track))))
       (rw (there-after (s .settings) s (x .track) (x .post) (x .kind)) (r .tracks (not (x .track)))));
@@ -44,4 +44,4 @@ ranges-kept s bytes r = go (judged (s .settings) s refl r bytes)
   where
     go : Judged (s .settings) s refl r bytes → inRange (judge s bytes .section) ≡ true
     go (refused k e) = rw e r
-    go (accepted x d h e) = rw e (section-out (next (s .settings) s x) (next-in s x h (section-in s r)))
+    go (accepted x d h e) = rw e (section-out (sectionAfterStep (s .settings) s x) (section-kept s x h (section-in s r)))

@@ -27,8 +27,8 @@ use Rattle.rules.specs.Table.{checks, effect, vacated, cellsAfter, track
 use Rattle.rules.proofs.Facts.{and-l, and-r, and-i, T-true, true-T, neqb→ne, false-T, next-rank, next-lt, not-first-rank, rank-not-first, not-last-rank}
 use Rattle.rules.proofs.Facts.{rank-not-last}
 use Rattle.rules.proofs.View.{order, setDevice, announce, acknowledge, key, start, pass, leave, View, walks, runs, notes, releases, flat}
-use Rattle.rules.proofs.Frame.{is-turn, calm-effect, still-train}
-use Rattle.rules.proofs.Accept.{Passes, moved}
+use Rattle.rules.proofs.Frame.{is-turn, running-kept, no-movement}
+use Rattle.rules.proofs.Accept.{AcceptedOn, trackAfterStep}
 use Rattle.rules.proofs.Held.{key-held, announce-held}
 
 module _ (c : Settings) (b : Bool) where
@@ -115,25 +115,25 @@ module _ (c : Settings) (b : Bool) where
     abbrev e : Site
     e = siteOn b p t
 
-    movement-fits : (k : View) → Passes c v b p k t → MovementFits (effect c (flat p k) e .train)
+    movement-fits : (k : View) → AcceptedOn c v b p k t → MovementFits (effect c (flat p k) e .train)
     unfolding MovementFits effect flat
-    movement-fits (walks r) h = rw (still-train c p (walks r) e tt) tt
+    movement-fits (walks r) h = rw (no-movement c p (walks r) e tt) tt
     movement-fits (runs start z) h = h .fits .number .1
     movement-fits (runs pass z) h = h .fits .number .1
     movement-fits (runs leave z) h = tt
-    movement-fits (notes k) h = rw (still-train c p (notes k) e tt) tt
+    movement-fits (notes k) h = rw (no-movement c p (notes k) e tt) tt
     movement-fits (releases z) h = tt
 
     -- a key is refused at 999
-    seals-fit : (k : View) → Passes c v b p k t → e .own .seals ≤ mostSeals → effect c (flat p k) e .own .seals ≤ mostSeals
+    seals-fit : (k : View) → AcceptedOn c v b p k t → e .own .seals ≤ mostSeals → effect c (flat p k) e .own .seals ≤ mostSeals
     unfolding checks effect flat
     seals-fit (walks order) h o = o
     seals-fit (walks setDevice) h o = o
     seals-fit (walks announce) h o = o
     seals-fit (walks acknowledge) h o = o
     seals-fit (walks key) h o = omega (arith, neqb→ne (e .own .seals) mostSeals (key-held h .seal-left))
-    seals-fit (runs m z) h o = rw (calm-effect c p (runs m z) e tt .seals) o
-    seals-fit (notes k) h o = rw (calm-effect c p (notes k) e tt .seals) o
+    seals-fit (runs m z) h o = rw (running-kept c p (runs m z) e tt .seals) o
+    seals-fit (notes k) h o = rw (running-kept c p (notes k) e tt .seals) o
     seals-fit (releases z) h o = o
 
     -- set or key: announce is next, unless it was at the last post
@@ -146,7 +146,7 @@ module _ (c : Settings) (b : Bool) where
     pub announce-next : T (isTurn (t .walk) p act.Announce) → TurnFits (t .cvt) (t .walk) → suc (rankOn (t .cvt) p) < c .posts
     announce-next h f = (subst (TurnFits (t .cvt)) (is-turn (t .walk) p act.Announce h) f) .1
 
-    turn-kept : (k : View) → Passes c v b p k t → TurnFits (t .cvt) (t .walk) → TurnFits (effect c (flat p k) e .cvt) (effect c (flat p k) e .walk)
+    turn-kept : (k : View) → AcceptedOn c v b p k t → TurnFits (t .cvt) (t .walk) → TurnFits (effect c (flat p k) e .cvt) (effect c (flat p k) e .walk)
     unfolding checks effect flat
     turn-kept (walks order) h f = h .fits .below
     turn-kept (walks setDevice) h f = set-turn (atReceivingEnd c e) refl (h .fits .below)
@@ -155,11 +155,11 @@ module _ (c : Settings) (b : Bool) where
         (next-lt (c .posts) (upward b (t .cvt)) p (h .fits .below) n, omega (arith, next-rank (c .posts) (upward b (t .cvt)) p (h .fits .below) n))
     turn-kept (walks acknowledge) h f = h .fits .below
     turn-kept (walks key) h f = set-turn (atReceivingEnd c e) refl (h .fits .below)
-    turn-kept (runs m z) h f = rw (calm-effect c p (runs m z) e tt .walk, calm-effect c p (runs m z) e tt .cvt) f
-    turn-kept (notes k) h f = rw (calm-effect c p (notes k) e tt .walk, calm-effect c p (notes k) e tt .cvt) f
+    turn-kept (runs m z) h f = rw (running-kept c p (runs m z) e tt .walk, running-kept c p (runs m z) e tt .cvt) f
+    turn-kept (notes k) h f = rw (running-kept c p (notes k) e tt .walk, running-kept c p (notes k) e tt .cvt) f
     turn-kept (releases z) h f = f
 
-    pub in-range-kept : (k : View) → Passes c v b p k t → InRange t → InRange (moved c b p k t)
+    pub in-range-kept : (k : View) → AcceptedOn c v b p k t → InRange t → InRange (trackAfterStep c b p k t)
     unfolding trackAfter AllFit
     in-range-kept k h r = record {
       seals = λ q q<n. set-keeps (λ (o : Post). o .seals ≤ mostSeals) (t .posts) p q (effect c (flat p k) e .own) blank (r .seals q q<n)

@@ -10,10 +10,10 @@ use Rattle.section.specs.Settings.{settingsRight}
 use Rattle.section.specs.Store.{trackOf}
 use Rattle.rules.specs.Judge.{judge}
 use Rattle.rules.specs.Site.{isSettled}
-use Rattle.rules.specs.Demand3.{stateAfter, Taken, acceptedSteps, underWay, OnTrack, NewOrder, Demand3}
+use Rattle.rules.specs.Demand3.{stateAfter, AcceptedStep, acceptedSteps, underWay, OnTrack, NewOrder, Demand3}
 use Rattle.rules.specs.RangesKept.{NeverOutOfRange}
 use Rattle.rules.proofs.View.{view, flat}
-use Rattle.rules.proofs.Accept.{word, next}
+use Rattle.rules.proofs.Accept.{saidIn, sectionAfterStep}
 use Rattle.rules.proofs.Reached.{Reached, fresh-reached, reached-in-range}
 use Rattle.rules.proofs.Along.{n2, n16, all-kept}
 use Rattle.rules.proofs.Fates.{RunsRight, runs-right}
@@ -37,7 +37,7 @@ module _ (c : Settings) (right : settingsRight c ≡ true) where
     abbrev end : Section
     end = stateAfter (freshSection c) offered
 
-    abbrev steps : List Taken
+    abbrev steps : List AcceptedStep
     steps = acceptedSteps (freshSection c) offered
 
     pub on-track : (b : Bool) → OnTrack c end steps b
@@ -79,6 +79,6 @@ demand3 c right offered = record {
 
 -- The new order that `demand3` gives. Unfolded, it computes on a day, where judging is unfolded too.
 unfoldable pub newOrder : (c : Settings) → settingsRight c ≡ true → (offered : List (List ℕ))
-    → ((b : Bool) → underWay (c .posts) b (acceptedSteps (freshSection c) offered) ≡ false) → List Taken
-unfolding Demand3 demand3 new-order all-kept sorted view flat word next
+    → ((b : Bool) → underWay (c .posts) b (acceptedSteps (freshSection c) offered) ≡ false) → List AcceptedStep
+unfolding Demand3 demand3 new-order all-kept sorted view flat saidIn sectionAfterStep
 newOrder c right offered ended = demand3 c right offered .reordered ended .order

@@ -23,10 +23,10 @@ use Rattle.rules.proofs.Facts.{nand-r, true-T, T-false, ne→neqb, firs
 use Rattle.rules.proofs.Facts.{last-rank, not-last-rank, number-none}
 use Rattle.rules.proofs.View.{Reversal, order, setDevice, announce, acknowledge, key, start, pass, leave, View, walks, runs, notes, releases}
 use Rattle.rules.proofs.View.{flat}
-use Rattle.rules.proofs.Frame.{still, calm-effect, still-train}
-use Rattle.rules.proofs.Accept.{Passes, moved}
+use Rattle.rules.proofs.Frame.{movesNoTrain, running-kept, no-movement}
+use Rattle.rules.proofs.Accept.{AcceptedOn, trackAfterStep}
 use Rattle.rules.proofs.Held.{set-held, key-held, start-held, pass-held, leave-held, pass-before, leave-before}
-use Rattle.rules.proofs.Invariant.{Low, NoTrain, last-free}
+use Rattle.rules.proofs.Invariant.{ClearedBelow, NoTrain, last-free}
 use Rattle.rules.proofs.Stretches.{TrainEnters, TrainMoves, TrainLeaves, Spaced, FreeFrom, free-from, free-ahead, free-first, enters-spaced}
 use Rattle.rules.proofs.Stretches.{moves-spaced, leaves-spaced, empty-spaced}
 use Rattle.rules.proofs.Runs.{Follows, empty-follows, enters-follows, moves-follows, leaves-follows}
@@ -76,7 +76,7 @@ module _ (c : Settings) (n2 : 2 ≤ c .posts) (n16 : c .posts ≤ mostPosts) whe
       f = trainAt c b (t .cvt) (t .trains)
 
       abbrev Kept : View → Type 0
-      Kept k = TrainsKept (t .cvt) (t .trains) (moved c b p k t .cvt) (moved c b p k t .trains) k p
+      Kept k = TrainsKept (t .cvt) (t .trains) (trackAfterStep c b p k t .cvt) (trackAfterStep c b p k t .trains) k p
 
       -- the post whose rank is one more than that of a block section
       post-past : (q : ℕ) → p < c .posts → suc q ≡ r → p ≡ rank (c .posts) up (suc q)
@@ -84,7 +84,7 @@ module _ (c : Settings) (n2 : 2 ≤ c .posts) (n16 : c .posts ≤ mostPosts) whe
 
       -- ## A start
 
-      start-kept : (y : ℕ) → Passes c v b p (runs start y) t → Kept (runs start y)
+      start-kept : (y : ℕ) → AcceptedOn c v b p (runs start y) t → Kept (runs start y)
       unfolding checks occupancyAt trackAfter effect cellsAfter flat numberOf
       start-kept y h = record {
         spaced = enters-spaced (c .posts) ends f g y enters free;
@@ -113,7 +113,7 @@ module _ (c : Settings) (n2 : 2 ≤ c .posts) (n16 : c .posts ≤ mostPosts) whe
 
       -- ## A pass
 
-      pass-kept : (y : ℕ) → Passes c v b p (runs pass y) t → Kept (runs pass y)
+      pass-kept : (y : ℕ) → AcceptedOn c v b p (runs pass y) t → Kept (runs pass y)
       unfolding checks occupancyAt trackAfter effect cellsAfter flat
       pass-kept y h = record {
         spaced = λ sp. moves-spaced (c .posts) ends f g y q (moves sp) ny (free sp) sp;
@@ -164,7 +164,7 @@ module _ (c : Settings) (n2 : 2 ≤ c .posts) (n16 : c .posts ≤ mostPosts) whe
 
       -- ## A leave
 
-      leave-kept : (y : ℕ) → Passes c v b p (runs leave y) t → Kept (runs leave y)
+      leave-kept : (y : ℕ) → AcceptedOn c v b p (runs leave y) t → Kept (runs leave y)
       unfolding checks occupancyAt trackAfter effect cellsAfter flat
       leave-kept y h = record {
         spaced = leaves-spaced (c .posts) ends f g y q leaves;
@@ -199,48 +199,48 @@ module _ (c : Settings) (n2 : 2 ≤ c .posts) (n16 : c .posts ≤ mostPosts) whe
       empty-cells : NoTrain c t → (cvt : Bool) (j : ℕ) → suc j < c .posts → trainAt c b cvt (t .trains) j ≡ 0
       empty-cells h cvt j k = h (block (c .posts) (upward b cvt) j) (block-lt (c .posts) (upward b cvt) j k)
 
-      set-kept : (w : Reversal) (last : Bool) → atReceivingEnd c e ≡ last → T (isTurn (t .walk) p act.Set) → Low c b (t .cvt) (t .walk) (t .trains)
+      set-kept : (w : Reversal) (last : Bool) → atReceivingEnd c e ≡ last → T (isTurn (t .walk) p act.Set) → ClearedBelow c b (t .cvt) (t .walk) (t .trains)
           → TrainsKept (t .cvt) (t .trains) (cond last (not (t .cvt)) (t .cvt)) (t .trains) (walks w) p
-      set-kept w true q hw low = record {
+      set-kept w true q hw clear = record {
         spaced = λ sp. empty-spaced (c .posts) (stretchEnds c b (not (t .cvt))) (trainAt c b (not (t .cvt)) (t .trains)) (empty (not (t .cvt)));
         follows = λ z rs nz sp h.
             empty-follows c n2 up (upward b (not (t .cvt))) f (trainAt c b (not (t .cvt)) (t .trains)) z rs nz (empty (t .cvt)) (empty (not (t .cvt))) h;
       }
         where
           empty : (cvt : Bool) (j : ℕ) → suc j < c .posts → trainAt c b cvt (t .trains) j ≡ 0
-          empty = empty-cells (last-free c b t p (true-T (atReceivingEnd c e) q) hw low)
-      set-kept w false q hw low = record { spaced = λ sp. sp; follows = λ z rs nz sp h. h }
+          empty = empty-cells (last-free c b t p (true-T (atReceivingEnd c e) q) hw clear)
+      set-kept w false q hw clear = record { spaced = λ sp. sp; follows = λ z rs nz sp h. h }
 
-      still-other : (z : ℕ) (k : View) → T (still k) → ofTrain z k ≡ false
-      still-other z (walks w) i = refl
-      still-other z (runs m y) i = absurd i
-      still-other z (notes k) i = refl
-      still-other z (releases y) i = refl
+      unmoved-other : (z : ℕ) (k : View) → T (movesNoTrain k) → ofTrain z k ≡ false
+      unmoved-other z (walks w) i = refl
+      unmoved-other z (runs m y) i = absurd i
+      unmoved-other z (notes k) i = refl
+      unmoved-other z (releases y) i = refl
 
-      still-kept : (k : View) → T (still k) → effect c (flat p k) e .cvt ≡ t .cvt → Kept k
+      unmoved-kept : (k : View) → T (movesNoTrain k) → effect c (flat p k) e .cvt ≡ t .cvt → Kept k
       unfolding trackAfter cellsAfter
-      still-kept k i q = record {
-        spaced = λ sp. rw (q, still-train c p k e i) sp;
-        follows = λ z rs nz sp h. rw (still-other z k i, q, still-train c p k e i) h;
+      unmoved-kept k i q = record {
+        spaced = λ sp. rw (q, no-movement c p k e i) sp;
+        follows = λ z rs nz sp h. rw (unmoved-other z k i, q, no-movement c p k e i) h;
       }
 
       -- ## The whole
 
-      pub trains-kept : (k : View) → Passes c v b p k t → Low c b (t .cvt) (t .walk) (t .trains) → Kept k
+      pub trains-kept : (k : View) → AcceptedOn c v b p k t → ClearedBelow c b (t .cvt) (t .walk) (t .trains) → Kept k
       unfolding checks trackAfter effect cellsAfter flat
-      trains-kept (walks order) h low = still-kept (walks order) tt refl
-      trains-kept (walks setDevice) h low = set-kept setDevice (atReceivingEnd c e) refl (set-held h .in-turn) low
-      trains-kept (walks announce) h low = still-kept (walks announce) tt refl
-      trains-kept (walks acknowledge) h low = still-kept (walks acknowledge) tt refl
-      trains-kept (walks key) h low = set-kept key (atReceivingEnd c e) refl (key-held h .in-turn) low
-      trains-kept (runs start y) h low = start-kept y h
-      trains-kept (runs pass y) h low = pass-kept y h
-      trains-kept (runs leave y) h low = leave-kept y h
-      trains-kept (notes k) h low = still-kept (notes k) tt (calm-effect c p (notes k) e tt .cvt)
-      trains-kept (releases y) h low = still-kept (releases y) tt refl
+      trains-kept (walks order) h clear = unmoved-kept (walks order) tt refl
+      trains-kept (walks setDevice) h clear = set-kept setDevice (atReceivingEnd c e) refl (set-held h .in-turn) clear
+      trains-kept (walks announce) h clear = unmoved-kept (walks announce) tt refl
+      trains-kept (walks acknowledge) h clear = unmoved-kept (walks acknowledge) tt refl
+      trains-kept (walks key) h clear = set-kept key (atReceivingEnd c e) refl (key-held h .in-turn) clear
+      trains-kept (runs start y) h clear = start-kept y h
+      trains-kept (runs pass y) h clear = pass-kept y h
+      trains-kept (runs leave y) h clear = leave-kept y h
+      trains-kept (notes k) h clear = unmoved-kept (notes k) tt (running-kept c p (notes k) e tt .cvt)
+      trains-kept (releases y) h clear = unmoved-kept (releases y) tt refl
 
       -- no train has the number 0
-      pub no-zero : (k : View) → Passes c v b p k t → ofTrain 0 k ≡ false
+      pub no-zero : (k : View) → AcceptedOn c v b p k t → ofTrain 0 k ≡ false
       no-zero (walks w) h = refl
       no-zero (runs m y) h = T-false (eqb y 0) (ne→neqb y 0 (omega (arith, h .fits .number .0)))
       no-zero (notes k) h = refl

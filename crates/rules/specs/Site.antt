@@ -83,11 +83,11 @@ stretchHolds ends train f j = reach ends (λ (i : ℕ). isTrain (train i)) f j
 
 pub record Occupancy : Type 0 where
   pub watched : Bool  -- a train in the part that the post watches
-  pub before : ℕ  -- the train in the block section before the post, 0 where there is none
-  pub entered : ℕ  -- the last train that entered the block section ahead, 0 where there is none
+  pub trainBefore : ℕ  -- the train in the block section before the post, 0 where there is none
+  pub lastAhead : ℕ  -- the last train that entered the block section ahead, 0 where there is none
   pub anywhere : Bool  -- a train anywhere on the track
-  pub stretch : Bool  -- a train in the stretch that begins at the post
-  pub known : Bool  -- the step's number is on the track
+  pub stretchOccupied : Bool  -- a train in the stretch that begins at the post
+  pub numberOnTrack : Bool  -- the step's number is on the track
   pub otherOnVns : Bool  -- the other track is settled on VNS
 
 module _ (c : Settings) where
@@ -138,11 +138,11 @@ module _ (c : Settings) where
   unfoldable pub occupancyAt : Bool → Site → ℕ → List ℕ → List ℕ → Occupancy
   occupancyAt otherOnVns e number trains last = record {
     watched = watchedOccupied e trains;
-    before = trainBefore e trains;
-    entered = lastEntered e last;
+    trainBefore = trainBefore e trains;
+    lastAhead = lastEntered e last;
     anywhere = anyOf isTrain (c .posts - 1) trains;
-    stretch =
+    stretchOccupied =
         stretchHolds (stretchEnds (e .track) (e .cvt)) (trainAt (e .track) (e .cvt) trains) (c .posts - suc (rankAt e)) (rankAt e);
-    known = anyOf (isNumber number) (c .posts - 1) trains;
+    numberOnTrack = anyOf (isNumber number) (c .posts - 1) trains;
     otherOnVns = otherOnVns;
   }

@@ -8,4 +8,4 @@ use Rattle.rules.specs.Site.{occupancyAt}
 
 -- a train in it; neither a number nor the last trains nor the other track count
 abbrev pub stretchOccupied : Settings → Site → List ℕ → Bool
-stretchOccupied c e trains = occupancyAt c false e 0 trains [] .stretch
+stretchOccupied c e trains = occupancyAt c false e 0 trains [] .stretchOccupied

@@ -65,16 +65,16 @@ free : (c : tie.Else4) → Passed 4 (c .before .before .before .before .before .
 unfolding checks occupancyAt numberOf
 free c = then (unknown (c .before .before)) (ap not (told (c .before .stretch-occupied .ensures) (c .if4 .left)))
 
-confirmed-requires : tie.Need-confirmed-requires
-confirmed-requires c κs = c .before .before .before .before .before .before .before .before .before .pre
+fault1-confirmed-requires : tie.Need-fault1-confirmed-requires
+fault1-confirmed-requires c κs = c .before .before .before .before .before .before .before .before .before .pre
 
 returns-5 : tie.Need-returns-5
 unfolding checks occupancyAt numberOf
-returns-5 c = refused _ (free (c .before .before)) (told-false (c .before .confirmed .ensures) (c .if5 .taken))
+returns-5 c = refused _ (free (c .before .before)) (told-false (c .before .fault1-confirmed .ensures) (c .if5 .taken))
 
 returns-6 : tie.Need-returns-6
 unfolding checks occupancyAt numberOf effect
-returns-6 c = accepted _ (then (free (c .before .before)) (told-true (c .before .confirmed .ensures) (c .if5 .left)))
+returns-6 c = accepted _ (then (free (c .before .before)) (told-true (c .before .fault1-confirmed .ensures) (c .if5 .left)))
 
 pub start-spec : {M : Type 1} → statement M
 start-spec =
@@ -89,6 +89,6 @@ start-spec =
     returns-3
     stretch-occupied-requires
     returns-4
-    confirmed-requires
+    fault1-confirmed-requires
     returns-5
     returns-6)
