@@ -15,7 +15,14 @@ mod post;
 mod trains;
 
 // The verdict of the table on a step at a site, beside a track that is or is not settled on VNS.
-pub fn verdict(c: Settings, x: Step, e: Site, other_on_vns: bool, trains: &Trains, last: &Trains) -> section::Verdict
+pub fn verdict(
+    c: Settings,
+    x: Step,
+    e: Site,
+    other_on_vns: bool,
+    trains: &Trains,
+    last: &Trains,
+) -> section::Verdict
     requires { ⌜ Placed c e ⌝ }
     ensures { λ r. ⌜ r ≡ verdictAt c «other_on_vns» x e (now (trains .entry)) (now (last .entry)) ⌝ }
 {

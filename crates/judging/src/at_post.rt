@@ -39,7 +39,14 @@ fn as_before(verdict: Verdict, e: Site) -> Judged
 }
 
 // Judges a step at its site, and moves its train where it is accepted.
-fn judge_at(c: Settings, x: Step, e: Site, other_on_vns: bool, trains: &mut Trains, last: &mut Trains) -> Judged
+fn judge_at(
+    c: Settings,
+    x: Step,
+    e: Site,
+    other_on_vns: bool,
+    trains: &mut Trains,
+    last: &mut Trains,
+) -> Judged
     requires { ⌜ Fit c e ⌝ }
     ensures { λ r. ⌜ r ≡ judgedAt c «other_on_vns» x e (now (trains .entry)) (now (last .entry)) ⌝ }
     ensures { λ _. ⌜ now (trains .exit) ≡ trainsAt c «other_on_vns» x e (now (trains .entry)) (now (last .entry)) ⌝ }

@@ -31,7 +31,8 @@ use Rattle.rules.specs.declared.Site.{Site}
 use Rattle.rules.specs.declared.Movement.{Movement}
 use Rattle.rules.specs.declared.Movement.the-variants.{Stays, Enters, Moves, Leaves}
 use Rattle.rules.specs.Site.{siteOn, settledVns, otherSettledOnVns, isTrain, isNumber, anyOf, reach, stretchHolds, upAt, atSendingEnd}
-use Rattle.rules.specs.Site.{atReceivingEnd, blockAhead, blockBefore, stretchEnds, trainAt, watchedOccupied, trainBefore, lastEntered, Occupancy, occupancyAt}
+use Rattle.rules.specs.Site.{atReceivingEnd, blockAhead, blockBefore, stretchEnds, trainAt}
+use Rattle.rules.specs.Site.{watchedOccupied, trainBefore, lastEntered, Occupancy, occupancyAt}
 use Rattle.rules.specs.Table.{effect, vacated, cellsAfter, trackAfter}
 use Rattle.rules.specs.Judge.{answerOf, siteOf, occupancyOf, verdictOn, sectionAfter, judgeStep, judgeDecoded, judgeInRange, judge}
 use Rattle.rules.specs.Indications.{lampsAt, shown, indicationsOn, indications, dark}
@@ -225,7 +226,8 @@ module _ (s u : Section) (a : AgreeBelow s u) where
 
     occupancies : occupancyOf s x ≡ occupancyOf u x
     occupancies =
-        occupancy-alike (s .settings) (otherSettledOnVns s (x .track)) (siteOf s x) below (numberOf (x .step)) (trackOf s (x .track) .trains) (trackOf u (x .track) .trains)
+        occupancy-alike (s .settings) (otherSettledOnVns s (x .track)) (siteOf s x) below (numberOf (x .step)) (trackOf s (x .track) .trains)
+        (trackOf u (x .track) .trains)
         (trackOf s (x .track) .last) (trackOf u (x .track) .last) (a .tracks (x .track) .cells .trains) (a .tracks (x .track) .cells .last)
         ∙ rw (vns-alike (x .track), sites, a .settings) refl
 

@@ -1,4 +1,5 @@
--- Days: steps offered one after another to a section, judged by the definitions of `rules`, by computation.
+-- Days: steps offered one after another to a section, judged by the definitions of `rules`, by computation. Every definition on the way from
+-- bytes to the answer is unfolded here once.
 use Prim.Native.Nat.{ℕ, zero, suc, _-_}
 use mathlib.Core.Bool.{Bool, true, false, cond}
 use mathlib.Core.List.{List, [], _∷_, _++_, map}

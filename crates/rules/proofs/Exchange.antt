@@ -1,4 +1,5 @@
--- Two steps on a section change places: l, and then an x that leaves walk and direction alone.
+-- Two steps on a section change places: l, and then an x that leaves walk and direction alone. On one track this is the exchange of Swap. On two
+-- tracks neither touches what the other sees: only an order looks at the other track, at its walk and direction, and x leaves these.
 use Prim.Native.Nat.{ℕ, _≤_}
 use mathlib.Core.Bool.{Bool, true, false, not, _&&_}
 use mathlib.Core.Path.{_≡_, refl, ap, ap₂, _∙_}
@@ -52,12 +53,14 @@ module _ (c : Settings) where
   unfolding saidIn
   says-nothing s b p k i = running-kept c p k (siteOn b p (trackOf s b)) i .said
 
-  pub walks-kept : (s : Section) (b : Bool) (p : ℕ) (k : View) → T (keepsRunning k) → (d : Bool) → trackOf (sectionAfterStep c s (on b p k)) d .walk ≡ trackOf s d .walk
+  pub walks-kept : (s : Section) (b : Bool) (p : ℕ) (k : View) → T (keepsRunning k) → (d : Bool)
+      → trackOf (sectionAfterStep c s (on b p k)) d .walk ≡ trackOf s d .walk
   walks-kept s b p k i =
       by-track (λ d. trackOf (sectionAfterStep c s (on b p k)) d .walk ≡ trackOf s d .walk) b
       (ap (λ t. t .walk) (here-after s b p k) ∙ walk-kept b p k (trackOf s b) i) (ap (λ t. t .walk) (there-after s b p k))
 
-  pub cvts-kept : (s : Section) (b : Bool) (p : ℕ) (k : View) → T (keepsRunning k) → (d : Bool) → trackOf (sectionAfterStep c s (on b p k)) d .cvt ≡ trackOf s d .cvt
+  pub cvts-kept : (s : Section) (b : Bool) (p : ℕ) (k : View) → T (keepsRunning k) → (d : Bool)
+      → trackOf (sectionAfterStep c s (on b p k)) d .cvt ≡ trackOf s d .cvt
   cvts-kept s b p k i =
       by-track (λ d. trackOf (sectionAfterStep c s (on b p k)) d .cvt ≡ trackOf s d .cvt) b
       (ap (λ t. t .cvt) (here-after s b p k) ∙ cvt-kept b p k (trackOf s b) i) (ap (λ t. t .cvt) (there-after s b p k))

@@ -107,7 +107,8 @@ module _ (c : Settings) (n2 : 2 ≤ c .posts) (n16 : c .posts ≤ mostPosts) whe
       none-zero = runs-there (c .posts) ds d x says 0 ∙ m .none-zero;
     }
 
-    pub runs-kept : (s : Section) → AcceptedIn c s x → ((b : Bool) → Sound c b (trackOf s b)) → SectionRuns s ds → SectionRuns (sectionAfterStep c s x) (ds ++ d ∷ [])
+    pub runs-kept : (s : Section) → AcceptedIn c s x → ((b : Bool) → Sound c b (trackOf s b)) → SectionRuns s ds
+        → SectionRuns (sectionAfterStep c s x) (ds ++ d ∷ [])
     unfolding AcceptedIn
     runs-kept s h so m =
         by-track (λ b. TrackRuns b (trackOf (sectionAfterStep c s x) b) (ds ++ d ∷ [])) (x .track)

@@ -1,4 +1,5 @@
--- What a step leaves alone, by its kind.
+-- What a step leaves alone, by its kind: its effect is computed, once for each kind. A step of a reversal moves no train; any other step leaves
+-- the walk and the running direction.
 use Prim.Native.Nat.{ℕ}
 use mathlib.Core.Bool.{Bool, true, false}
 use mathlib.Core.Path.{_≡_, refl, _∙_}

@@ -121,7 +121,8 @@ module _ (c : Settings) (b : Bool) where
     clear-kept : (k : View) → AcceptedOn c v b p k t → ClearedBelow (t .cvt) (t .walk) (t .trains) → TurnFits c b (t .cvt) (t .walk)
         → ClearedBelow (trackAfterStep c b p k t .cvt) (trackAfterStep c b p k t .walk) (trackAfterStep c b p k t .trains)
     unfolding checks occupancyAt trackAfter effect cellsAfter flat
-    clear-kept (walks order) h clear f = λ j l m. absurd (none-below j _ (cleared-order c b (t .cvt) p (first-rank (c .posts) (upward b (t .cvt)) p (order-held h .first))) l)
+    clear-kept (walks order) h clear f =
+        λ j l m. absurd (none-below j _ (cleared-order c b (t .cvt) p (first-rank (c .posts) (upward b (t .cvt)) p (order-held h .first))) l)
     clear-kept (walks setDevice) h clear f = clear-set (atReceivingEnd c e) refl (set-held h .in-turn) (set-held h .free) clear
     clear-kept (walks announce) h clear f = λ j l m.
         subst (λ (w : Walk). ClearedBelow (t .cvt) w (t .trains)) (is-turn (t .walk) p act.Announce (announce-held h .in-turn)) clear j
@@ -131,7 +132,9 @@ module _ (c : Settings) (b : Bool) where
         subst (λ (w : Walk). ClearedBelow (t .cvt) w (t .trains)) (is-turn (t .walk) p act.Acknowledge (acknowledge-held h .in-turn)) clear j
         (subst (λ (m : ℕ). j < m) (cleared-acknowledged c b (t .cvt) p) l) m
     clear-kept (walks key) h clear f = clear-set (atReceivingEnd c e) refl (key-held h .in-turn) (key-held h .free) clear
-    clear-kept (runs start z) h clear f = λ j l m. absurd (none-below j _ (cleared-settled c b (t .cvt)) (subst (λ (w : Walk). j < cleared c b (t .cvt) w) (is-settled (t .walk) (start-held h .settled)) l))
+    clear-kept (runs start z) h clear f =
+        λ j l m. absurd (none-below j _ (cleared-settled c b (t .cvt))
+        (subst (λ (w : Walk). j < cleared c b (t .cvt) w) (is-settled (t .walk) (start-held h .settled)) l))
     clear-kept (runs pass z) h clear f =
         clear-pass z (h .fits .below) (not-first-rank (c .posts) (upward b (t .cvt)) p (pass-held h .not-first))
         (not-last-rank (c .posts) (upward b (t .cvt)) p (h .fits .below) (pass-held h .not-last)) (h .fits .number .0) (pass-before h) clear

@@ -1,4 +1,5 @@
--- Lists that hold the same elements, and what is kept of them in sequence.
+-- Lists that hold the same elements, and what is kept of them in sequence: a step put at the end, or before steps none of which has an owner in
+-- common with it, changes no owner's sequence.
 use Prim.Native.Nat.{ℕ}
 use mathlib.Core.Bool.{Bool, true, false, cond, not}
 use mathlib.Core.Path.{_≡_, refl, sym, ap, _∙_}

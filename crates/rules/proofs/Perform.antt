@@ -1,4 +1,5 @@
--- Performing accepted steps from a section, and the steps of a reversal, which are held back so that other steps go before them.
+-- Performing accepted steps from a section, and the steps of a reversal, which are held back so that other steps go before them. A step that
+-- changes places with each of them goes before them all; where the track is empty at the end, it was empty throughout, and they are performed.
 use Prim.Native.Nat.{ℕ}
 use mathlib.Core.Bool.{Bool, true, false, not}
 use mathlib.Core.Path.{_≡_, refl, sym, ap, _∙_, subst}
@@ -61,7 +62,8 @@ module _ (c : Settings) where
 
   pub data Performed : Section → List AcceptedStep → Section → Type 0 where
     done : {s : Section} → Performed s [] s
-    step : {s end : Section} {ds : List AcceptedStep} (b : Bool) (i : DecodedStep b) → AcceptedIn c s (stepOf b i) → saidIn c s (stepOf b i) ≡ i .as-accepted .said
+    step : {s end : Section} {ds : List AcceptedStep} (b : Bool) (i : DecodedStep b) → AcceptedIn c s (stepOf b i)
+        → saidIn c s (stepOf b i) ≡ i .as-accepted .said
         → Clear (sectionAfterStep c s (stepOf b i)) → Performed (sectionAfterStep c s (stepOf b i)) ds end → Performed s (i .as-accepted ∷ ds) end
 
   pub performed-append : (b : List AcceptedStep) {s₀ s₁ s₂ : Section} {a : List AcceptedStep} → Performed s₀ a s₁ → Performed s₁ b s₂ → Performed s₀ (a ++ b) s₂
@@ -76,7 +78,8 @@ module _ (c : Settings) where
   performed-one s b i ok said w = step b i ok said (no-reversal (sectionAfterStep c s (stepOf b i)) w) done
 
   -- judged as the claim says
-  pub performed-performs : (right : settingsRight c ≡ true) (behind : List AcceptedStep) {s end : Section} {ds : List AcceptedStep} → Reached c s → Agrees c s behind
+  pub performed-performs : (right : settingsRight c ≡ true) (behind : List AcceptedStep) {s end : Section} {ds : List AcceptedStep} → Reached c s
+      → Agrees c s behind
       → Performed s ds end → Performs c s behind ds end
   unfolding Performs
   performed-performs right behind r a done = refl
@@ -92,9 +95,11 @@ module _ (c : Settings) where
       after : Agrees c (sectionAfterStep c s (stepOf b i)) (behind ++ i .as-accepted ∷ [])
       after = agrees-kept c (posts-right c right .0) s behind (i .as-accepted) (stepOf b i) (i .says) ok a
 
-      settled-not : (d : Bool) → underWay (c .posts) d (behind ++ i .as-accepted ∷ []) ≡ true → isSettled (trackOf (sectionAfterStep c s (stepOf b i)) d .walk) ≡ false
+      settled-not : (d : Bool) → underWay (c .posts) d (behind ++ i .as-accepted ∷ []) ≡ true
+          → isSettled (trackOf (sectionAfterStep c s (stepOf b i)) d .walk) ≡ false
       settled-not d u =
-          go (isSettled (trackOf (sectionAfterStep c s (stepOf b i)) d .walk)) (sym (under-way c (sectionAfterStep c s (stepOf b i)) (behind ++ i .as-accepted ∷ []) after d) ∙ u)
+          go (isSettled (trackOf (sectionAfterStep c s (stepOf b i)) d .walk))
+          (sym (under-way c (sectionAfterStep c s (stepOf b i)) (behind ++ i .as-accepted ∷ []) after d) ∙ u)
         where
           go : (x : Bool) → not x ≡ true → x ≡ false
           go true e = sym e
@@ -143,7 +148,8 @@ module _ (c : Settings) where
   -- a step that leaves walk and direction, and changes places with each of them goes before them all
   pub goes-first : (b : Bool) (x : Seen) (P : DecodedStep b → Type 0) → T (keepsRunning (x .kind))
       → ((s : Section) (i : DecodedStep b) → P i → LateStep b s i → AcceptedIn c (sectionAfterStep c s (stepOf b i)) x → Exchanged c s (stepOf b i) x)
-      → (is : List (DecodedStep b)) (s end : Section) → All P is → Late b s is end → AcceptedIn c end x → AcceptedIn c s x × Late b (sectionAfterStep c s x) is (sectionAfterStep c end x)
+      → (is : List (DecodedStep b)) (s end : Section) → All P is → Late b s is end → AcceptedIn c end x
+      → AcceptedIn c s x × Late b (sectionAfterStep c s x) is (sectionAfterStep c end x)
   goes-first b x P j f [] s end a e h = (subst (λ w. AcceptedIn c w x) (sym e) h, ap (λ w. sectionAfterStep c w x) e)
   goes-first b x P j f (i ∷ is) s end a l h =
       let r = goes-first b x P j f is (sectionAfterStep c s (stepOf b i)) end (a .1) (l .1) h in

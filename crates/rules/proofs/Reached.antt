@@ -45,17 +45,20 @@ module _ (c : Settings) where
 
   -- ## Kept by every accepted step
 
-  single-kept : (v b : Bool) (p : ℕ) (k : View) (t : Track) → AcceptedOn c v b p k t → T (settledOnVns t || v) → T (settledOnVns (trackAfterStep c b p k t) || v)
+  single-kept : (v b : Bool) (p : ℕ) (k : View) (t : Track) → AcceptedOn c v b p k t → T (settledOnVns t || v)
+      → T (settledOnVns (trackAfterStep c b p k t) || v)
   unfolding trackAfter effect flat occupancyAt
   single-kept v b p (walks order) t h o = go (t .cvt) (order-held h .allowed) (rw (is-settled (t .walk) (order-held h .settled)) at o)
     where
       go : (d : Bool) → T (d || v) → T (not d || v) → T v
       go true u w = w
       go false u w = u
-  single-kept v b p (walks setDevice) t h o = or-right (settledOnVns (trackAfterStep c b p (walks setDevice) t)) v (rw (is-turn (t .walk) p act.Set (set-held h .in-turn)) at o)
+  single-kept v b p (walks setDevice) t h o =
+      or-right (settledOnVns (trackAfterStep c b p (walks setDevice) t)) v (rw (is-turn (t .walk) p act.Set (set-held h .in-turn)) at o)
   single-kept v b p (walks announce) t h o = rw (is-turn (t .walk) p act.Announce (announce-held h .in-turn)) at o
   single-kept v b p (walks acknowledge) t h o = rw (is-turn (t .walk) p act.Acknowledge (acknowledge-held h .in-turn)) at o
-  single-kept v b p (walks key) t h o = or-right (settledOnVns (trackAfterStep c b p (walks key) t)) v (rw (is-turn (t .walk) p act.Set (key-held h .in-turn)) at o)
+  single-kept v b p (walks key) t h o =
+      or-right (settledOnVns (trackAfterStep c b p (walks key) t)) v (rw (is-turn (t .walk) p act.Set (key-held h .in-turn)) at o)
   single-kept v b p (runs m z) t h o = rw (vns-kept c b p (runs m z) t tt) o
   single-kept v b p (notes k) t h o = rw (vns-kept c b p (notes k) t tt) o
   single-kept v b p (releases z) t h o = o

@@ -1,4 +1,6 @@
--- The accepted steps put in the new order: the steps of a reversal under way are held back, all else goes before them.
+-- The accepted steps put in the new order: the steps of a reversal under way are held back, all else goes before them. A train that rolls on is
+-- past the turn's post, a condition concerns its own post, so each changes places with the steps held back. At the last set the track is empty,
+-- and they are performed.
 use Prim.Native.Nat.{ℕ, _≤_, _<_}
 use mathlib.Core.Bool.{Bool, true, false, cond, not, _&&_, _||_, Bool·beq}
 use mathlib.Core.Path.{_≡_, refl, sym, ap, ap₂, _∙_, subst}
@@ -83,7 +85,8 @@ module _ (c : Settings) where
         let f = onward-facts c v b n2 m z q t o h in
         let l : rankOn c b (t .cvt) p ≤ cleared c b (t .cvt) (t .walk) =
         subst (λ (w : Walk). rankOn c b (t .cvt) p ≤ cleared c b (t .cvt) w) (sym e) (cleared-turn c b (t .cvt) p a) in
-        let g : cleared c b (t .cvt) (t .walk) < rankOn c b (t .cvt) q = past-cleared c b v t q z (f .below) (f .not-first) (f .number) (f .before) (so .clear) in
+        let g : cleared c b (t .cvt) (t .walk) < rankOn c b (t .cvt) q =
+        past-cleared c b v t q z (f .below) (f .not-first) (f .number) (f .before) (so .clear) in
         movesOn m z refl o (before (rankOn c b (t .cvt) p) (cleared c b (t .cvt) (t .walk)) (rankOn c b (t .cvt) q) l g)
       where
         before : (x y z : ℕ) → x ≤ y → y < z → x < z
@@ -130,7 +133,8 @@ module _ (c : Settings) where
     pub kept : Reordered ds (first ++ allAccepted c track late)
 
   pub data Progress (s : Section) (ds : List AcceptedStep) : Type 0 where
-    settled : (first : List AcceptedStep) → Performed c (freshSection c) first s → Reordered ds first → ((b : Bool) → trackOf s b .walk ≡ Settled) → Progress s ds
+    settled : (first : List AcceptedStep) → Performed c (freshSection c) first s → Reordered ds first → ((b : Bool) → trackOf s b .walk ≡ Settled)
+        → Progress s ds
     reversing : Reversing s ds → Progress s ds
 
   -- what is proved of each accepted step
@@ -174,7 +178,8 @@ module _ (c : Settings) where
 
   module _ (s : Section) (ds : List AcceptedStep) (g : Reversing s ds) where
     -- a step that leaves walk and direction has no owner in common with the late ones
-    pub no-owner : (b : Bool) (x : DecodedStep c b) → T (keepsRunning (x .kind)) → saidIn c s (stepOf c b x) ≡ x .as-accepted .said → All (Apart b x (g .track)) (g .late)
+    pub no-owner : (b : Bool) (x : DecodedStep c b) → T (keepsRunning (x .kind)) → saidIn c s (stepOf c b x) ≡ x .as-accepted .said
+        → All (Apart b x (g .track)) (g .late)
         → (o : Owner) → T (owns o (x .as-accepted)) → keep (owns o) (allAccepted c (g .track) (g .late)) ≡ []
     no-owner b x j said h (aPost b′ p′) t =
         keep-none (isOfPost b′ p′) (allAccepted c (g .track) (g .late))
@@ -189,8 +194,10 @@ module _ (c : Settings) where
 
     -- ## A step goes before the late ones, or is held back with them
 
-    goes-before : (b : Bool) (x : DecodedStep c b) → T (keepsRunning (x .kind)) → saidIn c s (stepOf c b x) ≡ x .as-accepted .said → All (Apart b x (g .track)) (g .late)
-        → AcceptedIn c (g .base) (stepOf c b x) × Late c (g .track) (sectionAfterStep c (g .base) (stepOf c b x)) (g .late) (sectionAfterStep c s (stepOf c b x)) → Onward s ds b x
+    goes-before : (b : Bool) (x : DecodedStep c b) → T (keepsRunning (x .kind)) → saidIn c s (stepOf c b x) ≡ x .as-accepted .said
+        → All (Apart b x (g .track)) (g .late)
+        → AcceptedIn c (g .base) (stepOf c b x) × Late c (g .track) (sectionAfterStep c (g .base) (stepOf c b x)) (g .late)
+        (sectionAfterStep c s (stepOf c b x)) → Onward s ds b x
     goes-before b x j said al r = reversing (record {
       track = g .track;
       post = g .post;
@@ -221,7 +228,8 @@ module _ (c : Settings) where
     abbrev after : DecodedStep c (g .track) → Track
     after x = trackAfterStep c (g .track) (x .post) (x .kind) (trackOf s (g .track))
 
-    held-back : (x : DecodedStep c (g .track)) → T (movesNoTrain (x .kind)) → AcceptedIn c s (stepOf c (g .track) x) → saidIn c s (stepOf c (g .track) x) ≡ x .as-accepted .said
+    held-back : (x : DecodedStep c (g .track)) → T (movesNoTrain (x .kind)) → AcceptedIn c s (stepOf c (g .track) x)
+        → saidIn c s (stepOf c (g .track) x) ≡ x .as-accepted .said
         → (p′ : ℕ) (a′ : Act) → after x .walk ≡ Turn p′ a′ → after x .cvt ≡ trackOf s (g .track) .cvt → rk (g .post) ≤ rk p′ → rk (x .post) ≤ rk (g .post)
         → Onward s ds (g .track) x
     held-back x j h said p′ a′ ew ec le ql = reversing (record {
@@ -274,7 +282,8 @@ module _ (c : Settings) where
 
   -- ## Each accepted step
 
-  pub order-moves : (b : Bool) (p : ℕ) (t : Track) → (trackAfterStep c b p (walks order) t .walk ≡ Turn p act.Set) × (trackAfterStep c b p (walks order) t .cvt ≡ t .cvt)
+  pub order-moves : (b : Bool) (p : ℕ) (t : Track)
+      → (trackAfterStep c b p (walks order) t .walk ≡ Turn p act.Set) × (trackAfterStep c b p (walks order) t .cvt ≡ t .cvt)
   unfolding trackAfter effect flat
   order-moves b p t = (refl, refl)
 
@@ -317,7 +326,8 @@ module _ (c : Settings) where
 
           -- a step of the kind k may go before the late step i
           May : View → Section → DecodedStep c (g .track) → Type 0
-          May k s₀ i = AcceptedIn c (sectionAfterStep c s₀ (stepOf c (g .track) i)) (on (g .track) q k) → Exchanged c s₀ (stepOf c (g .track) i) (on (g .track) q k)
+          May k s₀ i =
+              AcceptedIn c (sectionAfterStep c s₀ (stepOf c (g .track) i)) (on (g .track) q k) → Exchanged c s₀ (stepOf c (g .track) i) (on (g .track) q k)
 
           before : (k : View) → x .kind ≡ k → T (keepsRunning k) → rk s ds g (g .post) < rk s ds g q
               → ((s₀ : Section) (i : DecodedStep c (g .track)) → Under i → LateStep c (g .track) s₀ i → May k s₀ i) → Onward s ds (g .track) x
@@ -345,7 +355,8 @@ module _ (c : Settings) where
           go (endsReversal ew free) = closes x h said ew free
 
       -- a step on the other track
-      other-track : (x : DecodedStep c (not (g .track))) → AcceptedIn c s (stepOf c (not (g .track)) x) → saidIn c s (stepOf c (not (g .track)) x) ≡ x .as-accepted .said
+      other-track : (x : DecodedStep c (not (g .track))) → AcceptedIn c s (stepOf c (not (g .track)) x)
+          → saidIn c s (stepOf c (not (g .track)) x) ≡ x .as-accepted .said
           → Onward s ds (not (g .track)) x
       unfolding AcceptedIn
       other-track x h said =
@@ -366,7 +377,8 @@ module _ (c : Settings) where
 
     -- an order
     begins : (first : List AcceptedStep) → Performed c (freshSection c) first s → Reordered ds first → ((b : Bool) → trackOf s b .walk ≡ Settled)
-        → (b : Bool) (x : DecodedStep c b) → x .kind ≡ walks order → AcceptedIn c s (stepOf c b x) → saidIn c s (stepOf c b x) ≡ x .as-accepted .said → Onward s ds b x
+        → (b : Bool) (x : DecodedStep c b) → x .kind ≡ walks order → AcceptedIn c s (stepOf c b x) → saidIn c s (stepOf c b x) ≡ x .as-accepted .said
+        → Onward s ds b x
     begins first pf kp ws b x e h said = reversing (record {
       track = b;
       post = x .post;
@@ -385,7 +397,8 @@ module _ (c : Settings) where
         cvt-same : trackOf (sectionAfterStep c s (stepOf c b x)) b .cvt ≡ trackOf s b .cvt
         cvt-same = ap (λ t. t .cvt) (here-after c s b (x .post) (x .kind)) ∙ rw e (order-moves b (x .post) (trackOf s b) .1)
 
-    unfoldable pub progress : (b : Bool) (x : DecodedStep c b) → AcceptedIn c s (stepOf c b x) → saidIn c s (stepOf c b x) ≡ x .as-accepted .said → Progress s ds →
+    unfoldable pub progress : (b : Bool) (x : DecodedStep c b) → AcceptedIn c s (stepOf c b x) → saidIn c s (stepOf c b x) ≡ x .as-accepted .said
+        → Progress s ds →
         Onward s ds b x
     unfolding AcceptedIn by-track settled-kind begins same-track other-track does does-set does-onward goes-before held-back closes
     progress b x h said (settled first pf kp ws) = go (settled-kind (otherSettledOnVns s b) b (x .post) (x .kind) (trackOf s b) h (ws b))

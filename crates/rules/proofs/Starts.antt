@@ -1,4 +1,5 @@
--- At most one post of a track may start trains: the sending end.
+-- At most one post of a track may start trains: the sending end. Only a sending end has permission or is let through by the checks of a start,
+-- and only while its track is settled; a post of rank 0 is the only one.
 use Prim.Native.Nat.{ℕ, _<_}
 use mathlib.Core.Bool.{Bool, true, false, not}
 use mathlib.Core.Path.{_≡_, refl, sym, ap, _∙_, subst}

@@ -1,5 +1,5 @@
--- Two steps on one track at different posts change places, where the first moves no train and the second notes a condition, passes or
--- leaves.
+-- Two steps on one track at different posts change places, where the first moves no train and the second notes a condition, passes or leaves.
+-- The second sees nothing that the first changes. The first finds the same or fewer trains where it looks, so its checks still hold.
 use Prim.Native.Nat.{ℕ, suc, _-_, _≤_, _<_}
 use mathlib.Core.Bool.{Bool, true, false, cond, not, _&&_}
 use mathlib.Core.Path.{_≡_, refl, sym, ap, ap₂, _∙_, subst}
@@ -28,7 +28,8 @@ use Rattle.rules.proofs.View.{walks, runs, notes, releases, flat}
 use Rattle.rules.proofs.Frame.{movesNoTrain, onward, running-kept, no-movement}
 use Rattle.rules.proofs.Accept.{AllHold, occupancyOn, AcceptedOn, trackAfterStep}
 use Rattle.rules.proofs.Held.{order-held, order-accepted, set-held, set-accepted, key-held, key-accepted, announce-held, announce-accepted}
-use Rattle.rules.proofs.Held.{acknowledge-held, acknowledge-accepted, release-held, release-accepted, pass-held, pass-before, leave-not-first, leave-before}
+use Rattle.rules.proofs.Held.{acknowledge-held, acknowledge-accepted, release-held, release-accepted}
+use Rattle.rules.proofs.Held.{pass-held, pass-before, leave-not-first, leave-before}
 use Rattle.rules.proofs.Ranges.{rankOn}
 
 -- a track with other trains
@@ -293,7 +294,8 @@ module _ (c : Settings) (v b : Bool) where
           (stays-last m z p t (blockAhead c (siteOn b q t)) o (elsewhere (hl .fits .below) (hx .fits .below) u) hx);
     }) hl
 
-    pub swap-onward : trackAfterStep c b q l t .cvt ≡ t .cvt → AcceptedOn c v b q l t → AcceptedOn c v b p (runs m z) (trackAfterStep c b q l t) → Swapped q l p (runs m z) t
+    pub swap-onward : trackAfterStep c b q l t .cvt ≡ t .cvt → AcceptedOn c v b q l t → AcceptedOn c v b p (runs m z) (trackAfterStep c b q l t)
+        → Swapped q l p (runs m z) t
     swap-onward ec hl hx =
         let x1 : AcceptedOn c v b p (runs m z) t = onward-checks m z p (trackAfterStep c b q l t) t o ec (trains-unmoved l q t i) hx in
         record {

@@ -1,4 +1,5 @@
--- Demand 3, and that 6 is never answered along a list from fresh.
+-- Demand 3, and that 6 is never answered along a list from fresh: both are read off what is kept along the list. The new order is the one that
+-- was built step by step; where no reversal is under way, nothing of it is held back.
 use Prim.Native.Nat.{ℕ}
 use mathlib.Core.Bool.{Bool, true, false, not}
 use mathlib.Core.Path.{_≡_, refl, sym, _∙_}

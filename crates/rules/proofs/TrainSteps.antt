@@ -1,4 +1,5 @@
--- A train's own steps, as the statement of demand 3 reads them off the bytes, in terms of the step's view.
+-- A train's own steps, as the statement of demand 3 reads them off the bytes, in terms of the step's view: the bytes of a well-formed step give
+-- its kind, track, post and number back, so each test of the statement is a test of the view.
 use Prim.Native.Nat.{ℕ}
 use mathlib.Core.Bool.{Bool, true, false, cond, _&&_, Bool·beq}
 use mathlib.Core.Path.{_≡_, refl, sym, ap, _∙_}

@@ -1,4 +1,5 @@
--- Every accepted step keeps the trains of its track a stretch apart, and the runs in step with the cells.
+-- Every accepted step keeps the trains of its track a stretch apart, and the runs in step with the cells. A start, a pass and a leave move one
+-- train by one block section, by rank; the last set finds the track empty; every other step leaves the trains.
 use Prim.Native.Nat.{ℕ, suc, _-_, _≤_, _<_}
 use mathlib.Core.Bool.{Bool, true, false, cond, not}
 use mathlib.Core.Path.{_≡_, refl, sym, ap, _∙_, subst}
@@ -105,7 +106,8 @@ module _ (c : Settings) (n2 : 2 ≤ c .posts) (n16 : c .posts ≤ mostPosts) whe
 
           enters : TrainEnters (c .posts) f g y
           enters = record {
-            absent = λ j k. number-none (c .posts - 1) y (t .trains) (start-held h .number-new) (block (c .posts) up j) (omega (arith, block-lt (c .posts) up j k));
+            absent =
+                λ j k. number-none (c .posts - 1) y (t .trains) (start-held h .number-new) (block (c .posts) up j) (omega (arith, block-lt (c .posts) up j k));
             free = free-first (c .posts) ends f 0 (omega arith) free;
             entered = ap g (sym first) ∙ cell-same up (t .trains) r y size (omega (arith, first));
             others = λ j k ne. cell-other up (t .trains) r y j (omega (arith, first)) k (λ x. ne (x ∙ first));

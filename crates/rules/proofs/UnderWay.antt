@@ -1,4 +1,5 @@
--- A reversal is under way, over the accepted steps, where the walk says so. What is kept names the last post of the reversal too.
+-- A reversal is under way, over the accepted steps, where the walk says so. What is kept names the last post of the reversal too: an order notes
+-- the far end, and the set or key there, and no other, ends it.
 use Prim.Native.Nat.{ℕ, suc, _-_, _≤_, _<_}
 use mathlib.Core.Bool.{Bool, true, false, cond, not, _||_, Bool·beq}
 use mathlib.Core.Path.{_≡_, refl, sym, ap, ap₂, _∙_}
@@ -109,7 +110,8 @@ module _ (c : Settings) where
     unfolding checks trackAfter effect flat kindOf
     noted (walks order) h =
         ap some (far-post (c .posts) (upward b (t .cvt)) p n2 (h .fits .below) (first-rank (c .posts) (upward b (t .cvt)) p (order-held h .first)))
-    noted (walks setDevice) h = ap (endsAt p) (turn-last act.Set (t .walk) (set-held h .in-turn)) ∙ set-noted (atReceivingEnd c (siteOn b p t)) refl (h .fits .below)
+    noted (walks setDevice) h =
+        ap (endsAt p) (turn-last act.Set (t .walk) (set-held h .in-turn)) ∙ set-noted (atReceivingEnd c (siteOn b p t)) refl (h .fits .below)
     noted (walks announce) h = turn-last act.Announce (t .walk) (announce-held h .in-turn)
     noted (walks acknowledge) h = turn-last act.Acknowledge (t .walk) (acknowledge-held h .in-turn)
     noted (walks key) h = ap (endsAt p) (turn-last act.Set (t .walk) (key-held h .in-turn)) ∙ set-noted (atReceivingEnd c (siteOn b p t)) refl (h .fits .below)
@@ -130,7 +132,8 @@ module _ (c : Settings) where
       ∙ reversal-append (c .posts) none (keep (isOnTrack b) ds) (keep (isOnTrack b) (d ∷ []))
       ∙ reversal-one (Bool·beq (track d) b) d (reversalOn b ds)
 
-  pub agrees-kept : 2 ≤ c .posts → (s : Section) (ds : List AcceptedStep) (d : AcceptedStep) (x : Seen) → Says (c .posts) (d .bytes) (shown x) → AcceptedIn c s x
+  pub agrees-kept : 2 ≤ c .posts → (s : Section) (ds : List AcceptedStep) (d : AcceptedStep) (x : Seen) → Says (c .posts) (d .bytes) (shown x)
+      → AcceptedIn c s x
       → Agrees s ds → Agrees (sectionAfterStep c s x) (ds ++ d ∷ [])
   unfolding AcceptedIn
   agrees-kept n2 s ds d x h ok a =

@@ -30,7 +30,8 @@ free-to-announce c b t s = record {
   before = λ p e.
       let fits : TurnFits c b (t .cvt) (Turn p act.Acknowledge) = subst (TurnFits c b (t .cvt)) e (s .ranges .turn) in
       let clear : ClearedBelow c b (t .cvt) (Turn p act.Acknowledge) (t .trains) = subst (λ (w : Walk). ClearedBelow c b (t .cvt) w (t .trains)) e (s .clear) in
-      clear (rankOn c b (t .cvt) p - 1) (omega (arith, fits .1, cleared-turn c b (t .cvt) p act.Acknowledge)) (omega (arith, fits .1, rank-lt (c .posts) (upward b (t .cvt)) p (fits .0)));
+      clear (rankOn c b (t .cvt) p - 1) (omega (arith, fits .1, cleared-turn c b (t .cvt) p act.Acknowledge))
+      (omega (arith, fits .1, rank-lt (c .posts) (upward b (t .cvt)) p (fits .0)));
 }
 
 pub voie-occupee-never-said : (c : Settings) → settingsRight c ≡ true → (offered : List (List ℕ)) → VoieOccupeeNeverSaid c offered
