@@ -19,12 +19,14 @@ block-ahead-requires-2 c κs =
 vacate-requires : tie.Need-vacate-requires
 unfolding HasBlocks
 vacate-requires c κs =
-    let b = c .before .before .before .before in
-    (b .pre .0, subst (HasBlocks (b .args .c) (b .args .e)) (c .before .before .m2 .given .1) (b .pre .1) .0)
+    let b = c .before .before .before .before .before in
+    (b .pre .0, subst (HasBlocks (b .args .c) (b .args .e)) (c .before .before .before .m2 .given .1) (b .pre .1) .0)
 
 vacate-requires-2 : tie.Need-vacate-requires-2
 unfolding HasBlocks
-vacate-requires-2 c κs = let b = c .before .before in (b .pre .0, subst (HasBlocks (b .args .c) (b .args .e)) (c .enum-told2 .given .1) (b .pre .1))
+vacate-requires-2 c κs =
+    let b = c .before .before .before in
+    (b .pre .0, subst (HasBlocks (b .args .c) (b .args .e)) (c .before .enum-told2 .given .1) (b .pre .1))
 
 returns : tie.Need-returns
 unfolding cellsAfter
@@ -36,11 +38,11 @@ returns-2 c = rw (c .block-ahead .ensures .0, c .before .before .m .given .1)
 
 returns-3 : tie.Need-returns-3
 unfolding cellsAfter
-returns-3 c = rw (c .vacate .ensures, c .before .block-ahead2 .ensures .0, c .before .before .before .m2 .given .1)
+returns-3 c = rw (c .vacate .ensures, c .before .before .block-ahead2 .ensures .0, c .before .before .before .before .m2 .given .1)
 
 returns-4 : tie.Need-returns-4
 unfolding cellsAfter
-returns-4 c = rw (c .vacate2 .ensures, c .before .enum-told2 .given .1)
+returns-4 c = rw (c .vacate2 .ensures, c .before .before .enum-told2 .given .1)
 
 pub move-cells-spec : {M : Type 1} → statement M
 move-cells-spec =
@@ -54,7 +56,6 @@ move-cells-spec =
     (λ c. search needs)
     block-ahead-requires-2
     vacate-requires
-    (λ c. search needs)
     (λ c. search needs)
     (λ c. search needs)
     (λ c. search needs)
