@@ -1,4 +1,5 @@
 // The steps for a device that fails: release, for fault 1, and key, for fault 2.
+ghost use mathlib.Core.Bool.{false};
 ghost use mathlib.Core.List.{[]};
 ghost use mathlib.Core.Path.{_≡_};
 ghost use Rattle.section.specs.declared.Step.the-variants.{Release, Key};
@@ -11,17 +12,17 @@ use section::Said;
 use section::Settings;
 use section::Trains;
 use section::Verdict;
-use site::conditions::confirmed;
+use site::conditions::fault1_confirmed;
 use site::conditions::is_turn;
+use site::conditions::measures_suffice;
 use site::conditions::release_in_turn;
-use site::conditions::secured;
 use site::place::at_receiving_end;
 use site::trains::train_ahead;
 use site::trains::watched_occupied;
 
 pub fn release(c: Settings, e: Site, number: u16, trains: &Trains, last: &Trains) -> Verdict
     requires { ⌜ Placed c e ⌝ }
-    ensures { λ r. ⌜ r ≡ verdictAt c (Release (e .post) number) e (now (trains .entry)) (now (last .entry)) ⌝ }
+    ensures { λ r. ⌜ r ≡ verdictAt c false (Release (e .post) number) e (now (trains .entry)) (now (last .entry)) ⌝ }
 {
     if !release_in_turn(c, e) {
         return Verdict::Refused(15);
@@ -43,7 +44,7 @@ pub fn release(c: Settings, e: Site, number: u16, trains: &Trains, last: &Trains
 
 pub fn key(c: Settings, e: Site, trains: &Trains) -> Verdict
     requires { ⌜ Placed c e ⌝ }
-    ensures { λ r. ⌜ r ≡ verdictAt c (Key (e .post)) e (now (trains .entry)) [] ⌝ }
+    ensures { λ r. ⌜ r ≡ verdictAt c false (Key (e .post)) e (now (trains .entry)) [] ⌝ }
 {
     let walk = e.walk;
     if !is_turn(walk, e.post, Act::Set) {
@@ -55,10 +56,10 @@ pub fn key(c: Settings, e: Site, trains: &Trains) -> Verdict
     if watched_occupied(c, e, trains) {
         return Verdict::Refused(13);
     }
-    if !confirmed(c, e) {
+    if !fault1_confirmed(c, e) {
         return Verdict::Refused(18);
     }
-    if !secured(e) {
+    if !measures_suffice(e) {
         return Verdict::Refused(16);
     }
     if e.own.seals == MOST_SEALS {

@@ -14,13 +14,20 @@ use section::Trains;
 mod post;
 mod trains;
 
-// The verdict of the table on a step at a site.
-pub fn verdict(c: Settings, x: Step, e: Site, trains: &Trains, last: &Trains) -> section::Verdict
+// The verdict of the table on a step at a site, beside a track that is or is not settled on VNS.
+pub fn verdict(
+    c: Settings,
+    x: Step,
+    e: Site,
+    other_on_vns: bool,
+    trains: &Trains,
+    last: &Trains,
+) -> section::Verdict
     requires { ⌜ Placed c e ⌝ }
-    ensures { λ r. ⌜ r ≡ verdictAt c x e (now (trains .entry)) (now (last .entry)) ⌝ }
+    ensures { λ r. ⌜ r ≡ verdictAt c «other_on_vns» x e (now (trains .entry)) (now (last .entry)) ⌝ }
 {
     match x {
-        Step::Order { post: _ } => reversal::order(c, e, trains),
+        Step::Order { post: _ } => reversal::order(c, e, other_on_vns, trains),
         Step::Set { post: _ } => reversal::set(c, e, trains),
         Step::Announce { post: _ } => reversal::announce(e),
         Step::Acknowledge { post: _ } => reversal::acknowledge(e),

@@ -1,4 +1,5 @@
 // The steps that a post takes for itself: measures and faults. They look at no train, and hold under any settings.
+ghost use mathlib.Core.Bool.{false};
 ghost use mathlib.Core.List.{[]};
 ghost use mathlib.Core.Path.{_≡_};
 ghost use Rattle.section.specs.declared.Settings.{Settings};
@@ -10,7 +11,7 @@ use section::Said;
 use section::Verdict;
 
 pub fn measures_on(e: Site) -> Verdict
-    ensures { λ r. ⌜ ((c : Settings) → r ≡ verdictAt c (MeasuresOn (e .post)) e [] []) ⌝ }
+    ensures { λ r. ⌜ ((c : Settings) → r ≡ verdictAt c false (MeasuresOn (e .post)) e [] []) ⌝ }
 {
     if e.own.measures {
         return Verdict::Refused(21);
@@ -19,7 +20,7 @@ pub fn measures_on(e: Site) -> Verdict
 }
 
 pub fn measures_off(e: Site) -> Verdict
-    ensures { λ r. ⌜ ((c : Settings) → r ≡ verdictAt c (MeasuresOff (e .post)) e [] []) ⌝ }
+    ensures { λ r. ⌜ ((c : Settings) → r ≡ verdictAt c false (MeasuresOff (e .post)) e [] []) ⌝ }
 {
     if !e.own.measures {
         return Verdict::Refused(21);
@@ -31,7 +32,7 @@ pub fn measures_off(e: Site) -> Verdict
 }
 
 pub fn fault_on(e: Site, fault: Fault) -> Verdict
-    ensures { λ r. ⌜ ((c : Settings) → r ≡ verdictAt c (FaultOn (e .post) fault) e [] []) ⌝ }
+    ensures { λ r. ⌜ ((c : Settings) → r ≡ verdictAt c false (FaultOn (e .post) fault) e [] []) ⌝ }
 {
     if e.own.has_fault(fault) {
         return Verdict::Refused(21);
@@ -40,7 +41,7 @@ pub fn fault_on(e: Site, fault: Fault) -> Verdict
 }
 
 pub fn fault_off(e: Site, fault: Fault) -> Verdict
-    ensures { λ r. ⌜ ((c : Settings) → r ≡ verdictAt c (FaultOff (e .post) fault) e [] []) ⌝ }
+    ensures { λ r. ⌜ ((c : Settings) → r ≡ verdictAt c false (FaultOff (e .post) fault) e [] []) ⌝ }
 {
     if !e.own.has_fault(fault) {
         return Verdict::Refused(21);

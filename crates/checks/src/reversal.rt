@@ -1,4 +1,5 @@
-// The steps of a reversal. Cells that a kind does not look at stand in its contract as [].
+// The steps of a reversal. Cells that a kind does not look at stand in its contract as [], the other track as false.
+ghost use mathlib.Core.Bool.{false};
 ghost use mathlib.Core.List.{[]};
 ghost use mathlib.Core.Path.{_≡_};
 ghost use Rattle.section.specs.declared.Settings.{Settings};
@@ -11,18 +12,18 @@ use section::Said;
 use section::Settings;
 use section::Trains;
 use section::Verdict;
-use site::conditions::confirmed;
+use site::conditions::fault1_confirmed;
 use site::conditions::is_settled;
 use site::conditions::is_turn;
+use site::conditions::measures_suffice;
 use site::conditions::order_allowed;
-use site::conditions::secured;
 use site::place::at_sending_end;
 use site::trains::order_occupied;
 use site::trains::watched_occupied;
 
-pub fn order(c: Settings, e: Site, trains: &Trains) -> Verdict
+pub fn order(c: Settings, e: Site, other_on_vns: bool, trains: &Trains) -> Verdict
     requires { ⌜ Placed c e ⌝ }
-    ensures { λ r. ⌜ r ≡ verdictAt c (Order (e .post)) e (now (trains .entry)) [] ⌝ }
+    ensures { λ r. ⌜ r ≡ verdictAt c «other_on_vns» (Order (e .post)) e (now (trains .entry)) [] ⌝ }
 {
     let walk = e.walk;
     if !is_settled(walk) {
@@ -31,7 +32,7 @@ pub fn order(c: Settings, e: Site, trains: &Trains) -> Verdict
     if !at_sending_end(c, e) {
         return Verdict::Refused(12);
     }
-    if !order_allowed(e) {
+    if !order_allowed(e, other_on_vns) {
         return Verdict::Refused(14);
     }
     if order_occupied(c, e, trains) {
@@ -42,7 +43,7 @@ pub fn order(c: Settings, e: Site, trains: &Trains) -> Verdict
 
 pub fn set(c: Settings, e: Site, trains: &Trains) -> Verdict
     requires { ⌜ Placed c e ⌝ }
-    ensures { λ r. ⌜ r ≡ verdictAt c (Set (e .post)) e (now (trains .entry)) [] ⌝ }
+    ensures { λ r. ⌜ r ≡ verdictAt c false (Set (e .post)) e (now (trains .entry)) [] ⌝ }
 {
     let walk = e.walk;
     if !is_turn(walk, e.post, Act::Set) {
@@ -51,10 +52,10 @@ pub fn set(c: Settings, e: Site, trains: &Trains) -> Verdict
     if watched_occupied(c, e, trains) {
         return Verdict::Refused(13);
     }
-    if !confirmed(c, e) {
+    if !fault1_confirmed(c, e) {
         return Verdict::Refused(18);
     }
-    if !secured(e) {
+    if !measures_suffice(e) {
         return Verdict::Refused(16);
     }
     if e.own.fault2 {
@@ -65,7 +66,7 @@ pub fn set(c: Settings, e: Site, trains: &Trains) -> Verdict
 
 // Under any settings, as acknowledge.
 pub fn announce(e: Site) -> Verdict
-    ensures { λ r. ⌜ ((c : Settings) → r ≡ verdictAt c (Announce (e .post)) e [] []) ⌝ }
+    ensures { λ r. ⌜ ((c : Settings) → r ≡ verdictAt c false (Announce (e .post)) e [] []) ⌝ }
 {
     let walk = e.walk;
     if !is_turn(walk, e.post, Act::Announce) {
@@ -78,7 +79,7 @@ pub fn announce(e: Site) -> Verdict
 }
 
 pub fn acknowledge(e: Site) -> Verdict
-    ensures { λ r. ⌜ ((c : Settings) → r ≡ verdictAt c (Acknowledge (e .post)) e [] []) ⌝ }
+    ensures { λ r. ⌜ ((c : Settings) → r ≡ verdictAt c false (Acknowledge (e .post)) e [] []) ⌝ }
 {
     let walk = e.walk;
     if !is_turn(walk, e.post, Act::Acknowledge) {

@@ -3,7 +3,7 @@ ghost use mathlib.Core.Path.{_≡_};
 ghost use Prim.Native.Nat.{_<_};
 ghost use Rattle.section.specs.Numbers.{mostBlocks};
 ghost use Rattle.rules.specs.Site.{blockAhead, blockBefore};
-ghost use Rattle.rules.specs.Table.{trainsAfter, lastAfter};
+ghost use Rattle.rules.specs.Table.{vacated, cellsAfter};
 ghost use Rattle.site.specs.Placed.{Placed};
 ghost use Rattle.effects.specs.Walking.{HasAhead};
 ghost use Rattle.effects.specs.Blocks.{HasBefore, HasBlocks};
@@ -36,45 +36,33 @@ fn block_before(c: Settings, e: Site) -> usize
     ) as usize
 }
 
-// Moves the train from and into its block sections.
-pub fn move_train(c: Settings, m: Movement, e: Site, trains: &mut Trains)
-    requires { ⌜ (Placed c e) × (HasBlocks c e m) ⌝ }
-    ensures { λ _. ⌜ now (trains .exit) ≡ trainsAfter c m e (now (trains .entry)) ⌝ }
+// Empties the block section before the post, where cells are cleared.
+fn vacate(c: Settings, clears: bool, e: Site, cells: &mut Trains)
+    requires { ⌜ (Placed c e) × (HasBefore c e) ⌝ }
+    ensures { λ _. ⌜ now (cells .exit) ≡ vacated c clears e (now (cells .entry)) ⌝ }
 {
-    match m {
-        Movement::Stays => {}
-        Movement::Enters(number) => {
-            let ahead = block_ahead(c, e);
-            trains[ahead] = number;
-        }
-        Movement::Moves(number) => {
-            let from = block_before(c, e);
-            let to = block_ahead(c, e);
-            trains[from] = 0;
-            trains[to] = number;
-        }
-        Movement::Leaves => {
-            let before = block_before(c, e);
-            trains[before] = 0;
-        }
+    if clears {
+        let before = block_before(c, e);
+        cells[before] = 0;
     }
 }
 
-// Notes the train as the last one of the block section that it enters.
-pub fn note_last(c: Settings, m: Movement, e: Site, last: &mut Trains)
+// The numbers of the block sections after a movement: of the trains, where what is left is cleared, or of the last trains.
+pub fn move_cells(c: Settings, clears: bool, m: Movement, e: Site, cells: &mut Trains)
     requires { ⌜ (Placed c e) × (HasBlocks c e m) ⌝ }
-    ensures { λ _. ⌜ now (last .exit) ≡ lastAfter c m e (now (last .entry)) ⌝ }
+    ensures { λ _. ⌜ now (cells .exit) ≡ cellsAfter c clears m e (now (cells .entry)) ⌝ }
 {
     match m {
         Movement::Stays => {}
         Movement::Enters(number) => {
             let ahead = block_ahead(c, e);
-            last[ahead] = number;
+            cells[ahead] = number;
         }
         Movement::Moves(number) => {
             let to = block_ahead(c, e);
-            last[to] = number;
+            vacate(c, clears, e, cells);
+            cells[to] = number;
         }
-        Movement::Leaves => {}
+        Movement::Leaves => vacate(c, clears, e, cells),
     }
 }

@@ -55,7 +55,7 @@ is-materialised c h = eq-eqb (c .form) 1 h
 -- the indications of a section by its tracks
 pub shown-is :
     (s : Section) (track post : ℕ) (b : Bool) → inRange s ≡ true → track < 2 → post < s .settings .posts → eqb track 1 ≡ b
-    → shown (lampsAt (s .settings) (siteOn true b post (trackOf s b)) (trackOf s b .trains)) ≡ indications s track post
+    → shown (lampsAt (s .settings) (siteOn b post (trackOf s b)) (trackOf s b .trains)) ≡ indications s track post
 unfolding indications indicationsOn lampsAt watchedOccupied
 shown-is s track post b range t p e = rw (range, lt-ltb track 2 t, lt-ltb post (s .settings .posts) p, e)
 

@@ -132,7 +132,7 @@ fn shown_at(c: Settings, e: Site, trains: &Trains) -> Indications
 // What a post of a track in its ranges shows.
 fn shown_on(c: Settings, track: bool, post: u8, t: Track) -> Indications
     requires { ⌜ (settingsRight c ≡ true) × (trackFits (c .posts) track t ≡ true) × (post < c .posts) ⌝ }
-    ensures { λ r. ⌜ r ≡ shown (lampsAt c (siteOn true track post t) (t .trains)) ⌝ }
+    ensures { λ r. ⌜ r ≡ shown (lampsAt c (siteOn track post t) (t .trains)) ⌝ }
 {
     let at = post as usize;
     let own = t.posts[at];
@@ -143,7 +143,6 @@ fn shown_on(c: Settings, track: bool, post: u8, t: Track) -> Indications
         post: post,
         cvt: t.cvt,
         walk: walk,
-        vns: true,
         own: own,
     };
     shown_at(c, e, &trains)

@@ -1,7 +1,9 @@
 // A step judged by the table at its site: the checks, then what an accepted step does.
 ghost use mathlib.Core.Path.{_≡_};
+ghost use Rattle.section.specs.Step.{postOf};
 ghost use Rattle.site.specs.Fit.{Fit};
-ghost use Rattle.judging.specs.Judged.{asBefore, judgedAt, trainsAt, lastAt, siteFor};
+ghost use Rattle.site.specs.Running.{onVns, siteWith};
+ghost use Rattle.judging.specs.Judged.{asBefore, judgedAt, trainsAt, lastAt};
 use effects::movement;
 use rules::Site;
 use section::Post;
@@ -37,19 +39,26 @@ fn as_before(verdict: Verdict, e: Site) -> Judged
 }
 
 // Judges a step at its site, and moves its train where it is accepted.
-fn judge_at(c: Settings, x: Step, e: Site, trains: &mut Trains, last: &mut Trains) -> Judged
+fn judge_at(
+    c: Settings,
+    x: Step,
+    e: Site,
+    other_on_vns: bool,
+    trains: &mut Trains,
+    last: &mut Trains,
+) -> Judged
     requires { ⌜ Fit c e ⌝ }
-    ensures { λ r. ⌜ r ≡ judgedAt c x e (now (trains .entry)) (now (last .entry)) ⌝ }
-    ensures { λ _. ⌜ now (trains .exit) ≡ trainsAt c x e (now (trains .entry)) (now (last .entry)) ⌝ }
-    ensures { λ _. ⌜ now (last .exit) ≡ lastAt c x e (now (trains .entry)) (now (last .entry)) ⌝ }
+    ensures { λ r. ⌜ r ≡ judgedAt c «other_on_vns» x e (now (trains .entry)) (now (last .entry)) ⌝ }
+    ensures { λ _. ⌜ now (trains .exit) ≡ trainsAt c «other_on_vns» x e (now (trains .entry)) (now (last .entry)) ⌝ }
+    ensures { λ _. ⌜ now (last .exit) ≡ lastAt c «other_on_vns» x e (now (trains .entry)) (now (last .entry)) ⌝ }
 {
-    let verdict = checks::verdict(c, x, e, trains, last);
+    let verdict = checks::verdict(c, x, e, other_on_vns, trains, last);
     match verdict {
         Verdict::Accepted(_) => {
             let f = effects::effect_of(c, x, e);
             let train = f.train;
-            movement::move_train(c, train, e, trains);
-            movement::note_last(c, train, e, last);
+            movement::move_cells(c, true, train, e, trains);
+            movement::move_cells(c, false, train, e, last);
             let own = f.own;
             let walk = f.walk;
             Judged {
@@ -75,12 +84,12 @@ pub fn judge_step(
     trains: &mut Trains,
     last: &mut Trains,
 ) -> Judged
-    requires { ⌜ Fit c (siteFor x own running other) ⌝ }
-    ensures { λ r. ⌜ r ≡ judgedAt c (x .step) (siteFor x own running other) (now (trains .entry)) (now (last .entry)) ⌝ }
-    ensures { λ _. ⌜ now (trains .exit) ≡ trainsAt c (x .step) (siteFor x own running other) (now (trains .entry)) (now (last .entry)) ⌝ }
-    ensures { λ _. ⌜ now (last .exit) ≡ lastAt c (x .step) (siteFor x own running other) (now (trains .entry)) (now (last .entry)) ⌝ }
+    requires { ⌜ Fit c (siteWith (x .track) (postOf (x .step)) own running) ⌝ }
+    ensures { λ r. ⌜ r ≡ judgedAt c (onVns other) (x .step) (siteWith (x .track) (postOf (x .step)) own running) (now (trains .entry)) (now (last .entry)) ⌝ }
+    ensures { λ _. ⌜ now (trains .exit) ≡ trainsAt c (onVns other) (x .step) (siteWith (x .track) (postOf (x .step)) own running) (now (trains .entry)) (now (last .entry)) ⌝ }
+    ensures { λ _. ⌜ now (last .exit) ≡ lastAt c (onVns other) (x .step) (siteWith (x .track) (postOf (x .step)) own running) (now (trains .entry)) (now (last .entry)) ⌝ }
 {
     let step = x.step;
-    let e = running::site(x.track, running::post_of(step), own, running, other);
-    judge_at(c, step, e, trains, last)
+    let e = running::site(x.track, running::post_of(step), own, running);
+    judge_at(c, step, e, running::settled_on_vns(other), trains, last)
 }

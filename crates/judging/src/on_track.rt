@@ -1,7 +1,8 @@
 // A step judged on its own track, whose ranges hold.
 ghost use mathlib.Core.Path.{_≡_};
+ghost use Rattle.section.specs.Step.{postOf};
+ghost use Rattle.rules.specs.Site.{siteOn};
 ghost use Rattle.site.specs.Fit.{Fit};
-ghost use Rattle.judging.specs.Judged.{siteIn};
 ghost use Rattle.judging.specs.OnTrack.{trackAnswer};
 use crate::at_post;
 use section::Settings;
@@ -19,7 +20,7 @@ pub struct TrackAnswer {
 
 // Judges a well-formed step on its own track; of the other only the running direction and the walk count.
 pub fn judge_on_track(c: Settings, x: TrackStep, t: Track, other: Running) -> TrackAnswer
-    requires { ⌜ Fit c (siteIn x t other) ⌝ }
+    requires { ⌜ Fit c (siteOn (x .track) (postOf (x .step)) t) ⌝ }
     ensures { λ r. ⌜ r ≡ trackAnswer c x t other ⌝ }
 {
     let running = running::running_of(t);

@@ -1,4 +1,5 @@
--- Days: steps offered one after another to a section, judged by the definitions of `rules`, by computation.
+-- Days: steps offered one after another to a section, judged by the definitions of `rules`, by computation. Every definition on the way from
+-- bytes to the answer is unfolded here once.
 use Prim.Native.Nat.{ℕ, zero, suc, _-_}
 use mathlib.Core.Bool.{Bool, true, false, cond}
 use mathlib.Core.List.{List, [], _∷_, _++_, map}
@@ -25,8 +26,8 @@ use Rattle.section.specs.Step.{faultRight, numberRight, placeRight, fieldsRight
 use Rattle.section.specs.Step.{kindOf, postOf, faultNumber, faultByte, numberOf, trackNumber, bytesOf, encoded}
 use Rattle.section.specs.Store.{trackOf, withTrack, postOn, withPost}
 use Rattle.section.specs.Words.{refusalOf}
-use Rattle.rules.specs.Site.{stretchHolds, anyTrain, hasNumber, stretchEnds, watchedOccupied, trainBefore, lastEntered, occupancyAt}
-use Rattle.rules.specs.Table.{checks, effect, trainsAfter, lastAfter, trackAfter}
+use Rattle.rules.specs.Site.{reach, anyOf, stretchEnds, watchedOccupied, trainBefore, lastEntered, occupancyAt}
+use Rattle.rules.specs.Table.{checks, effect, cellsAfter, trackAfter}
 use Rattle.rules.specs.Judge.{verdictOf, answerOf, verdictOn, sectionAfter, judgeStep, judgeDecoded, judgeInRange, judge}
 
 -- ## Tracks, directions, lines
@@ -122,7 +123,7 @@ offeredAs steps = map encoded steps
 -- the answers to a day, 0 or the refusal; unfolded, judging computes
 unfoldable pub refusals : Section → List (List ℕ) → List ℕ
 unfolding judge judgeInRange judgeDecoded judgeStep sectionAfter verdictOn answerOf verdictOf refusalOf
-    checks effect trainsAfter lastAfter trackAfter stretchHolds anyTrain hasNumber stretchEnds watchedOccupied trainBefore lastEntered occupancyAt
+    checks effect cellsAfter trackAfter reach anyOf stretchEnds watchedOccupied trainBefore lastEntered occupancyAt
     inRange trackFits walkFits actFits numbersFit sealsFit settingsRight noneFrom bit isMaterialised upward rank block isFirst isLast
     decoded fromFields trackStepOf stepOf faultOf fieldsRight placeRight numberRight faultRight pair within postOf numberOf
 refusals s [] = []

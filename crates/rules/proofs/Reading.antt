@@ -1,4 +1,5 @@
--- What the bytes of a well-formed step say: its fields are its bytes, in their ranges.
+-- What the bytes of a well-formed step say: its fields are its bytes, in their ranges. Decoding is followed from the tests of the fields to the
+-- step, kind by kind.
 use Prim.Native.Nat.{ℕ, suc, _≤_, _<_}
 use mathlib.Core.Bool.{Bool, true, false, cond, not, _&&_}
 use mathlib.Core.Path.{_≡_, refl, sym, subst}

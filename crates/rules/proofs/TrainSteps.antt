@@ -1,4 +1,5 @@
--- A train's own steps, as the statement of demand 3 reads them off the bytes, in terms of the step's view.
+-- A train's own steps, as the statement of demand 3 reads them off the bytes, in terms of the step's view: the bytes of a well-formed step give
+-- its kind, track, post and number back, so each test of the statement is a test of the view.
 use Prim.Native.Nat.{ℕ}
 use mathlib.Core.Bool.{Bool, true, false, cond, _&&_, Bool·beq}
 use mathlib.Core.Path.{_≡_, refl, sym, ap, _∙_}
@@ -6,7 +7,7 @@ use mathlib.Core.List.{List}
 use lib.Dec.{T, eqb}
 use Rattle.section.specs.Bytes.{within}
 use Rattle.section.specs.Step.{kindOf, numberOf}
-use Rattle.rules.specs.Demand3.{Taken, kind, post, number, isStepOfTrain, isOfTrain, Run, noteStep}
+use Rattle.rules.specs.Demand3.{AcceptedStep, kind, post, number, isStepOfTrain, isOfTrain, Run, noteStep}
 use Rattle.rules.proofs.View.{order, setDevice, announce, acknowledge, key, Motion, start, pass, leave, measures, fault}
 use Rattle.rules.proofs.View.{View, walks, runs, notes, releases, flat, post-flat, Seen, shown}
 use Rattle.rules.proofs.Reading.{Says}
@@ -50,7 +51,7 @@ train-kind p z number (notes (fault true f)) e = refl
 train-kind p z number (notes (fault false f)) e = refl
 train-kind p z number (releases y) e = refl
 
-module _ (n : ℕ) (d : Taken) (x : Seen) (h : Says n (d .bytes) (shown x)) where
+module _ (n : ℕ) (d : AcceptedStep) (x : Seen) (h : Says n (d .bytes) (shown x)) where
   post-said : post d ≡ x .post
   post-said = sym (h .fields .post-is) ∙ post-flat (x .post) (x .kind)
 

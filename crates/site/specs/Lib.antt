@@ -3,3 +3,4 @@ pub mod VerdictAt
 pub mod Fit
 pub mod Running
 pub mod Stretch
+pub mod Sought

@@ -2,7 +2,7 @@
 ghost use mathlib.Core.Bool.{_||_};
 ghost use mathlib.Core.Path.{_≡_};
 ghost use Rattle.rules.specs.Site.{isSettled, sameAct, isTurn, atSendingEnd, atReceivingEnd};
-ghost use Rattle.rules.specs.Table.{orderAllowed, releaseInTurn, secured, confirmed};
+ghost use Rattle.rules.specs.Table.{orderAllowed, releaseInTurn, measuresSuffice, fault1Confirmed};
 ghost use Rattle.site.specs.Placed.{Placed};
 use crate::place::at_receiving_end;
 use crate::place::at_sending_end;
@@ -70,13 +70,13 @@ pub fn at_end(c: Settings, e: Site) -> bool
 }
 
 // 14: an order to CVT needs the other track settled on VNS.
-pub fn order_allowed(e: Site) -> bool
-    ensures { λ r. ⌜ r ≡ orderAllowed e ⌝ }
+pub fn order_allowed(e: Site, other_on_vns: bool) -> bool
+    ensures { λ r. ⌜ r ≡ orderAllowed e «other_on_vns» ⌝ }
 {
     if e.cvt {
         return true;
     }
-    e.vns
+    other_on_vns // an order to CVT
 }
 
 // 15 of release.
@@ -95,8 +95,8 @@ pub fn release_in_turn(c: Settings, e: Site) -> bool
 }
 
 // 16: a device goes to CVT with measures only.
-pub fn secured(e: Site) -> bool
-    ensures { λ r. ⌜ r ≡ secured e ⌝ }
+pub fn measures_suffice(e: Site) -> bool
+    ensures { λ r. ⌜ r ≡ measuresSuffice e ⌝ }
 {
     if e.cvt {
         return true;
@@ -105,9 +105,9 @@ pub fn secured(e: Site) -> bool
 }
 
 // 18: fault 1 is confirmed by a mark; at the last post it counts for nothing.
-pub fn confirmed(c: Settings, e: Site) -> bool
+pub fn fault1_confirmed(c: Settings, e: Site) -> bool
     requires { ⌜ Placed c e ⌝ }
-    ensures { λ r. ⌜ r ≡ confirmed c e ⌝ }
+    ensures { λ r. ⌜ r ≡ fault1Confirmed c e ⌝ }
 {
     if at_receiving_end(c, e) {
         return true;

@@ -1,8 +1,7 @@
 // Where a step is taken: its post, and what the two tracks do.
 ghost use mathlib.Core.Path.{_≡_};
 ghost use Rattle.section.specs.Step.{postOf};
-ghost use Rattle.rules.specs.Site.{settledVns};
-ghost use Rattle.site.specs.Running.{runningOf, siteWith};
+ghost use Rattle.site.specs.Running.{runningOf, onVns, siteWith};
 use rules::Site;
 use section::Post;
 use section::Step;
@@ -55,8 +54,8 @@ pub fn place_of(x: TrackStep) -> usize
 }
 
 // A track with that running direction and walk is settled on VNS.
-fn settled_on_vns(running: Running) -> bool
-    ensures { λ r. ⌜ r ≡ settledVns (running .walk) (running .cvt) ⌝ }
+pub fn settled_on_vns(running: Running) -> bool
+    ensures { λ r. ⌜ r ≡ onVns running ⌝ }
 {
     let cvt = running.cvt;
     let walk = running.walk;
@@ -66,9 +65,9 @@ fn settled_on_vns(running: Running) -> bool
     }
 }
 
-// The site of a step at a post with that record; the other track counts by whether it is settled on VNS.
-pub fn site(track: bool, post: u8, own: Post, running: Running, other: Running) -> Site
-    ensures { λ r. ⌜ r ≡ siteWith track post own running other ⌝ }
+// The site of a step at a post with that record, on a track that runs so.
+pub fn site(track: bool, post: u8, own: Post, running: Running) -> Site
+    ensures { λ r. ⌜ r ≡ siteWith track post own running ⌝ }
 {
     let walk = running.walk;
     Site {
@@ -76,7 +75,6 @@ pub fn site(track: bool, post: u8, own: Post, running: Running, other: Running) 
         post: post,
         cvt: running.cvt,
         walk: walk,
-        vns: settled_on_vns(other),
         own: own,
     }
 }

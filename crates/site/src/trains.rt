@@ -6,8 +6,9 @@ ghost use lib.ListN.{getD};
 ghost use Rattle.section.specs.Numbers.{mostBlocks, mostPosts};
 ghost use Rattle.section.specs.Geometry.{block};
 ghost use Rattle.section.specs.Settings.{isMaterialised};
-ghost use Rattle.rules.specs.Site.{anyTrain, hasNumber, atSendingEnd, atReceivingEnd, blockAhead, watchedOccupied, trainBefore};
+ghost use Rattle.rules.specs.Site.{isTrain, anyOf, atSendingEnd, atReceivingEnd, blockAhead, watchedOccupied, trainBefore};
 ghost use Rattle.site.specs.Placed.{Placed};
+ghost use Rattle.site.specs.Sought.{isSought};
 use crate::place::at_receiving_end;
 use crate::place::rank_at;
 use rules::Site;
@@ -38,30 +39,30 @@ pub fn train_after(cells: &Trains, n: u8, up: bool, j: u8) -> u64
     train_in(cells, positions::block(n, up, j))
 }
 
-// A train in one of the first m block sections.
-fn any_train(m: u8, trains: &Trains) -> bool
-    requires { ⌜ m ≤ mostBlocks ⌝ }
-    ensures { λ r. ⌜ r ≡ anyTrain m (now (trains .entry)) ⌝ }
-{
-    let mut i = m;
-    while i > 0 {
-        i -= 1;
-        if train_in(trains, i) != 0 {
-            return true;
-        }
-    }
-    false
+// What is looked for: any train, or the one of that number.
+pub enum Sought {
+    AnyTrain,
+    Number(u64),
 }
 
-// That number in one of the first m block sections.
-pub fn has_number(m: u8, number: u64, trains: &Trains) -> bool
+fn is_sought(sought: Sought, number: u64) -> bool
+    ensures { λ r. ⌜ r ≡ isSought sought number ⌝ }
+{
+    match sought {
+        Sought::AnyTrain => number != 0,
+        Sought::Number(wanted) => number == wanted,
+    }
+}
+
+// One of the first m block sections keeps what is looked for.
+pub fn any_of(m: u8, sought: Sought, trains: &Trains) -> bool
     requires { ⌜ m ≤ mostBlocks ⌝ }
-    ensures { λ r. ⌜ r ≡ hasNumber m number (now (trains .entry)) ⌝ }
+    ensures { λ r. ⌜ r ≡ anyOf (isSought sought) m (now (trains .entry)) ⌝ }
 {
     let mut i = m;
     while i > 0 {
         i -= 1;
-        if train_in(trains, i) == number {
+        if is_sought(sought, train_in(trains, i)) {
             return true;
         }
     }
@@ -108,10 +109,10 @@ pub fn watched_occupied(c: Settings, e: Site, trains: &Trains) -> bool
 // 13 of order: by telephone a train anywhere on the track, materialised one in the part that the post watches.
 pub fn order_occupied(c: Settings, e: Site, trains: &Trains) -> bool
     requires { ⌜ Placed c e ⌝ }
-    ensures { λ r. ⌜ r ≡ cond (isMaterialised c) (watchedOccupied c e (now (trains .entry))) (anyTrain (c .posts - 1) (now (trains .entry))) ⌝ }
+    ensures { λ r. ⌜ r ≡ cond (isMaterialised c) (watchedOccupied c e (now (trains .entry))) (anyOf isTrain (c .posts - 1) (now (trains .entry))) ⌝ }
 {
     if c.form == 1 {
         return watched_occupied(c, e, trains);
     }
-    any_train(c.posts - 1, trains)
+    any_of(c.posts - 1, Sought::AnyTrain, trains)
 }

@@ -22,21 +22,21 @@ use Rattle.section.specs.Store.{trackOf, withTrack, postOn}
 use Rattle.section.proofs.Codec.{decoded-post-below}
 use Rattle.section.proofs.Laws.{settings-in-range, track-in-range}
 use Rattle.rules.specs.declared.Site.{Site}
-use Rattle.rules.specs.Site.{settledVns}
+use Rattle.rules.specs.Site.{siteOn, otherSettledOnVns}
 use Rattle.rules.specs.Table.{trackAfter}
 use Rattle.rules.specs.Judge.{answerOf, siteOf, verdictOn, sectionAfter, judgeStep, judgeDecoded, judgeInRange}
 use Rattle.site.specs.VerdictAt.{verdictAt}
 use Rattle.site.specs.declared.running.Running.{Running}
-use Rattle.site.specs.Running.{runningOf}
+use Rattle.site.specs.Running.{runningOf, siteWith}
 use Rattle.site.specs.Fit.{Fit}
 use Rattle.site.proofs.running.Laws.{fit-on}
-use Rattle.judging.specs.Judged.{judgedOf, cellsOf, judgedAt, trainsAt, lastAt, trackAt, siteFor, siteIn}
+use Rattle.judging.specs.Judged.{judgedOf, cellsOf, judgedAt, trainsAt, lastAt, trackAt}
 
 -- the site at the post, and of the track, that the code has found
 pub site-in :
-    (x : TrackStep) (t : Track) (other : Running) {p : ℕ} {r : Running} → p ≡ postOf (x .step) → r ≡ runningOf t
-    → siteFor x (postOn t p) r other ≡ siteIn x t other
-site-in x t other ep er = rw (ep, er)
+    (x : TrackStep) (t : Track) {p : ℕ} {r : Running} → p ≡ postOf (x .step) → r ≡ runningOf t
+    → siteWith (x .track) (postOf (x .step)) (postOn t p) r ≡ siteOn (x .track) (postOf (x .step)) t
+site-in x t ep er = rw (ep, er)
 
 -- a track put back as it was
 same-track : (s : Section) (k : Bool) → withTrack s k (trackOf s k) ≡ s
@@ -44,18 +44,18 @@ same-track s true = refl
 same-track s false = refl
 
 -- an accepted step leaves the table's track, a refused one the track as it was
-module _ (c : Settings) (x : Step) (e : Site) (t : Track) where
-  accepted-track : {w : Said} → verdictAt c x e (t .trains) (t .last) ≡ Accepted w → trackAt c x e t ≡ trackAfter c x e t
+module _ (c : Settings) (otherOnVns : Bool) (x : Step) (e : Site) (t : Track) where
+  accepted-track : {w : Said} → verdictAt c otherOnVns x e (t .trains) (t .last) ≡ Accepted w → trackAt c otherOnVns x e t ≡ trackAfter c x e t
   unfolding trackAt judgedAt trainsAt lastAt judgedOf cellsOf trackAfter
   accepted-track told = rw told refl
 
   refused-track :
-      {k : ℕ} → verdictAt c x e (t .trains) (t .last) ≡ Refused k
-      → record { posts = set (t .posts) (e .post) (e .own); trains = t .trains; last = t .last; cvt = e .cvt; walk = e .walk } ≡ trackAt c x e t
+      {k : ℕ} → verdictAt c otherOnVns x e (t .trains) (t .last) ≡ Refused k
+      → record { posts = set (t .posts) (e .post) (e .own); trains = t .trains; last = t .last; cvt = e .cvt; walk = e .walk } ≡ trackAt c otherOnVns x e t
   unfolding trackAt judgedAt trainsAt lastAt judgedOf cellsOf
   refused-track told = rw told refl
 
-  same-verdict : (v : Verdict) → verdictAt c x e (t .trains) (t .last) ≡ v → judgedAt c x e (t .trains) (t .last) .verdict ≡ v
+  same-verdict : (v : Verdict) → verdictAt c otherOnVns x e (t .trains) (t .last) ≡ v → judgedAt c otherOnVns x e (t .trains) (t .last) .verdict ≡ v
   unfolding judgedAt judgedOf
   same-verdict (Accepted w) told = rw told refl
   same-verdict (Refused k) told = rw told refl
@@ -66,22 +66,22 @@ module _ (s : Section) (x : TrackStep) where
   own = trackOf s (x .track)
 
   abbrev verdict : Verdict
-  verdict = judgedAt (s .settings) (x .step) (siteOf s x) (own .trains) (own .last) .verdict
+  verdict = judgedAt (s .settings) (otherSettledOnVns s (x .track)) (x .step) (siteOf s x) (own .trains) (own .last) .verdict
 
   abbrev after : Section
-  after = withTrack s (x .track) (trackAt (s .settings) (x .step) (siteOf s x) own)
+  after = withTrack s (x .track) (trackAt (s .settings) (otherSettledOnVns s (x .track)) (x .step) (siteOf s x) own)
 
   by-verdict : (v : Verdict) → verdictOn s x ≡ v → record { verdict = verdict; section = after } ≡ answerOf v s (sectionAfter s x)
   unfolding verdictOn answerOf sectionAfter
   by-verdict (Accepted w) told =
       rw (
-        same-verdict (s .settings) (x .step) (siteOf s x) own (Accepted w) told,
-        accepted-track (s .settings) (x .step) (siteOf s x) own told,
+        same-verdict (s .settings) (otherSettledOnVns s (x .track)) (x .step) (siteOf s x) own (Accepted w) told,
+        accepted-track (s .settings) (otherSettledOnVns s (x .track)) (x .step) (siteOf s x) own told,
       ) refl
   by-verdict (Refused k) told =
       rw (
-        same-verdict (s .settings) (x .step) (siteOf s x) own (Refused k) told,
-        sym (refused-track (s .settings) (x .step) (siteOf s x) own told),
+        same-verdict (s .settings) (otherSettledOnVns s (x .track)) (x .step) (siteOf s x) own (Refused k) told,
+        sym (refused-track (s .settings) (otherSettledOnVns s (x .track)) (x .step) (siteOf s x) own told),
         set-getD (own .posts) (postOf (x .step)) blank,
         same-track s (x .track),
       ) refl
@@ -102,11 +102,10 @@ module _ (s : Section) (bytes : List ℕ) where
   malformed k = decodes k
 
   module _ (x : TrackStep) (well : decoded (s .settings .posts) bytes ≡ Well x) where
-    pub fit : inRange s ≡ true → (other : Running) → Fit (s .settings) (siteIn x (trackOf s (x .track)) other)
-    fit h other =
+    pub fit : inRange s ≡ true → Fit (s .settings) (siteOf s x)
+    fit h =
         fit-on
         (s .settings)
-        (settledVns (other .walk) (other .cvt))
         (x .track)
         (trackOf s (x .track))
         (postOf (x .step))

@@ -13,9 +13,9 @@ use Rattle.section.specs.Step.{decoded, postOf}
 use Rattle.section.specs.Store.{trackOf, withTrack, postOn}
 use Rattle.rules.specs.Judge.{judgeInRange}
 use Rattle.site.specs.declared.running.Running.{Running}
-use Rattle.site.specs.Running.{runningOf}
+use Rattle.site.specs.Running.{runningOf, onVns, siteWith}
 use Rattle.judging.specs.declared.at_post.Judged.{Judged}
-use Rattle.judging.specs.Judged.{judgedAt, trainsAt, lastAt, trackAt, siteFor}
+use Rattle.judging.specs.Judged.{judgedAt, trainsAt, lastAt, trackAt}
 use Rattle.judging.proofs.at_post.OnTrack as on-track
 use Rattle.judging.specs.declared.on_track.TrackAnswer.{TrackAnswer}
 use Rattle.judging.specs.OnTrack.{trackAnswer}
@@ -25,9 +25,9 @@ pub put-back :
     (c : Settings) (x : TrackStep) (t : Track) (other : Running) {p : ℕ} {r : Running} {j : Judged} {trains last : List ℕ}
     → p ≡ postOf (x .step)
     → r ≡ runningOf t
-    → j ≡ judgedAt c (x .step) (siteFor x (postOn t p) r other) (t .trains) (t .last)
-    → trains ≡ trainsAt c (x .step) (siteFor x (postOn t p) r other) (t .trains) (t .last)
-    → last ≡ lastAt c (x .step) (siteFor x (postOn t p) r other) (t .trains) (t .last)
+    → j ≡ judgedAt c (onVns other) (x .step) (siteWith (x .track) (postOf (x .step)) (postOn t p) r) (t .trains) (t .last)
+    → trains ≡ trainsAt c (onVns other) (x .step) (siteWith (x .track) (postOf (x .step)) (postOn t p) r) (t .trains) (t .last)
+    → last ≡ lastAt c (onVns other) (x .step) (siteWith (x .track) (postOf (x .step)) (postOn t p) r) (t .trains) (t .last)
     → record {
       verdict = j .verdict;
       track = record {

@@ -12,7 +12,7 @@ use Rattle.section.specs.Bytes.{byte}
 use Rattle.section.specs.Numbers.{mostPosts}
 use Rattle.section.specs.Range.{inRange}
 use Rattle.section.specs.Store.{trackOf}
-use Rattle.rules.specs.Site.{siteOn, otherSettledOnVns}
+use Rattle.rules.specs.Site.{siteOn}
 use Rattle.rules.specs.Indications.{Lamps, lampsAt, circulation, troncon, shown, dark, indicationsOn, indications}
 use Rattle.text.proofs.Laws.{decimal-length}
 use Rattle.lines.specs.Text.{inTurn}
@@ -47,7 +47,7 @@ pub one-digit : (s : Section) (track p : ℕ) → OneDigit (indications s track 
 unfolding indications indicationsOn
 one-digit s track p =
     chosen (inRange s && (ltb track 2 && ltb p (s .settings .posts)))
-    (lampsAt (s .settings) (siteOn (otherSettledOnVns s (eqb track 1)) (eqb track 1) p (trackOf s (eqb track 1))) (trackOf s (eqb track 1) .trains))
+    (lampsAt (s .settings) (siteOn (eqb track 1) p (trackOf s (eqb track 1))) (trackOf s (eqb track 1) .trains))
 
 -- ## Six bytes each
 

@@ -11,9 +11,9 @@ use Rattle.rules.specs.Site.{siteOn}
 use Rattle.site.specs.Fit.{Fit}
 
 pub fit-on :
-    (c : Settings) (vns track : Bool) (t : Track) (p : ℕ) → settingsRight c ≡ true → trackFits (c .posts) track t ≡ true → p < c .posts
-    → Fit c (siteOn vns track p t)
-fit-on c vns track t p right fits below =
+    (c : Settings) (track : Bool) (t : Track) (p : ℕ) → settingsRight c ≡ true → trackFits (c .posts) track t ≡ true → p < c .posts
+    → Fit c (siteOn track p t)
+fit-on c track t p right fits below =
     let n = posts-right c right in
     let r = track-right (c .posts) track t fits in
     record { placed = record { least = n .0; most = n .1; post = below }; seals = r .seals p below; walk = r .walk }

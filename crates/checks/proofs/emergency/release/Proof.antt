@@ -14,7 +14,7 @@ use Rattle.checks.proofs.emergency.release.Tie as tie
 
 -- the first m checks hold
 abbrev Passed : ℕ → tie.Start → Type 0
-Passed m c = Through m (rowAt (c .args .c) (Release (c .args .e .post) (c .args .number)) (c .args .e) (c .args .trains .now) (c .args .last .now))
+Passed m c = Through m (rowAt (c .args .c) false (Release (c .args .e .post) (c .args .number)) (c .args .e) (c .args .trains .now) (c .args .last .now))
 
 release-in-turn-requires : tie.Need-release-in-turn-requires
 release-in-turn-requires c κs = c .pre

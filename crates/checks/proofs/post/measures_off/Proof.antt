@@ -1,7 +1,7 @@
 -- Each return is past the checks that held and stops at the one that failed.
 use Prim.Native.Nat.{ℕ}
 use mathlib.Core.List.{[]}
-use mathlib.Core.Bool.{not}
+use mathlib.Core.Bool.{false, not}
 use mathlib.Core.Path.{ap}
 use borrow.Author.Tests.{not-true, not-false}
 use Rattle.section.specs.declared.Settings.{Settings}
@@ -14,7 +14,7 @@ use Rattle.checks.proofs.post.measures_off.Tie as tie
 
 -- the first m checks hold
 abbrev Passed : ℕ → Settings → tie.Start → Type 0
-Passed m s c = Through m (rowAt s (MeasuresOff (c .args .e .post)) (c .args .e) [] [])
+Passed m s c = Through m (rowAt s false (MeasuresOff (c .args .e .post)) (c .args .e) [] [])
 
 returns : tie.Need-returns
 unfolding checks

@@ -14,7 +14,7 @@ use Rattle.checks.proofs.reversal.order.Tie as tie
 
 -- the first m checks hold
 abbrev Passed : ℕ → tie.Start → Type 0
-Passed m c = Through m (rowAt (c .args .c) (Order (c .args .e .post)) (c .args .e) (c .args .trains .now) [])
+Passed m c = Through m (rowAt (c .args .c) (c .args .other-on-vns) (Order (c .args .e .post)) (c .args .e) (c .args .trains .now) [])
 
 is-settled-requires : tie.Need-is-settled-requires
 is-settled-requires c κs = tt

@@ -1,5 +1,6 @@
 -- Each return is past the checks that held and stops at the one that failed.
 use Prim.Native.Nat.{ℕ}
+use mathlib.Core.Bool.{false}
 use mathlib.Core.List.{[]}
 use mathlib.Core.Path.{sym, _∙_}
 use borrow.Author.Tests.{eq-eqb, ne-eqb}
@@ -15,7 +16,7 @@ use Rattle.checks.proofs.trains.leave.Tie as tie
 
 -- the first m checks hold
 abbrev Passed : ℕ → tie.Start → Type 0
-Passed m c = Through m (rowAt (c .args .c) (Leave (c .args .e .post) (c .args .number)) (c .args .e) (c .args .trains .now) [])
+Passed m c = Through m (rowAt (c .args .c) false (Leave (c .args .e .post) (c .args .number)) (c .args .e) (c .args .trains .now) [])
 
 at-receiving-end-requires : tie.Need-at-receiving-end-requires
 at-receiving-end-requires c κs = c .pre

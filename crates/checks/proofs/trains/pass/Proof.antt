@@ -1,7 +1,7 @@
 -- Each return is past the checks that held and stops at the one that failed.
 use Prim.Native.Nat.{ℕ}
 use mathlib.Core.List.{[]}
-use mathlib.Core.Bool.{not}
+use mathlib.Core.Bool.{false, not}
 use mathlib.Core.Path.{sym, _∙_, ap}
 use borrow.Author.Tests.{eq-eqb, ne-eqb}
 use Rattle.section.specs.declared.Step.the-variants.{Pass}
@@ -16,7 +16,7 @@ use Rattle.checks.proofs.trains.pass.Tie as tie
 
 -- the first m checks hold
 abbrev Passed : ℕ → tie.Start → Type 0
-Passed m c = Through m (rowAt (c .args .c) (Pass (c .args .e .post) (c .args .number)) (c .args .e) (c .args .trains .now) [])
+Passed m c = Through m (rowAt (c .args .c) false (Pass (c .args .e .post) (c .args .number)) (c .args .e) (c .args .trains .now) [])
 
 at-end-requires : tie.Need-at-end-requires
 at-end-requires c κs = c .pre

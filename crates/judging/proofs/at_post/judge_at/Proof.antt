@@ -30,11 +30,11 @@ verdict-requires c κs = c .before .before .pre .placed
 effect-of-requires : tie.Need-effect-of-requires
 effect-of-requires c κs = (start c .pre .placed, fits c .next)
 
-move-train-requires : tie.Need-move-train-requires
-move-train-requires c κs = (start (c .before .before) .pre .placed, blocks (c .before))
+move-cells-requires : tie.Need-move-cells-requires
+move-cells-requires c κs = (start (c .before .before) .pre .placed, blocks (c .before))
 
-note-last-requires : tie.Need-note-last-requires
-note-last-requires c κs = let b = c .before .before .before in (start (b .before) .pre .placed, blocks b)
+move-cells-requires-2 : tie.Need-move-cells-requires-2
+move-cells-requires-2 c κs = let b = c .before .before .before in (start (b .before) .pre .placed, blocks b)
 
 returns : tie.Need-returns
 returns c =
@@ -45,17 +45,17 @@ returns c =
     let v = told .before .before .verdict .ensures in
     let a = told .enum-told .given .1 in
     let f = does .effect-of .ensures in (
-      accepted _ _ _ _ _ v a f,
-      (accepted-trains _ _ _ _ _ v a f (moved .move-train .ensures), accepted-last _ _ _ _ _ v a f (noted .note-last .ensures)),
+      accepted _ _ _ _ _ _ v a f,
+      (accepted-trains _ _ _ _ _ _ v a f (moved .move-cells .ensures), accepted-last _ _ _ _ _ _ v a f (noted .move-cells2 .ensures)),
     )
 
 returns-2 : tie.Need-returns-2
 returns-2 c =
     let v = c .before .before .before .verdict .ensures in
     let r = c .before .enum-told2 .given .1 in
-    (c .as-before .ensures ∙ refused _ _ _ _ _ v r, (refused-trains _ _ _ _ _ v r, refused-last _ _ _ _ _ v r))
+    (c .as-before .ensures ∙ refused _ _ _ _ _ _ v r, (refused-trains _ _ _ _ _ _ v r, refused-last _ _ _ _ _ _ v r))
 
 pub judge-at-spec : {M : Type 1} → statement M
 judge-at-spec =
     tie.close
-    (tie.spec verdict-requires (λ c. search needs) effect-of-requires move-train-requires note-last-requires (λ c. search needs) (λ c κs. search needs) returns returns-2)
+    (tie.spec verdict-requires (λ c. search needs) effect-of-requires move-cells-requires move-cells-requires-2 (λ c. search needs) (λ c κs. search needs) returns returns-2)

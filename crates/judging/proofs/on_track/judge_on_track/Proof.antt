@@ -12,7 +12,7 @@ judge-step-requires c κs =
     let a = post .before .before .args in
     subst
     (Fit (a .c))
-    (sym (site-in (a .x) (a .t) (a .other) (post .place-of .ensures) (post .before .running-of .ensures)))
+    (sym (site-in (a .x) (a .t) (post .place-of .ensures) (post .before .running-of .ensures)))
     (post .before .before .pre)
 
 returns : tie.Need-returns

@@ -3,8 +3,8 @@ use Prim.Native.Nat.{suc, _-_, _<_}
 use mathlib.Core.Path.{_≡_, refl, sym, _∙_}
 use native.Mathlib.Omega.{arith}
 use Rattle.section.proofs.Told.{told}
-use Rattle.rules.specs.Site.{stretchEnds, stretchHolds, trainAt}
-use Rattle.site.proofs.stretch.Laws.{stretch-here, stretch-ended, stretch-on}
+use Rattle.rules.specs.Site.{reach, stretchEnds, stretchHolds, trainAt}
+use Rattle.site.proofs.stretch.Laws.{reach-here, reach-ended, reach-on, is-train, no-train}
 use Rattle.site.proofs.stretch.stretch_holds.Statement.{statement}
 use Rattle.site.proofs.stretch.stretch_holds.Tie as tie
 
@@ -39,7 +39,7 @@ train-after-requires c κs = (omega arith, omega arith)
 
 returns : tie.Need-returns Inv-loop μ-loop
 returns c = let b = c .before .before in
-    sym (b .before .loop .inv .1 ∙ stretch-here _ _ _ _ (omega arith) (λ e. c .if1 .taken (train-seen (c .before) ∙ e)))
+    sym (b .before .loop .inv .1 ∙ reach-here _ _ _ _ (omega arith) (is-train _ (λ e. c .if1 .taken (train-seen (c .before) ∙ e))))
 
 add-j : tie.Need-add-j Inv-loop μ-loop
 add-j c = omega arith
@@ -51,7 +51,7 @@ returns-2 : tie.Need-returns-2 Inv-loop μ-loop
 returns-2 c = let d = c .before .before in
     let b = d .before .before in
     sym (b .before .loop .inv .1
-    ∙ stretch-ended _ _ _ _ (omega arith) (sym (train-seen (d .before)) ∙ d .if1 .left) (told (c .before .stretch-ends .ensures) (c .if2 .taken)))
+    ∙ reach-ended _ _ _ _ (omega arith) (no-train _ (sym (train-seen (d .before)) ∙ d .if1 .left)) (told (c .before .stretch-ends .ensures) (c .if2 .taken)))
 
 loop-less : tie.Need-loop-less Inv-loop μ-loop
 loop-less c = omega arith
@@ -61,11 +61,11 @@ loop-again c = let d = c .before .before in
     let b = d .before .before in (
       omega arith,
       b .before .loop .inv .1
-          ∙ stretch-on _ _ _ _ (omega arith) (sym (train-seen (d .before)) ∙ d .if1 .left) (told (c .before .stretch-ends .ensures) (c .if2 .left)),
+          ∙ reach-on _ _ _ _ (omega arith) (no-train _ (sym (train-seen (d .before)) ∙ d .if1 .left)) (told (c .before .stretch-ends .ensures) (c .if2 .left)),
     )
 
 returns-3 : tie.Need-returns-3 Inv-loop μ-loop
-unfolding stretchHolds
+unfolding reach
 returns-3 c =
     let e : c .before .before .before .args .c .posts - suc (c .before .loop .j) ≡ 0 = omega arith in
     sym (c .before .loop .inv .1 ∙ rw e)

@@ -11,7 +11,7 @@ returns c = rw (eq-eqb (c .before .before .before .args .c .form) 1 (c .before .
 
 returns-2 : tie.Need-returns-2
 unfolding isMaterialised
-returns-2 c = rw (ne-eqb (c .before .before .before .before .args .c .form) 1 (c .before .before .if1 .left)) (c .any-train .ensures)
+returns-2 c = rw (ne-eqb (c .before .before .before .before .args .c .form) 1 (c .before .before .if1 .left)) (c .any-of .ensures)
 
 pub order-occupied-spec : {M : Type 1} → statement M
 order-occupied-spec =
