@@ -1,94 +1,80 @@
--- Each return is past the checks that held and stops at the one that failed.
-use Prim.Native.Nat.{ℕ}
-use mathlib.Core.List.{[]}
+-- Each check is asked past those that held; the return on it is its refusal, the last return is past them all.
 use mathlib.Core.Bool.{false, not}
-use mathlib.Core.Path.{ap}
-use borrow.Author.Tests.{eq-eqb, ne-eqb, not-true, not-false}
+use mathlib.Core.List.{List, []}
+use mathlib.Core.Path.{refl}
+use borrow.Author.Tests.{eq-eqb, ne-eqb}
+use lib.Dec.{eqb}
 use Rattle.section.specs.declared.Step.the-variants.{Key}
-use Rattle.section.proofs.Told.{told, told-false, told-true}
+use Rattle.section.specs.Numbers.{mostSeals}
 use Rattle.rules.specs.Site.{occupancyAt}
-use Rattle.rules.specs.Table.{checks, effect}
+use Rattle.rules.specs.Table.{Check, checks, effect}
 use Rattle.site.specs.VerdictAt.{rowAt}
-use Rattle.site.proofs.conditions.Laws.{Through, none, then, accepted, refused}
+use Rattle.checks.proofs.Row.{AskedAt, none, accepted, unless, when}
 use Rattle.checks.proofs.emergency.key.Statement.{statement}
 use Rattle.checks.proofs.emergency.key.Tie as tie
 
--- the first m checks hold
-abbrev Passed : ℕ → tie.Start → Type 0
-Passed m c = Through m (rowAt (c .args .c) false (Key (c .args .e .post)) (c .args .e) (c .args .trains .now) [])
+abbrev row : tie.Start → List Check
+row c = rowAt (c .args .c) false (Key (c .args .e .post)) (c .args .e) (c .args .trains .now) []
 
-is-turn-requires : tie.Need-is-turn-requires
-is-turn-requires c κs = tt
+-- the entry, from where each check is asked
+abbrev from-in-turn : tie.After-is-turn → tie.Start
+from-in-turn c = c .before
 
-returns : tie.Need-returns
+abbrev from-locked : tie.After-struct-known → tie.Start
+from-locked c = from-in-turn (c .before .before)
+
+abbrev from-free : tie.After-watched-occupied → tie.Start
+from-free c = from-locked (c .before .before)
+
+abbrev from-confirmed : tie.After-confirmed → tie.Start
+from-confirmed c = from-free (c .before .before)
+
+abbrev from-secured : tie.After-secured → tie.Start
+from-secured c = from-confirmed (c .before .before)
+
+abbrev from-seal-left : tie.After-struct-known2 → tie.Start
+from-seal-left c = from-secured (c .before .before)
+
+in-turn : (c : tie.After-is-turn) → AskedAt 1 15 (row (from-in-turn c)) (not (c .is-turn .result))
 unfolding checks occupancyAt
-returns c = refused _ none (told-false (c .before .is-turn .ensures) (c .if1 .taken))
+in-turn c = unless none (c .is-turn .ensures)
 
-in-turn : (c : tie.Else1) → Passed 1 (c .before .before)
+locked : (c : tie.After-struct-known) → AskedAt 2 21 (row (from-locked c)) (not (from-locked c .args .e .own .fault2))
 unfolding checks occupancyAt
-in-turn c = then none (told-true (c .before .is-turn .ensures) (c .if1 .left))
+locked c = unless (in-turn (c .before .before) .left (c .before .if1 .left)) refl
 
-returns-2 : tie.Need-returns-2
+free : (c : tie.After-watched-occupied) → AskedAt 3 13 (row (from-free c)) (c .watched-occupied .result)
 unfolding checks occupancyAt
-returns-2 c = refused _ (in-turn (c .before .before)) (not-true _ (c .if2 .taken))
+free c = when (locked (c .before .before) .left (c .before .if2 .left)) (c .watched-occupied .ensures)
 
-locked : (c : tie.Else2) → Passed 2 (c .before .before .before .before)
+confirmed : (c : tie.After-confirmed) → AskedAt 4 18 (row (from-confirmed c)) (not (c .confirmed .result))
 unfolding checks occupancyAt
-locked c = then (in-turn (c .before .before)) (not-false _ (c .if2 .left))
+confirmed c = unless (free (c .before .before) .left (c .before .if3 .left)) (c .confirmed .ensures)
 
-watched-occupied-requires : tie.Need-watched-occupied-requires
-watched-occupied-requires c κs = c .before .before .before .before .pre
-
-returns-3 : tie.Need-returns-3
+secured : (c : tie.After-secured) → AskedAt 5 16 (row (from-secured c)) (not (c .secured .result))
 unfolding checks occupancyAt
-returns-3 c = refused _ (locked (c .before .before)) (ap not (told (c .before .watched-occupied .ensures) (c .if3 .taken)))
+secured c = unless (confirmed (c .before .before) .left (c .before .if4 .left)) (c .secured .ensures)
 
-free : (c : tie.Else3) → Passed 3 (c .before .before .before .before .before .before)
+seal-left : (c : tie.After-struct-known2) → AskedAt 6 20 (row (from-seal-left c)) (eqb (from-seal-left c .args .e .own .seals) mostSeals)
 unfolding checks occupancyAt
-free c = then (locked (c .before .before)) (ap not (told (c .before .watched-occupied .ensures) (c .if3 .left)))
+seal-left c = when (secured (c .before .before) .left (c .before .if5 .left)) refl
 
-fault1-confirmed-requires : tie.Need-fault1-confirmed-requires
-fault1-confirmed-requires c κs = c .before .before .before .before .before .before .pre
-
-returns-4 : tie.Need-returns-4
-unfolding checks occupancyAt
-returns-4 c = refused _ (free (c .before .before)) (told-false (c .before .fault1-confirmed .ensures) (c .if4 .taken))
-
-fault1-confirmed : (c : tie.Else4) → Passed 4 (c .before .before .before .before .before .before .before .before)
-unfolding checks occupancyAt
-fault1-confirmed c = then (free (c .before .before)) (told-true (c .before .fault1-confirmed .ensures) (c .if4 .left))
-
-measures-suffice-requires : tie.Need-measures-suffice-requires
-measures-suffice-requires c κs = tt
-
-returns-5 : tie.Need-returns-5
-unfolding checks occupancyAt
-returns-5 c = refused _ (fault1-confirmed (c .before .before)) (told-false (c .before .measures-suffice .ensures) (c .if5 .taken))
-
-measures-suffice : (c : tie.Else5) → Passed 5 (c .before .before .before .before .before .before .before .before .before .before)
-unfolding checks occupancyAt
-measures-suffice c = then (fault1-confirmed (c .before .before)) (told-true (c .before .measures-suffice .ensures) (c .if5 .left))
-
-returns-6 : tie.Need-returns-6
-unfolding checks occupancyAt
-returns-6 c = refused _ (measures-suffice (c .before .before)) (ap not (eq-eqb _ _ (c .if6 .taken)))
-
-returns-7 : tie.Need-returns-7
-unfolding checks occupancyAt effect
-returns-7 c = accepted _ (then (measures-suffice (c .before .before)) (ap not (ne-eqb _ _ (c .if6 .left))))
+accepts : tie.Need-returns-7
+unfolding checks effect
+accepts c = accepted _ (seal-left (c .before) .left (ne-eqb _ _ (c .if6 .left)))
 
 pub key-spec : {M : Type 1} → statement M
 key-spec =
     tie.close
     (tie.spec
-    is-turn-requires
-    returns
-    returns-2
-    watched-occupied-requires
-    returns-3
-    fault1-confirmed-requires
-    returns-4
-    measures-suffice-requires
-    returns-5
-    returns-6
-    returns-7)
+    (λ c κs. tt)
+    (λ c. in-turn (c .before) .taken _ (c .if1 .taken))
+    (λ c. locked (c .before) .taken _ (c .if2 .taken))
+    (λ c κs. from-locked (c .before) .pre)
+    (λ c. free (c .before) .taken _ (c .if3 .taken))
+    (λ c κs. from-free (c .before) .pre)
+    (λ c. confirmed (c .before) .taken _ (c .if4 .taken))
+    (λ c κs. tt)
+    (λ c. secured (c .before) .taken _ (c .if5 .taken))
+    (λ c. seal-left (c .before) .taken _ (eq-eqb _ _ (c .if6 .taken)))
+    accepts)

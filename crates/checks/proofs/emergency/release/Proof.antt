@@ -1,95 +1,79 @@
--- Each return is past the checks that held and stops at the one that failed.
-use Prim.Native.Nat.{ℕ}
+-- Each check is asked past those that held; the return on it is its refusal, the last return is past them all.
 use mathlib.Core.Bool.{false, not}
-use mathlib.Core.Path.{_≡_, sym, _∙_, ap}
-use borrow.Author.Tests.{eq-eqb, ne-eqb, not-true, not-false}
+use mathlib.Core.List.{List}
+use mathlib.Core.Path.{_≡_, refl}
 use Rattle.section.specs.declared.Step.the-variants.{Release}
-use Rattle.section.proofs.Told.{told, told-false, told-true}
+use Rattle.section.proofs.Told.{told}
 use Rattle.rules.specs.Site.{atReceivingEnd, lastEntered, occupancyAt}
-use Rattle.rules.specs.Table.{checks, effect}
+use Rattle.rules.specs.Table.{Check, checks, effect}
 use Rattle.site.specs.VerdictAt.{rowAt}
-use Rattle.site.proofs.conditions.Laws.{Through, none, then, accepted, refused}
+use Rattle.checks.proofs.Row.{AskedAt, AskedEqual, none, accepted, unless, unless-equal, when}
 use Rattle.checks.proofs.emergency.release.Statement.{statement}
 use Rattle.checks.proofs.emergency.release.Tie as tie
 
--- the first m checks hold
-abbrev Passed : ℕ → tie.Start → Type 0
-Passed m c = Through m (rowAt (c .args .c) false (Release (c .args .e .post) (c .args .number)) (c .args .e) (c .args .trains .now) (c .args .last .now))
+abbrev row : tie.Start → List Check
+row c = rowAt (c .args .c) false (Release (c .args .e .post) (c .args .number)) (c .args .e) (c .args .trains .now) (c .args .last .now)
 
-release-in-turn-requires : tie.Need-release-in-turn-requires
-release-in-turn-requires c κs = c .pre
+-- the entry, from where each check is asked
+abbrev from-in-turn : tie.After-release-in-turn → tie.Start
+from-in-turn c = c .before
 
-returns : tie.Need-returns
+abbrev from-block-ahead : tie.After-at-receiving-end → tie.Start
+from-block-ahead c = from-in-turn (c .before .before)
+
+abbrev from-faulty : tie.After-struct-known → tie.Start
+from-faulty c = from-block-ahead (c .before .before)
+
+abbrev from-free : tie.After-watched-occupied → tie.Start
+from-free c = from-faulty (c .before .before)
+
+abbrev from-entered : tie.After-train-ahead → tie.Start
+from-entered c = from-free (c .before .before)
+
+in-turn : (c : tie.After-release-in-turn) → AskedAt 1 15 (row (from-in-turn c)) (not (c .release-in-turn .result))
 unfolding checks occupancyAt
-returns c = refused _ none (told-false (c .before .release-in-turn .ensures) (c .if1 .taken))
+in-turn c = unless none (c .release-in-turn .ensures)
 
-in-turn : (c : tie.Else1) → Passed 1 (c .before .before)
+block-ahead : (c : tie.After-at-receiving-end) → AskedAt 2 12 (row (from-block-ahead c)) (c .at-receiving-end .result)
 unfolding checks occupancyAt
-in-turn c = then none (told-true (c .before .release-in-turn .ensures) (c .if1 .left))
+block-ahead c = when (in-turn (c .before .before) .left (c .before .if1 .left)) (c .at-receiving-end .ensures)
 
-at-receiving-end-requires : tie.Need-at-receiving-end-requires
-at-receiving-end-requires c κs = c .before .before .pre
-
-returns-2 : tie.Need-returns-2
+faulty : (c : tie.After-struct-known) → AskedAt 3 21 (row (from-faulty c)) (not (from-faulty c .args .e .own .fault1))
 unfolding checks occupancyAt
-returns-2 c = refused _ (in-turn (c .before .before)) (ap not (told (c .before .at-receiving-end .ensures) (c .if2 .taken)))
+faulty c = unless (block-ahead (c .before .before) .left (c .before .if2 .left)) refl
 
-not-receiving : (c : tie.Else2) → let a = c .before .before .before .before .args in atReceivingEnd (a .c) (a .e) ≡ false
-not-receiving c = told (c .before .at-receiving-end .ensures) (c .if2 .left)
-
-block-ahead : (c : tie.Else2) → Passed 2 (c .before .before .before .before)
+free : (c : tie.After-watched-occupied) → AskedAt 4 13 (row (from-free c)) (c .watched-occupied .result)
 unfolding checks occupancyAt
-block-ahead c = then (in-turn (c .before .before)) (ap not (not-receiving c))
+free c = when (faulty (c .before .before) .left (c .before .if3 .left)) (c .watched-occupied .ensures)
 
-returns-3 : tie.Need-returns-3
-unfolding checks occupancyAt
-returns-3 c = refused _ (block-ahead (c .before .before)) (not-true _ (c .if3 .taken))
-
-faulty : (c : tie.Else3) → Passed 3 (c .before .before .before .before .before .before)
-unfolding checks occupancyAt
-faulty c = then (block-ahead (c .before .before)) (not-false _ (c .if3 .left))
-
-watched-occupied-requires : tie.Need-watched-occupied-requires
-watched-occupied-requires c κs = c .before .before .before .before .before .before .pre
-
-returns-4 : tie.Need-returns-4
-unfolding checks occupancyAt
-returns-4 c = refused _ (faulty (c .before .before)) (ap not (told (c .before .watched-occupied .ensures) (c .if4 .taken)))
-
-free : (c : tie.Else4) → Passed 4 (c .before .before .before .before .before .before .before .before)
-unfolding checks occupancyAt
-free c = then (faulty (c .before .before)) (ap not (told (c .before .watched-occupied .ensures) (c .if4 .left)))
-
-train-ahead-requires : tie.Need-train-ahead-requires
-train-ahead-requires c κs = let b = c .before .before .before .before in
-    (b .before .before .before .before .pre, not-receiving b)
+not-receiving : (c : tie.Else4) → let a = from-free (c .before) .args in atReceivingEnd (a .c) (a .e) ≡ false
+not-receiving c = let b = c .before .before .before .before in told (b .before .at-receiving-end .ensures) (b .if2 .left)
 
 -- the last train of the block section ahead
-entered : (c : tie.After-train-ahead) →
-    let a = c .before .before .before .before .before .before .before .before .before .args in
-    c .train-ahead .result ≡ lastEntered (a .c) (a .e) (a .last .now)
+last-ahead : (c : tie.After-train-ahead) →
+    let a = from-entered c .args in c .train-ahead .result ≡ lastEntered (a .c) (a .e) (a .last .now)
 unfolding lastEntered
-entered c = rw (not-receiving (c .before .before .before .before .before)) (c .train-ahead .ensures)
+last-ahead c = rw (not-receiving (c .before)) (c .train-ahead .ensures)
 
-returns-5 : tie.Need-returns-5
+entered : (c : tie.After-train-ahead) → AskedEqual 5 17 (row (from-entered c)) (c .train-ahead .result) (from-entered c .args .number)
 unfolding checks occupancyAt
-returns-5 c = refused _ (free (c .before .before)) (ne-eqb _ _ (λ q. c .if5 .taken (entered (c .before) ∙ q)))
+entered c = unless-equal _ (free (c .before .before) .left (c .before .if4 .left)) (last-ahead c)
 
-returns-6 : tie.Need-returns-6
-unfolding checks occupancyAt effect
-returns-6 c = accepted _ (then (free (c .before .before)) (eq-eqb _ _ (sym (entered (c .before)) ∙ c .if5 .left)))
+accepts : tie.Need-returns-6
+unfolding checks effect
+accepts c = accepted _ (entered (c .before) .left (c .if5 .left))
 
 pub release-spec : {M : Type 1} → statement M
 release-spec =
     tie.close
     (tie.spec
-    release-in-turn-requires
-    returns
-    at-receiving-end-requires
-    returns-2
-    returns-3
-    watched-occupied-requires
-    returns-4
-    train-ahead-requires
-    returns-5
-    returns-6)
+    (λ c κs. c .pre)
+    (λ c. in-turn (c .before) .taken _ (c .if1 .taken))
+    (λ c κs. from-in-turn (c .before) .pre)
+    (λ c. block-ahead (c .before) .taken _ (c .if2 .taken))
+    (λ c. faulty (c .before) .taken _ (c .if3 .taken))
+    (λ c κs. from-faulty (c .before) .pre)
+    (λ c. free (c .before) .taken _ (c .if4 .taken))
+    (λ c κs. (from-free (c .before) .pre, not-receiving c))
+    (λ c. entered (c .before) .taken _ (c .if5 .taken))
+    accepts)

@@ -1,41 +1,41 @@
--- Each return is past the checks that held and stops at the one that failed.
-use Prim.Native.Nat.{ℕ}
-use mathlib.Core.List.{[]}
-use mathlib.Core.Bool.{false, not}
-use mathlib.Core.Path.{ap}
-use borrow.Author.Tests.{not-true, not-false}
+-- Each check is asked past those that held; the return on it is its refusal, the last return is past them all.
+use mathlib.Core.Bool.{not}
+use mathlib.Core.List.{List, []}
+use mathlib.Core.Path.{refl}
 use Rattle.section.specs.declared.Settings.{Settings}
 use Rattle.section.specs.declared.Step.the-variants.{MeasuresOff}
-use Rattle.rules.specs.Table.{checks, effect}
+use Rattle.rules.specs.Table.{Check, checks, effect}
 use Rattle.site.specs.VerdictAt.{rowAt}
-use Rattle.site.proofs.conditions.Laws.{Through, none, then, accepted, refused}
+use Rattle.checks.proofs.Row.{AskedAt, none, accepted, unless, when}
 use Rattle.checks.proofs.post.measures_off.Statement.{statement}
 use Rattle.checks.proofs.post.measures_off.Tie as tie
 
--- the first m checks hold
-abbrev Passed : ℕ → Settings → tie.Start → Type 0
-Passed m s c = Through m (rowAt s false (MeasuresOff (c .args .e .post)) (c .args .e) [] [])
+abbrev row : Settings → tie.Start → List Check
+row s c = rowAt s (MeasuresOff (c .args .e .post)) (c .args .e) [] []
 
-returns : tie.Need-returns
+-- the entry, from where each check is asked
+abbrev from-in-place : tie.After-struct-known → tie.Start
+from-in-place c = c .before
+
+abbrev from-vns : tie.Else1 → tie.Start
+from-vns c = from-in-place (c .before)
+
+in-place : (s : Settings) (c : tie.After-struct-known) → AskedAt 1 21 (row s (from-in-place c)) (not (from-in-place c .args .e .own .measures))
 unfolding checks
-returns c = λ s. refused _ none (not-true _ (c .if1 .taken))
+in-place s c = unless none refl
 
-in-place : (s : Settings) → (c : tie.Else1) → Passed 1 s (c .before .before)
+on-vns : (s : Settings) (c : tie.Else1) → AskedAt 2 16 (row s (from-vns c)) (from-vns c .args .e .own .cvt)
 unfolding checks
-in-place s c = then none (not-false _ (c .if1 .left))
+on-vns s c = when (in-place s (c .before) .left (c .if1 .left)) refl
 
-returns-2 : tie.Need-returns-2
-unfolding checks
-returns-2 c = λ s. refused _ (in-place s (c .before)) (ap not (c .if2 .taken))
-
-returns-3 : tie.Need-returns-3
+accepts : tie.Need-returns-3
 unfolding checks effect
-returns-3 c = λ s. accepted _ (then (in-place s (c .before)) (ap not (c .if2 .left)))
+accepts c = λ s. accepted _ (on-vns s (c .before) .left (c .if2 .left))
 
 pub measures-off-spec : {M : Type 1} → statement M
 measures-off-spec =
     tie.close
     (tie.spec
-    returns
-    returns-2
-    returns-3)
+    (λ c s. in-place s (c .before) .taken _ (c .if1 .taken))
+    (λ c s. on-vns s (c .before) .taken _ (c .if2 .taken))
+    accepts)

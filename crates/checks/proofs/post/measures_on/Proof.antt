@@ -1,8 +1,8 @@
--- Each return is past the checks that held and stops at the one that failed.
+-- One check: a return on it is its refusal, the other is past it.
 use mathlib.Core.Bool.{not}
 use mathlib.Core.Path.{ap}
 use Rattle.rules.specs.Table.{checks, effect}
-use Rattle.site.proofs.conditions.Laws.{none, then, accepted, refused}
+use Rattle.checks.proofs.Row.{none, then, accepted, refused}
 use Rattle.checks.proofs.post.measures_on.Statement.{statement}
 use Rattle.checks.proofs.post.measures_on.Tie as tie
 

@@ -1,30 +1,32 @@
--- Each return is past the checks that held and stops at the one that failed.
-use Rattle.section.proofs.Told.{told-false, told-true}
+-- Each check is asked past those that held; the return on it is its refusal, the last return is past them all.
+use mathlib.Core.Bool.{not}
+use mathlib.Core.List.{[]}
+use Rattle.section.specs.declared.Settings.{Settings}
+use Rattle.section.specs.declared.Step.the-variants.{Announce}
 use Rattle.rules.specs.Table.{checks, effect}
-use Rattle.site.proofs.conditions.Laws.{none, then, accepted, refused}
+use Rattle.site.specs.VerdictAt.{rowAt}
+use Rattle.checks.proofs.Row.{AskedAt, none, accepted, unless}
 use Rattle.checks.proofs.reversal.announce.Statement.{statement}
 use Rattle.checks.proofs.reversal.announce.Tie as tie
 
-is-turn-requires : tie.Need-is-turn-requires
-is-turn-requires c κs = tt
-
-returns : tie.Need-returns
+in-turn : (s : Settings) (c : tie.After-is-turn) →
+    let e = c .before .args .e in AskedAt 1 15 (rowAt s (Announce (e .post)) e [] []) (not (c .is-turn .result))
 unfolding checks
-returns c = λ s. refused _ none (told-false (c .before .is-turn .ensures) (c .if1 .taken))
+in-turn s c = unless none (c .is-turn .ensures)
 
-returns-2 : tie.Need-returns-2
+accepts-cvt : tie.Need-returns-2
 unfolding checks effect
-returns-2 c = λ s. rw (c .if2 .taken) (accepted _ (then none (told-true (c .before .before .is-turn .ensures) (c .before .if1 .left))))
+accepts-cvt c = λ s. rw (c .if2 .taken) (accepted _ (in-turn s (c .before .before) .left (c .before .if1 .left)))
 
-returns-3 : tie.Need-returns-3
+accepts-vns : tie.Need-returns-3
 unfolding checks effect
-returns-3 c = λ s. rw (c .if2 .left) (accepted _ (then none (told-true (c .before .before .is-turn .ensures) (c .before .if1 .left))))
+accepts-vns c = λ s. rw (c .if2 .left) (accepted _ (in-turn s (c .before .before) .left (c .before .if1 .left)))
 
 pub announce-spec : {M : Type 1} → statement M
 announce-spec =
     tie.close
     (tie.spec
-    is-turn-requires
-    returns
-    returns-2
-    returns-3)
+    (λ c κs. tt)
+    (λ c s. in-turn s (c .before) .taken _ (c .if1 .taken))
+    accepts-cvt
+    accepts-vns)

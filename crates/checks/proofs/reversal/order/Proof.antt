@@ -1,75 +1,60 @@
--- Each return is past the checks that held and stops at the one that failed.
-use Prim.Native.Nat.{ℕ}
-use mathlib.Core.List.{[]}
+-- Each check is asked past those that held; the return on it is its refusal, the last return is past them all.
 use mathlib.Core.Bool.{not}
-use mathlib.Core.Path.{ap}
+use mathlib.Core.List.{List, []}
 use Rattle.section.specs.declared.Step.the-variants.{Order}
-use Rattle.section.proofs.Told.{told, told-false, told-true}
 use Rattle.rules.specs.Site.{occupancyAt}
-use Rattle.rules.specs.Table.{checks, effect}
+use Rattle.rules.specs.Table.{Check, checks, effect}
 use Rattle.site.specs.VerdictAt.{rowAt}
-use Rattle.site.proofs.conditions.Laws.{Through, none, then, accepted, refused}
+use Rattle.checks.proofs.Row.{AskedAt, none, accepted, unless, when}
 use Rattle.checks.proofs.reversal.order.Statement.{statement}
 use Rattle.checks.proofs.reversal.order.Tie as tie
 
--- the first m checks hold
-abbrev Passed : ℕ → tie.Start → Type 0
-Passed m c = Through m (rowAt (c .args .c) (c .args .other-on-vns) (Order (c .args .e .post)) (c .args .e) (c .args .trains .now) [])
+abbrev row : tie.Start → List Check
+row c = rowAt (c .args .c) (c .args .other-on-vns) (Order (c .args .e .post)) (c .args .e) (c .args .trains .now) []
 
-is-settled-requires : tie.Need-is-settled-requires
-is-settled-requires c κs = tt
+-- the entry, from where each check is asked
+abbrev from-settled : tie.After-is-settled → tie.Start
+from-settled c = c .before
 
-returns : tie.Need-returns
+abbrev from-sending : tie.After-at-sending-end → tie.Start
+from-sending c = from-settled (c .before .before)
+
+abbrev from-allowed : tie.After-order-allowed → tie.Start
+from-allowed c = from-sending (c .before .before)
+
+abbrev from-free : tie.After-order-occupied → tie.Start
+from-free c = from-allowed (c .before .before)
+
+settled : (c : tie.After-is-settled) → AskedAt 1 11 (row (from-settled c)) (not (c .is-settled .result))
 unfolding checks occupancyAt
-returns c = refused _ none (told-false (c .before .is-settled .ensures) (c .if1 .taken))
+settled c = unless none (c .is-settled .ensures)
 
-settled : (c : tie.Else1) → Passed 1 (c .before .before)
+sending : (c : tie.After-at-sending-end) → AskedAt 2 12 (row (from-sending c)) (not (c .at-sending-end .result))
 unfolding checks occupancyAt
-settled c = then none (told-true (c .before .is-settled .ensures) (c .if1 .left))
+sending c = unless (settled (c .before .before) .left (c .before .if1 .left)) (c .at-sending-end .ensures)
 
-at-sending-end-requires : tie.Need-at-sending-end-requires
-at-sending-end-requires c κs = c .before .before .pre
-
-returns-2 : tie.Need-returns-2
+allowed : (c : tie.After-order-allowed) → AskedAt 3 14 (row (from-allowed c)) (not (c .order-allowed .result))
 unfolding checks occupancyAt
-returns-2 c = refused _ (settled (c .before .before)) (told-false (c .before .at-sending-end .ensures) (c .if2 .taken))
+allowed c = unless (sending (c .before .before) .left (c .before .if2 .left)) (c .order-allowed .ensures)
 
-at-sending-end : (c : tie.Else2) → Passed 2 (c .before .before .before .before)
+free : (c : tie.After-order-occupied) → AskedAt 4 13 (row (from-free c)) (c .order-occupied .result)
 unfolding checks occupancyAt
-at-sending-end c = then (settled (c .before .before)) (told-true (c .before .at-sending-end .ensures) (c .if2 .left))
+free c = when (allowed (c .before .before) .left (c .before .if3 .left)) (c .order-occupied .ensures)
 
-order-allowed-requires : tie.Need-order-allowed-requires
-order-allowed-requires c κs = tt
-
-returns-3 : tie.Need-returns-3
-unfolding checks occupancyAt
-returns-3 c = refused _ (at-sending-end (c .before .before)) (told-false (c .before .order-allowed .ensures) (c .if3 .taken))
-
-allowed : (c : tie.Else3) → Passed 3 (c .before .before .before .before .before .before)
-unfolding checks occupancyAt
-allowed c = then (at-sending-end (c .before .before)) (told-true (c .before .order-allowed .ensures) (c .if3 .left))
-
-order-occupied-requires : tie.Need-order-occupied-requires
-order-occupied-requires c κs = c .before .before .before .before .before .before .pre
-
-returns-4 : tie.Need-returns-4
-unfolding checks occupancyAt
-returns-4 c = refused _ (allowed (c .before .before)) (ap not (told (c .before .order-occupied .ensures) (c .if4 .taken)))
-
-returns-5 : tie.Need-returns-5
-unfolding checks occupancyAt effect
-returns-5 c = accepted _ (then (allowed (c .before .before)) (ap not (told (c .before .order-occupied .ensures) (c .if4 .left))))
+accepts : tie.Need-returns-5
+unfolding checks effect
+accepts c = accepted _ (free (c .before) .left (c .if4 .left))
 
 pub order-spec : {M : Type 1} → statement M
 order-spec =
     tie.close
     (tie.spec
-    is-settled-requires
-    returns
-    at-sending-end-requires
-    returns-2
-    order-allowed-requires
-    returns-3
-    order-occupied-requires
-    returns-4
-    returns-5)
+    (λ c κs. tt)
+    (λ c. settled (c .before) .taken _ (c .if1 .taken))
+    (λ c κs. from-settled (c .before) .pre)
+    (λ c. sending (c .before) .taken _ (c .if2 .taken))
+    (λ c κs. tt)
+    (λ c. allowed (c .before) .taken _ (c .if3 .taken))
+    (λ c κs. from-allowed (c .before) .pre)
+    (λ c. free (c .before) .taken _ (c .if4 .taken))
+    accepts)

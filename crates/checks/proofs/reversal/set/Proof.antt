@@ -1,84 +1,69 @@
--- Each return is past the checks that held and stops at the one that failed.
-use Prim.Native.Nat.{ℕ}
-use mathlib.Core.List.{[]}
+-- Each check is asked past those that held; the return on it is its refusal, the last return is past them all.
 use mathlib.Core.Bool.{false, not}
-use mathlib.Core.Path.{ap}
+use mathlib.Core.List.{List, []}
+use mathlib.Core.Path.{refl}
 use Rattle.section.specs.declared.Step.the-variants.{Set}
-use Rattle.section.proofs.Told.{told, told-false, told-true}
 use Rattle.rules.specs.Site.{occupancyAt}
-use Rattle.rules.specs.Table.{checks, effect}
+use Rattle.rules.specs.Table.{Check, checks, effect}
 use Rattle.site.specs.VerdictAt.{rowAt}
-use Rattle.site.proofs.conditions.Laws.{Through, none, then, accepted, refused}
+use Rattle.checks.proofs.Row.{AskedAt, none, accepted, unless, when}
 use Rattle.checks.proofs.reversal.set.Statement.{statement}
 use Rattle.checks.proofs.reversal.set.Tie as tie
 
--- the first m checks hold
-abbrev Passed : ℕ → tie.Start → Type 0
-Passed m c = Through m (rowAt (c .args .c) false (Set (c .args .e .post)) (c .args .e) (c .args .trains .now) [])
+abbrev row : tie.Start → List Check
+row c = rowAt (c .args .c) false (Set (c .args .e .post)) (c .args .e) (c .args .trains .now) []
 
-is-turn-requires : tie.Need-is-turn-requires
-is-turn-requires c κs = tt
+-- the entry, from where each check is asked
+abbrev from-in-turn : tie.After-is-turn → tie.Start
+from-in-turn c = c .before
 
-returns : tie.Need-returns
+abbrev from-free : tie.After-watched-occupied → tie.Start
+from-free c = from-in-turn (c .before .before)
+
+abbrev from-confirmed : tie.After-confirmed → tie.Start
+from-confirmed c = from-free (c .before .before)
+
+abbrev from-secured : tie.After-secured → tie.Start
+from-secured c = from-confirmed (c .before .before)
+
+abbrev from-unlocked : tie.Else4 → tie.Start
+from-unlocked c = from-secured (c .before)
+
+in-turn : (c : tie.After-is-turn) → AskedAt 1 15 (row (from-in-turn c)) (not (c .is-turn .result))
 unfolding checks occupancyAt
-returns c = refused _ none (told-false (c .before .is-turn .ensures) (c .if1 .taken))
+in-turn c = unless none (c .is-turn .ensures)
 
-in-turn : (c : tie.Else1) → Passed 1 (c .before .before)
+free : (c : tie.After-watched-occupied) → AskedAt 2 13 (row (from-free c)) (c .watched-occupied .result)
 unfolding checks occupancyAt
-in-turn c = then none (told-true (c .before .is-turn .ensures) (c .if1 .left))
+free c = when (in-turn (c .before .before) .left (c .before .if1 .left)) (c .watched-occupied .ensures)
 
-watched-occupied-requires : tie.Need-watched-occupied-requires
-watched-occupied-requires c κs = c .before .before .pre
-
-returns-2 : tie.Need-returns-2
+confirmed : (c : tie.After-confirmed) → AskedAt 3 18 (row (from-confirmed c)) (not (c .confirmed .result))
 unfolding checks occupancyAt
-returns-2 c = refused _ (in-turn (c .before .before)) (ap not (told (c .before .watched-occupied .ensures) (c .if2 .taken)))
+confirmed c = unless (free (c .before .before) .left (c .before .if2 .left)) (c .confirmed .ensures)
 
-free : (c : tie.Else2) → Passed 2 (c .before .before .before .before)
+secured : (c : tie.After-secured) → AskedAt 4 16 (row (from-secured c)) (not (c .secured .result))
 unfolding checks occupancyAt
-free c = then (in-turn (c .before .before)) (ap not (told (c .before .watched-occupied .ensures) (c .if2 .left)))
+secured c = unless (confirmed (c .before .before) .left (c .before .if3 .left)) (c .secured .ensures)
 
-fault1-confirmed-requires : tie.Need-fault1-confirmed-requires
-fault1-confirmed-requires c κs = c .before .before .before .before .pre
-
-returns-3 : tie.Need-returns-3
+unlocked : (c : tie.Else4) → AskedAt 5 19 (row (from-unlocked c)) (from-unlocked c .args .e .own .fault2)
 unfolding checks occupancyAt
-returns-3 c = refused _ (free (c .before .before)) (told-false (c .before .fault1-confirmed .ensures) (c .if3 .taken))
+unlocked c = when (secured (c .before) .left (c .if4 .left)) refl
 
-fault1-confirmed : (c : tie.Else3) → Passed 3 (c .before .before .before .before .before .before)
-unfolding checks occupancyAt
-fault1-confirmed c = then (free (c .before .before)) (told-true (c .before .fault1-confirmed .ensures) (c .if3 .left))
-
-measures-suffice-requires : tie.Need-measures-suffice-requires
-measures-suffice-requires c κs = tt
-
-returns-4 : tie.Need-returns-4
-unfolding checks occupancyAt
-returns-4 c = refused _ (fault1-confirmed (c .before .before)) (told-false (c .before .measures-suffice .ensures) (c .if4 .taken))
-
-measures-suffice : (c : tie.Else4) → Passed 4 (c .before .before .before .before .before .before .before .before)
-unfolding checks occupancyAt
-measures-suffice c = then (fault1-confirmed (c .before .before)) (told-true (c .before .measures-suffice .ensures) (c .if4 .left))
-
-returns-5 : tie.Need-returns-5
-unfolding checks occupancyAt
-returns-5 c = refused _ (measures-suffice (c .before)) (ap not (c .if5 .taken))
-
-returns-6 : tie.Need-returns-6
-unfolding checks occupancyAt effect
-returns-6 c = accepted _ (then (measures-suffice (c .before)) (ap not (c .if5 .left)))
+accepts : tie.Need-returns-6
+unfolding checks effect
+accepts c = accepted _ (unlocked (c .before) .left (c .if5 .left))
 
 pub set-spec : {M : Type 1} → statement M
 set-spec =
     tie.close
     (tie.spec
-    is-turn-requires
-    returns
-    watched-occupied-requires
-    returns-2
-    fault1-confirmed-requires
-    returns-3
-    measures-suffice-requires
-    returns-4
-    returns-5
-    returns-6)
+    (λ c κs. tt)
+    (λ c. in-turn (c .before) .taken _ (c .if1 .taken))
+    (λ c κs. from-in-turn (c .before) .pre)
+    (λ c. free (c .before) .taken _ (c .if2 .taken))
+    (λ c κs. from-free (c .before) .pre)
+    (λ c. confirmed (c .before) .taken _ (c .if3 .taken))
+    (λ c κs. tt)
+    (λ c. secured (c .before) .taken _ (c .if4 .taken))
+    (λ c. unlocked (c .before) .taken _ (c .if5 .taken))
+    accepts)

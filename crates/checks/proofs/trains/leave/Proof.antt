@@ -1,52 +1,49 @@
--- Each return is past the checks that held and stops at the one that failed.
-use Prim.Native.Nat.{ℕ}
-use mathlib.Core.Bool.{false}
-use mathlib.Core.List.{[]}
-use mathlib.Core.Path.{sym, _∙_}
-use borrow.Author.Tests.{eq-eqb, ne-eqb}
+-- Each check is asked past those that held; the return on it is its refusal, the last return is past them all.
+use mathlib.Core.Bool.{false, not}
+use mathlib.Core.List.{List, []}
 use Rattle.section.specs.declared.Step.the-variants.{Leave}
-use Rattle.section.proofs.Told.{told-false, told-true}
+use Rattle.section.proofs.Told.{told-true}
 use Rattle.rules.specs.Site.{occupancyAt}
-use Rattle.rules.specs.Table.{checks, effect}
+use Rattle.rules.specs.Table.{Check, checks, effect}
 use Rattle.site.specs.VerdictAt.{rowAt}
-use Rattle.site.proofs.conditions.Laws.{Through, none, then, accepted, refused}
 use Rattle.site.proofs.place.Laws.{receiving-not-sending}
+use Rattle.checks.proofs.Row.{AskedAt, AskedEqual, none, accepted, unless, unless-equal}
 use Rattle.checks.proofs.trains.leave.Statement.{statement}
 use Rattle.checks.proofs.trains.leave.Tie as tie
 
--- the first m checks hold
-abbrev Passed : ℕ → tie.Start → Type 0
-Passed m c = Through m (rowAt (c .args .c) false (Leave (c .args .e .post) (c .args .number)) (c .args .e) (c .args .trains .now) [])
+abbrev row : tie.Start → List Check
+row c = rowAt (c .args .c) false (Leave (c .args .e .post) (c .args .number)) (c .args .e) (c .args .trains .now) []
 
-at-receiving-end-requires : tie.Need-at-receiving-end-requires
-at-receiving-end-requires c κs = c .pre
+-- the entry, from where each check is asked
+abbrev from-receiving : tie.After-at-receiving-end → tie.Start
+from-receiving c = c .before
 
-returns : tie.Need-returns
+abbrev from-train : tie.After-train-before → tie.Start
+from-train c = from-receiving (c .before .before)
+
+receiving : (c : tie.After-at-receiving-end) → AskedAt 1 12 (row (from-receiving c)) (not (c .at-receiving-end .result))
 unfolding checks occupancyAt
-returns c = refused _ none (told-false (c .before .at-receiving-end .ensures) (c .if1 .taken))
-
-at-receiving-end : (c : tie.Else1) → Passed 1 (c .before .before)
-unfolding checks occupancyAt
-at-receiving-end c = then none (told-true (c .before .at-receiving-end .ensures) (c .if1 .left))
+receiving c = unless none (c .at-receiving-end .ensures)
 
 train-before-requires : tie.Need-train-before-requires
-train-before-requires c κs = let h = c .before .before .pre in
+train-before-requires c κs =
+    let h = from-receiving (c .before) .pre in
     (h, receiving-not-sending h (told-true (c .before .at-receiving-end .ensures) (c .if1 .left)))
 
-returns-2 : tie.Need-returns-2
+train : (c : tie.After-train-before) → AskedEqual 2 17 (row (from-train c)) (c .train-before .result) (from-train c .args .number)
 unfolding checks occupancyAt
-returns-2 c = refused _ (at-receiving-end (c .before .before)) (ne-eqb _ _ (λ q. c .if2 .taken (c .before .train-before .ensures ∙ q)))
+train c = unless-equal _ (receiving (c .before .before) .left (c .before .if1 .left)) (c .train-before .ensures)
 
-returns-3 : tie.Need-returns-3
-unfolding checks occupancyAt effect
-returns-3 c = accepted _ (then (at-receiving-end (c .before .before)) (eq-eqb _ _ (sym (c .before .train-before .ensures) ∙ c .if2 .left)))
+accepts : tie.Need-returns-3
+unfolding checks effect
+accepts c = accepted _ (train (c .before) .left (c .if2 .left))
 
 pub leave-spec : {M : Type 1} → statement M
 leave-spec =
     tie.close
     (tie.spec
-    at-receiving-end-requires
-    returns
+    (λ c κs. c .pre)
+    (λ c. receiving (c .before) .taken _ (c .if1 .taken))
     train-before-requires
-    returns-2
-    returns-3)
+    (λ c. train (c .before) .taken _ (c .if2 .taken))
+    accepts)
