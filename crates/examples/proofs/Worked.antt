@@ -2,18 +2,15 @@
 use Prim.Native.Nat.{ℕ}
 use mathlib.Core.Path.{_≡_, refl}
 use mathlib.Core.List.{List, []}
-use Rattle.section.specs.Words.{saidBy}
+use Rattle.section.specs.Words.{saidBy, letter, trackLetter}
 use Rattle.section.specs.Step.{isWell, wellFormed}
 use Rattle.rules.specs.Indications.{setCount, isNextToSet, circulation, troncon, shown, lampsAt, dark, indicationsOn, indications}
-use Rattle.layout.specs.Layout.{pairBytes, four, fourBytes, fourAt, settingsBytes, trailer, stepCount, fileOf, fromEnd, trailerIn, settingsIn, stepsIn}
-use Rattle.layout.specs.Layout.{settingsOf, stepAt}
+use Rattle.layout.specs.Layout.{pairBytes, four, fourBytes, fourAt, settingsBytes, trailer, stepCount, fileOf, fromEnd, trailerIn, settingsIn, stepsIn, settingsOf, stepAt}
 use Rattle.dayfile.specs.Tests.{lengthWrong, markRight, trailerRight, zerosRight, settingsBytesRight, wellAt, leading, firstMalformed, someMalformed}
 use Rattle.dayfile.specs.Answers.{refusalNumber, readVerdict, readOf}
 use Rattle.rules.proofs.Days.{offeredAs, refusals, fresh}
 use Rattle.text.specs.Text.{decimalDigits, decimal}
-use Rattle.section.specs.Words.{letter, trackLetter}
-use Rattle.lines.specs.Text.{word, inTurn}
-use Rattle.lines.specs.Lines.{refusedLine, header, verdictFields, fields, stepLine}
+use Rattle.lines.specs.Lines.{word, refusedLine, header, verdictFields, fields, stepLine}
 use Rattle.lines.specs.Lamps.{lamps, lampsOf, trackName, panelFields, panelLine}
 use Rattle.whole_day.specs.Day.{sectionBefore, answerTo}
 use Rattle.listing.specs.Printed.{lines, printedRead, printed}
@@ -22,7 +19,7 @@ use Rattle.listing.specs.Panel.{panel}
 use Rattle.examples.specs.Worked.{settings, steps, day, workedListing, workedPanel, listingOfNothing}
 
 unfoldable listingOf : List ℕ → List ℕ
-unfolding refusedLine header verdictFields fields stepLine sectionBefore answerTo lines printedRead printed listing inTurn word letter trackLetter
+unfolding refusedLine header verdictFields fields stepLine sectionBefore answerTo lines printedRead printed listing firstTexts word letter trackLetter
     decimalDigits decimal
     refusals fresh saidBy readOf readVerdict refusalNumber lengthWrong trailerRight markRight settingsBytesRight zerosRight someMalformed
     firstMalformed leading wellAt wellFormed isWell trailerIn settingsIn stepsIn fromEnd settingsOf stepAt fourAt four

@@ -9,8 +9,7 @@ use Rattle.section.specs.declared.Indications.{Indications}
 use Rattle.section.specs.declared.Section.{Section}
 use Rattle.section.specs.Bytes.{byte}
 use Rattle.rules.specs.Indications.{indications}
-use Rattle.text.specs.Text.{ascii, digit, decimal}
-use Rattle.lines.specs.Text.{inTurn}
+use Rattle.text.specs.Text.{ascii, digit, decimal, firstTexts}
 
 -- a post's CIRCULATION, TRONÇON and permission, a stroke between, after a space
 unfoldable pub lamps : Indications → List ℕ
@@ -19,7 +18,7 @@ lamps l =
 
 -- those of every post, from post 0 on
 unfoldable pub lampsOf : Section → ℕ → List ℕ
-lampsOf s track = inTurn (λ p. lamps (indications s track p)) (s .settings .posts)
+lampsOf s track = firstTexts (λ p. lamps (indications s track p)) (s .settings .posts)
 
 -- the step's track
 unfoldable pub trackName : ℕ → ℕ

@@ -3,14 +3,13 @@ ghost use mathlib.Core.Path.{_≡_};
 ghost use Prim.Native.Nat.{_+_, _*_, _≤_};
 ghost use lib.ListN.{length};
 ghost use Rattle.text.specs.Text.{written};
-ghost use Rattle.lines.specs.Text.{word};
-ghost use Rattle.lines.specs.Lines.{verdictFields, fields, stepLineRoom};
+ghost use Rattle.lines.specs.Lines.{word, verdictFields, fields, stepLineRoom};
 ghost use Rattle.notes.specs.Note.{noteLength};
 ghost use Rattle.lines.specs.Noted.{notedLine, notedLines};
 use crate::put_number;
 use notes::NOTE_LENGTH;
-use notes::said_numbered;
 use section::Said;
+use section::words::said_numbered;
 
 // Writes what is said, and returns the next place.
 fn put_said(buffer: &mut [u8], at: usize, said: Said) -> usize

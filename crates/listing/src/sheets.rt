@@ -18,12 +18,12 @@ ghost use Rattle.listing.specs.Printed.{lines, printedRead, printed};
 ghost use Rattle.listing.specs.Sheet.{lineOn, lineRoom, room};
 use dayfile::Reading;
 use layout::MOST_STEPS;
+use layout::step_at;
 use lines::panel::put_panel;
 use lines::put_header;
 use lines::put_refused;
 use lines::steps::put_noted_lines;
 use notes::NOTE_LENGTH;
-use section::STEP_LENGTH;
 use section::Settings;
 use text::Handed;
 use text::hand_over;
@@ -102,8 +102,7 @@ fn put_post_lines(buffer: &mut [u8], at: usize, c: Settings, steps: &[u8], count
     let mut next = at;
     let mut i = 0;
     while i < count {
-        let start = i * STEP_LENGTH;
-        let bytes = &steps[start..start + STEP_LENGTH];
+        let bytes = step_at(steps, i);
         let answer = engine::judge(state, bytes);
         state = answer.section;
         next = put_panel(buffer, next, i, bytes[1], state);

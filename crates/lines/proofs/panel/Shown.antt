@@ -14,9 +14,8 @@ use Rattle.section.specs.Range.{inRange}
 use Rattle.section.specs.Store.{trackOf}
 use Rattle.rules.specs.Site.{siteOn, otherSettledOnVns}
 use Rattle.rules.specs.Indications.{Lamps, lampsAt, circulation, troncon, shown, dark, indicationsOn, indications}
-use Rattle.text.proofs.Laws.{decimal-length}
-use Rattle.lines.specs.Text.{inTurn}
-use Rattle.lines.proofs.Puts.{in-turn-length}
+use Rattle.text.proofs.Laws.{decimal-length, first-texts-length}
+use Rattle.text.specs.Text.{firstTexts}
 use Rattle.lines.specs.Lamps.{lamps, lampsOf, panelFields, panelLine, panelLineRoom}
 
 abbrev pub OneDigit : Indications → Type 0
@@ -54,9 +53,9 @@ one-digit s track p =
 abbrev pub lampsAtPost : Section → ℕ → ℕ → List ℕ
 lampsAtPost s track p = lamps (indications s track p)
 
-pub six-each : (s : Section) (track m : ℕ) → length (inTurn (lampsAtPost s track) m) ≤ 6 * m
+pub six-each : (s : Section) (track m : ℕ) → length (firstTexts (lampsAtPost s track) m) ≤ 6 * m
 unfolding lamps
-six-each s track m = in-turn-length (lampsAtPost s track) 6 m (λ p. omega arith)
+six-each s track m = first-texts-length (lampsAtPost s track) 6 m (λ p. omega arith)
 
 pub lamps-length : (s : Section) (track : ℕ) → length (lampsOf s track) ≤ 6 * s .settings .posts
 unfolding lampsOf

@@ -8,11 +8,12 @@ use lib.ListN.{length, take, drop, length-drop}
 use lib.Seq.{length-take-le}
 use Rattle.section.specs.declared.Answer.{Answer}
 use Rattle.section.specs.Words.{saidBy}
+use Rattle.section.proofs.words.Laws.{said-back}
 use Rattle.lines.specs.Lines.{stepLine, stepLineRoom}
-use Rattle.lines.specs.Text.{inTurn}
-use Rattle.lines.proofs.Puts.{fields-length, in-turn-length}
+use Rattle.text.specs.Text.{firstTexts}
+use Rattle.text.proofs.Laws.{first-texts-length}
+use Rattle.lines.proofs.Puts.{fields-length}
 use Rattle.notes.specs.Note.{noteLength, noteWith, note}
-use Rattle.notes.proofs.Laws.{said-back}
 use Rattle.lines.specs.Noted.{notedLine, noteAt}
 
 abbrev pub lineOf : List ℕ → ℕ → List ℕ
@@ -25,9 +26,9 @@ noted-length index note = fields-length index _ _ _ _
 -- a buffer with room for all lines has room for one more
 pub one-more-fits :
     (notes : List ℕ) (i count at room : ℕ) → i < count → at + stepLineRoom * count ≤ room
-    → at + length (inTurn (lineOf notes) i) + stepLineRoom ≤ room
+    → at + length (firstTexts (lineOf notes) i) + stepLineRoom ≤ room
 one-more-fits notes i count at room h all =
-    let so-far = in-turn-length (lineOf notes) stepLineRoom i (λ k. noted-length k (noteAt notes k)) in
+    let so-far = first-texts-length (lineOf notes) stepLineRoom i (λ k. noted-length k (noteAt notes k)) in
     omega (arith, so-far, rw (mul-suc stepLineRoom i) at (mul-le-mul-left stepLineRoom h))
 
 pub note-part : (notes : List ℕ) (i : ℕ) → take (i * noteLength + noteLength - i * noteLength) (drop (i * noteLength) notes) ≡ noteAt notes i

@@ -28,10 +28,10 @@ use Rattle.dayfile.specs.declared.Reading.the-variants.{Day, Refused}
 use Rattle.dayfile.proofs.tests.Laws.{all-whole}
 use Rattle.dayfile.proofs.Reader.{day-read, few-steps}
 use Rattle.dayfile.proofs.RoundTrip.{gives-its-steps}
-use Rattle.text.specs.Text.{written}
-use Rattle.lines.specs.Text.{inTurn}
+use Rattle.text.specs.Text.{written, firstTexts}
 use Rattle.lines.specs.Lines.{refusedLine, stepLine}
-use Rattle.lines.proofs.Puts.{Putting, refused-length, header-length, fields-length, in-turn-length, same-texts}
+use Rattle.text.proofs.Laws.{Putting, first-texts-length, same-texts}
+use Rattle.lines.proofs.Puts.{refused-length, header-length, fields-length}
 use Rattle.whole_day.specs.Day.{sectionBefore, answerTo}
 use Rattle.whole_day.specs.Notes.{noteOn, notesOf}
 use Rattle.whole_day.proofs.Laws.{in-range-before, note-written}
@@ -98,15 +98,15 @@ module _ (first : Section) (steps : List ℕ) (r : inRange first ≡ true) where
 
   lines-fit : (sheet : Sheet) (m : ℕ) → length (lines (lineOn sheet) first steps m) ≤ lineRoom sheet * m
   unfolding lines
-  lines-fit sheet m = in-turn-length (λ i. lineOn sheet i (stepAt steps i) (answerTo first steps i)) (lineRoom sheet) m (line-fits sheet)
+  lines-fit sheet m = first-texts-length (λ i. lineOn sheet i (stepAt steps i) (answerTo first steps i)) (lineRoom sheet) m (line-fits sheet)
 
-  lines-length : (m : ℕ) → length (inTurn (lineAt first steps) m) ≤ panelLineRoom * m
+  lines-length : (m : ℕ) → length (firstTexts (lineAt first steps) m) ≤ panelLineRoom * m
   unfolding lines lineOn lineRoom
   lines-length m = lines-fit OfPosts m
 
   -- a buffer with room for all lines has room for one more
   pub one-more-fits :
-      (i count at room : ℕ) → i < count → at + panelLineRoom * count ≤ room → at + length (inTurn (lineAt first steps) i) + panelLineRoom ≤ room
+      (i count at room : ℕ) → i < count → at + panelLineRoom * count ≤ room → at + length (firstTexts (lineAt first steps) i) + panelLineRoom ≤ room
   one-more-fits i count at room h all =
       omega (arith, lines-length i, rw (mul-suc panelLineRoom i) at (mul-le-mul-left panelLineRoom h))
 

@@ -4,7 +4,8 @@ use native.Mathlib.Omega.{arith}
 use denote.Ref.{now}
 use mathlib.Core.List.{[], _∷_}
 use Rattle.lines.specs.Lamps.{lampsOf, panelFields}
-use Rattle.lines.proofs.Puts.{number-length, number-then, then}
+use Rattle.text.proofs.Laws.{then}
+use Rattle.lines.proofs.Puts.{number-length, number-then}
 use Rattle.lines.proofs.panel.Shown.{lamps-length}
 use Rattle.lines.proofs.panel.put_panel.Statement.{statement}
 use Rattle.lines.proofs.panel.put_panel.Tie as tie

@@ -5,16 +5,16 @@ use native.Mathlib.Omega.{arith}
 use borrow.Author.Needs.{needs}
 use denote.Ref.{now}
 use lib.ListN.{length}
-use Rattle.lines.specs.Text.{inTurn}
+use Rattle.text.specs.Text.{firstTexts}
 use Rattle.lines.specs.Lamps.{lampsOf}
-use Rattle.lines.proofs.Puts.{Putting, none-put, one-more-put}
+use Rattle.text.proofs.Laws.{Putting, none-put, one-more-put}
 use Rattle.lines.proofs.panel.Shown.{one-digit, lampsAtPost, six-each}
 use Rattle.lines.proofs.panel.put_posts.Statement.{statement}
 use Rattle.lines.proofs.panel.put_posts.Tie as tie
 
 abbrev Inv-loop : tie.InvT-loop
 Inv-loop buffer₀ at s track n next₀ p₀ buffer next p =
-    (p ≤ n) × ((length buffer ≡ length buffer₀) × Putting buffer₀ at (inTurn (lampsAtPost s track) p) next buffer)
+    (p ≤ n) × ((length buffer ≡ length buffer₀) × Putting buffer₀ at (firstTexts (lampsAtPost s track) p) next buffer)
 
 abbrev μ-loop : tie.MeasureT-loop
 μ-loop buffer₀ at s track n next₀ p₀ buffer next p = n - p

@@ -2,7 +2,8 @@
 use borrow.Author.Needs.{needs}
 use denote.Ref.{now}
 use native.Mathlib.Omega.{arith}
-use Rattle.lines.proofs.Puts.{number-length, verdict-length, number-then, then}
+use Rattle.text.proofs.Laws.{then}
+use Rattle.lines.proofs.Puts.{number-length, verdict-length, number-then}
 use Rattle.lines.specs.Lines.{verdictFields, fields}
 use Rattle.lines.proofs.steps.put_fields.Statement.{statement}
 use Rattle.lines.proofs.steps.put_fields.Tie as tie

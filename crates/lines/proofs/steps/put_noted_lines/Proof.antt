@@ -5,8 +5,8 @@ use native.Mathlib.Omega.{arith}
 use borrow.Author.Needs.{needs}
 use denote.Ref.{now}
 use lib.ListN.{length}
-use Rattle.lines.specs.Text.{inTurn}
-use Rattle.lines.proofs.Puts.{Putting, none-put, one-more-put}
+use Rattle.text.specs.Text.{firstTexts}
+use Rattle.text.proofs.Laws.{Putting, none-put, one-more-put}
 use Rattle.lines.specs.Noted.{notedLines}
 use Rattle.lines.proofs.steps.Laws.{lineOf, one-more-fits, note-part, note-length}
 use Rattle.lines.proofs.steps.put_noted_lines.Statement.{statement}
@@ -14,7 +14,7 @@ use Rattle.lines.proofs.steps.put_noted_lines.Tie as tie
 
 abbrev Inv-loop : tie.InvT-loop
 Inv-loop buffer₀ at notes count next₀ i₀ buffer next i =
-    (i ≤ count) × ((length buffer ≡ length buffer₀) × Putting buffer₀ at (inTurn (lineOf notes) i) next buffer)
+    (i ≤ count) × ((length buffer ≡ length buffer₀) × Putting buffer₀ at (firstTexts (lineOf notes) i) next buffer)
 
 abbrev μ-loop : tie.MeasureT-loop
 μ-loop buffer₀ at notes count next₀ i₀ buffer next i = count - i

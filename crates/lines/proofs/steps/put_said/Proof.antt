@@ -1,5 +1,5 @@
 use borrow.Author.Needs.{needs}
-use Rattle.lines.specs.Text.{word}
+use Rattle.lines.specs.Lines.{word}
 use Rattle.lines.proofs.steps.put_said.Statement.{statement}
 use Rattle.lines.proofs.steps.put_said.Tie as tie
 

@@ -7,12 +7,12 @@ use borrow.Author.Needs.{needs}
 use denote.Ref.{now}
 use lib.ListN.{length}
 use Rattle.section.specs.declared.Answer.{Answer}
-use Rattle.lines.specs.Text.{inTurn}
+use Rattle.text.specs.Text.{firstTexts}
 use Rattle.listing.specs.Printed.{lines}
 use Rattle.listing.specs.Sheet.{lineOn}
 use Rattle.whole_day.specs.Day.{sectionBefore}
-use Rattle.whole_day.proofs.Laws.{step-part, step-after, answered}
-use Rattle.lines.proofs.Puts.{Putting, none-put, one-more-put}
+use Rattle.whole_day.proofs.Laws.{step-after, answered}
+use Rattle.text.proofs.Laws.{Putting, none-put, one-more-put}
 use Rattle.listing.proofs.sheets.Days.{lineAt, few-posts-after, one-more-fits, line-put, step-length, started}
 use Rattle.listing.proofs.sheets.put_post_lines.Statement.{statement}
 use Rattle.listing.proofs.sheets.put_post_lines.Tie as tie
@@ -21,7 +21,7 @@ abbrev Inv-loop : tie.InvT-loop
 Inv-loop buffer₀ at steps count state₀ next₀ i₀ buffer state next i =
     (i ≤ count)
     × ((length buffer ≡ length buffer₀)
-    × ((state ≡ sectionBefore state₀ steps i) × Putting buffer₀ at (inTurn (lineAt state₀ steps) i) next buffer))
+    × ((state ≡ sectionBefore state₀ steps i) × Putting buffer₀ at (firstTexts (lineAt state₀ steps) i) next buffer))
 
 abbrev μ-loop : tie.MeasureT-loop
 μ-loop buffer₀ at steps count state₀ next₀ i₀ buffer state next i = count - i
@@ -32,33 +32,23 @@ loop-holds c =
     let a = c .before .before .before .args in
     (omega arith, (refl, (refl, none-put (lineAt (c .fresh .result) (now (a .steps))) (now (a .buffer)) (a .at))))
 
-mul-start : tie.Need-mul-start Inv-loop μ-loop
-mul-start c = omega arith
-
-add-bytes : tie.Need-add-bytes Inv-loop μ-loop
-add-bytes c = omega arith
-
-sub-bytes : tie.Need-sub-bytes Inv-loop μ-loop
-sub-bytes c = omega arith
-
-part-bytes-start : tie.Need-part-bytes-start Inv-loop μ-loop
-part-bytes-start c = omega arith
-
-part-bytes-end : tie.Need-part-bytes-end Inv-loop μ-loop
-part-bytes-end c = omega arith
+step-at-requires : tie.Need-step-at-requires Inv-loop μ-loop
+step-at-requires c κs = omega arith
 
 shared-slice-read-put-panel : tie.Need-shared-slice-read-put-panel Inv-loop μ-loop
 shared-slice-read-put-panel c =
-    let in-loop = c .before .before .before .before .before in
+    let at-step = c .before .before .before .before in
+    let in-loop = at-step .before in
     let entry = in-loop .before .before .before .before .before in
     let a = entry .args in
     let i = in-loop .before .loop .i in
-    rw (step-part (now (a .steps)) i, step-length (now (a .steps)) i (a .count) (in-loop .loop-test .taken) (entry .pre .1 .0)) (omega arith)
+    rw (at-step .step-at .ensures, step-length (now (a .steps)) i (a .count) (in-loop .loop-test .taken) (entry .pre .1 .0)) (omega arith)
 
 put-panel-requires : tie.Need-put-panel-requires Inv-loop μ-loop
 put-panel-requires c κs =
     let at-judge = c .before .before .before in
-    let in-loop = at-judge .before .before in
+    let at-step = at-judge .before in
+    let in-loop = at-step .before in
     let at-loop = in-loop .before in
     let at-fresh = at-loop .before in
     let entry = at-fresh .before .before .before in
@@ -68,7 +58,7 @@ put-panel-requires c κs =
     let r = started (f .result) (a .c) (f .ensures) (entry .pre .1 .1) in
     let e =
     answered (f .result) (now (a .steps)) (h .i) _ _ (at-judge .judge .result) (h .inv .1 .1 .0)
-    (step-part (now (a .steps)) (h .i)) (at-judge .judge .ensures) in
+    (at-step .step-at .ensures) (at-judge .judge .ensures) in
     let fits = one-more-fits (f .result) (now (a .steps)) r (h .i) (a .count) (a .at) _ (in-loop .loop-test .taken) (entry .pre .0) in
     (omega (arith, fits, h .inv .1 .1 .1 .0, h .inv .1 .0), rw e (few-posts-after (f .result) (now (a .steps)) r (h .i)))
 
@@ -82,7 +72,8 @@ loop-again : tie.Need-loop-again Inv-loop μ-loop
 loop-again c =
     let put = c .before .before in
     let at-judge = put .before .before .before .before in
-    let in-loop = at-judge .before .before in
+    let at-step = at-judge .before in
+    let in-loop = at-step .before in
     let at-loop = in-loop .before in
     let at-fresh = at-loop .before in
     let entry = at-fresh .before .before .before in
@@ -91,7 +82,7 @@ loop-again c =
     let h = at-loop .loop in
     let j = at-judge .judge in
     let r = started (f .result) (a .c) (f .ensures) (entry .pre .1 .1) in
-    let part = step-part (now (a .steps)) (h .i) in
+    let part = at-step .step-at .ensures in
     let e = answered (f .result) (now (a .steps)) (h .i) _ _ (j .result) (h .inv .1 .1 .0) part (j .ensures) in
     let t = in-loop .loop-test .taken in
     let fits = one-more-fits (f .result) (now (a .steps)) r (h .i) (a .count) (a .at) _ t (entry .pre .0) in (
@@ -125,11 +116,7 @@ put-post-lines-spec =
     μ-loop
     (λ c κs. search needs)
     loop-holds
-    mul-start
-    add-bytes
-    sub-bytes
-    part-bytes-start
-    part-bytes-end
+    step-at-requires
     (λ c κs. search needs)
     shared-slice-read-put-panel
     put-panel-requires

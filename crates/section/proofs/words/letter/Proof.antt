@@ -1,7 +1,7 @@
 use borrow.Author.Needs.{needs}
 use Rattle.section.specs.Words.{letter}
-use Rattle.notes.proofs.letter.Statement.{statement}
-use Rattle.notes.proofs.letter.Tie as tie
+use Rattle.section.proofs.words.letter.Statement.{statement}
+use Rattle.section.proofs.words.letter.Tie as tie
 
 returns : tie.Need-returns
 unfolding letter

@@ -1,7 +1,7 @@
 use borrow.Author.Needs.{needs}
 use Rattle.section.specs.Words.{refusalOf}
-use Rattle.notes.proofs.refusal_of.Statement.{statement}
-use Rattle.notes.proofs.refusal_of.Tie as tie
+use Rattle.section.proofs.words.refusal_of.Statement.{statement}
+use Rattle.section.proofs.words.refusal_of.Tie as tie
 
 returns : tie.Need-returns
 unfolding refusalOf

@@ -1,7 +1,7 @@
 use borrow.Author.Tests.{ne-eqb}
-use Rattle.notes.specs.Note.{saidNumbered}
-use Rattle.notes.proofs.said_numbered.Statement.{statement}
-use Rattle.notes.proofs.said_numbered.Tie as tie
+use Rattle.section.specs.Words.{saidNumbered}
+use Rattle.section.proofs.words.said_numbered.Statement.{statement}
+use Rattle.section.proofs.words.said_numbered.Tie as tie
 
 returns : tie.Need-returns
 unfolding saidNumbered

@@ -1,7 +1,7 @@
 use borrow.Author.Needs.{needs}
 use Rattle.section.specs.Words.{saidBy}
-use Rattle.notes.proofs.said_by.Statement.{statement}
-use Rattle.notes.proofs.said_by.Tie as tie
+use Rattle.section.proofs.words.said_by.Statement.{statement}
+use Rattle.section.proofs.words.said_by.Tie as tie
 
 returns : tie.Need-returns
 unfolding saidBy

@@ -1,7 +1,7 @@
 use Rattle.section.specs.Words.{saidNumber}
 use borrow.Author.Needs.{needs}
-use Rattle.notes.proofs.said_number.Statement.{statement}
-use Rattle.notes.proofs.said_number.Tie as tie
+use Rattle.section.proofs.words.said_number.Statement.{statement}
+use Rattle.section.proofs.words.said_number.Tie as tie
 
 returns : tie.Need-returns
 unfolding saidNumber
