@@ -11,7 +11,7 @@ use Rattle.dayfile.specs.Answers.{refusalNumber, readVerdict, readOf}
 use Rattle.rules.proofs.Days.{offeredAs, refusals, fresh}
 use Rattle.text.specs.Text.{decimalDigits, decimal}
 use Rattle.lines.specs.Lines.{word, refusedLine, header, verdictFields, fields, stepLine}
-use Rattle.lines.specs.Lamps.{lamps, lampsOf, trackName, panelFields, panelLine}
+use Rattle.lines.specs.PanelLine.{postField, postFields, trackName, panelFields, panelLine}
 use Rattle.whole_day.specs.Day.{sectionBefore, answerTo}
 use Rattle.listing.specs.Printed.{lines, printedRead, printed}
 use Rattle.listing.specs.Listing.{listing}
@@ -26,7 +26,7 @@ unfolding refusedLine header verdictFields fields stepLine sectionBefore answerT
 listingOf file = listing file
 
 unfoldable panelOf : List ℕ → List ℕ
-unfolding listingOf panel panelLine panelFields trackName lampsOf lamps
+unfolding listingOf panel panelLine panelFields trackName postFields postField
     indications indicationsOn lampsAt shown circulation troncon isNextToSet setCount dark
 panelOf file = panel file
 

@@ -1,3 +1,3 @@
 pub mod Lines
 pub mod Noted
-pub mod Lamps
+pub mod PanelLine

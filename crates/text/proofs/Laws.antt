@@ -33,7 +33,7 @@ filled s d e =
     ∙ append-nil (take (length s) s)
     ∙ take-length s
 
--- a part of the buffer, copied over
+-- a text copied into a part of the buffer
 pub part-copied :
     (l s part : List ℕ) (at : ℕ) → at + length s ≤ length l
     → part ≡ take (length s) s ++ drop (length s) (take (at + length s - at) (drop at l))
@@ -82,9 +82,9 @@ pub then :
 then l m k at r q s t room a b = (
   b .0 ∙ ap (λ (i : ℕ). i + length t) (a .0) ∙ simp length-append (omega arith),
   b .1
-  ∙ ap (λ (x : List ℕ). written x r t) (a .1)
-  ∙ ap (λ (i : ℕ). written (written l at s) i t) (a .0)
-  ∙ written-twice l at s t room,
+      ∙ ap (λ (x : List ℕ). written x r t) (a .1)
+      ∙ ap (λ (i : ℕ). written (written l at s) i t) (a .0)
+      ∙ written-twice l at s t room,
 )
 
 -- no text
