@@ -7,7 +7,7 @@ use lib.ListN.{length}
 use Rattle.text.specs.declared.Copied.{Copied}
 use Rattle.text.specs.declared.Copied.the-variants.{Bytes, TooShort}
 use Rattle.text.specs.Copied.{copied}
-use Rattle.text.proofs.Copied.{bytes-counted}
+use Rattle.text.proofs.CopiedOut.{bytes-counted}
 use Rattle.packed.specs.Packed.{packedCopied}
 
 pub copied-fits : (text buffer : List ℕ) (r : Copied) → r ≡ copied text buffer → length buffer * 1 < 2 ^ 63 → packedCopied r ≤ 2 ^ 63

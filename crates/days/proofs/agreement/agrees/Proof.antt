@@ -7,7 +7,7 @@ use denote.Ref.{now}
 use Rattle.layout.specs.Layout.{mostSteps}
 use Rattle.listing.specs.declared.sheets.Sheet.the-variants.{Panel}
 use Rattle.listing.specs.Sheet.{room}
-use Rattle.text.proofs.Copied.{within, longer, part}
+use Rattle.text.proofs.CopiedOut.{within, longer, part}
 use Rattle.days.proofs.agreement.Laws.{made-printed, fits-the-panels-room}
 use borrow.Author.Needs.{needs}
 use Rattle.days.proofs.agreement.agrees.Statement.{statement}

@@ -3,7 +3,7 @@ use borrow.Author.Needs.{needs}
 use denote.Ref.{now}
 use Rattle.listing.specs.Printed.{printed}
 use Rattle.listing.specs.Sheet.{lineOn}
-use Rattle.text.proofs.Copied.{bytes-counted}
+use Rattle.text.proofs.CopiedOut.{bytes-counted}
 use Rattle.streams.proofs.printing.write_sheet.Statement.{statement}
 use Rattle.streams.proofs.printing.write_sheet.Tie as tie
 
