@@ -9,7 +9,7 @@ use Rattle.layout.specs.Layout.{pairBytes, four, fourBytes, fourAt, settingsByt
 use Rattle.dayfile.specs.Tests.{lengthWrong, markRight, trailerRight, zerosRight, settingsBytesRight, wellAt, leading, firstMalformed, someMalformed}
 use Rattle.dayfile.specs.Answers.{refusalNumber, readVerdict, readOf}
 use Rattle.rules.proofs.Days.{offeredAs, refusals, fresh}
-use Rattle.text.specs.Text.{decimalDigits, decimal}
+use Rattle.text.specs.Text.{decimalDigits, decimal, firstTexts}
 use Rattle.lines.specs.Lines.{word, refusedLine, header, verdictFields, fields, stepLine}
 use Rattle.lines.specs.PanelLine.{postField, postFields, trackName, panelFields, panelLine}
 use Rattle.whole_day.specs.Day.{sectionBefore, answerTo}
