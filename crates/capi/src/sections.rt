@@ -7,10 +7,10 @@ ghost use Rattle.packed.specs.Settings.{settingsGiven};
 use image::IMAGE_LENGTH;
 use image::reader;
 use image::writer;
-use notes::said_number;
 use packed::packed_indications;
 use packed::settings_given;
 use section::Verdict;
+use section::words::said_number;
 
 // What bytes that are no section's image give, as a state out of range does.
 const NO_IMAGE: u16 = 6;

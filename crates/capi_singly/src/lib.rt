@@ -10,13 +10,14 @@ ghost use Rattle.whole_day.specs.Notes.{notesOf};
 ghost use Rattle.capi_day.specs.Day.{dayAnswer, dayNotes};
 ghost use Rattle.packed.specs.Settings.{settingsGiven};
 use capi_day::day_refusal;
+use layout::step_at;
 use notes::NOTE_LENGTH;
-use notes::letter;
 use notes::put_note;
 use packed::settings_given;
 use section::Answer;
 use section::STEP_LENGTH;
 use section::Settings;
+use section::words::letter;
 use whole_day::can_be_noted;
 
 // Writes the note of an answer.
@@ -47,8 +48,7 @@ fn note_singly(c: Settings, steps: &[u8], count: usize, notes: &mut [u8])
     let mut state = section::fresh(c);
     let mut i: usize = 0;
     while i < count {
-        let start = i * STEP_LENGTH;
-        let answer = engine::judge(state, &steps[start..start + STEP_LENGTH]);
+        let answer = engine::judge(state, step_at(steps, i));
         state = answer.section;
         put_answer(notes, i * NOTE_LENGTH, answer);
         i += 1;

@@ -1,1 +1,1 @@
-mod Printed
+mod Laws

@@ -4,8 +4,8 @@ use mathlib.Core.List.{List}
 use Rattle.listing.specs.Listing.{listing}
 use Rattle.listing.specs.Panel.{panel}
 use Rattle.listing.specs.declared.sheets.Sheet.{Sheet}
-use Rattle.listing.specs.declared.sheets.Sheet.the-variants.{OfSteps, OfPosts}
+use Rattle.listing.specs.declared.sheets.Sheet.the-variants.{Listing, Panel}
 
 unfoldable pub made : Sheet → List ℕ → List ℕ
-made OfSteps file = listing file
-made OfPosts file = panel file
+made Listing file = listing file
+made Panel file = panel file

@@ -11,13 +11,13 @@ use listing::sheets::PANEL_ROOM;
 use listing::sheets::Sheet;
 use listing::sheets::panel_room;
 use listing::sheets::print;
-use text::Handed;
+use text::Copied;
 
 const SHEET_ROOM: usize = PANEL_ROOM + 1;
 
 // Room for stored bytes, one more than the longest panel has: those that fill it differ.
 pub fn sheet_room() -> [u8; SHEET_ROOM]
-    ensures { λ r. ⌜ r ≡ replicate (room Sheet.OfPosts mostSteps + 1) 0 ⌝ }
+    ensures { λ r. ⌜ r ≡ replicate (room Sheet.Panel mostSteps + 1) 0 ⌝ }
 {
     [0; SHEET_ROOM]
 }
@@ -28,9 +28,9 @@ pub fn agrees(sheet: Sheet, file: &[u8], stored: &[u8]) -> bool
     ensures { λ r. ⌜ (made sheet (now (file .entry)) ≡ now (stored .entry) → r ≡ true) ⌝ }
 {
     let mut buffer = panel_room();
-    let handed = print(sheet, file, &mut buffer);
-    match handed {
-        Handed::Bytes(length) => check::same(&buffer[0..length], stored),
-        Handed::TooShort => false,
+    let copied = print(sheet, file, &mut buffer);
+    match copied {
+        Copied::Bytes(length) => check::same(&buffer[0..length], stored),
+        Copied::TooShort => false,
     }
 }

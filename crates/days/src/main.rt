@@ -41,15 +41,15 @@ fn open(name: &[u8], ending: &[u8]) -> i32 {
 
 fn open_sheet(name: &[u8], sheet: Sheet) -> i32 {
     match sheet {
-        Sheet::OfSteps => open(name, b".listing"),
-        Sheet::OfPosts => open(name, b".panel"),
+        Sheet::Listing => open(name, b".listing"),
+        Sheet::Panel => open(name, b".panel"),
     }
 }
 
 fn difference_in(sheet: Sheet) -> Day {
     match sheet {
-        Sheet::OfSteps => Day::ListingDiffers,
-        Sheet::OfPosts => Day::PanelDiffers,
+        Sheet::Listing => Day::ListingDiffers,
+        Sheet::Panel => Day::PanelDiffers,
     }
 }
 
@@ -71,11 +71,11 @@ fn compare_sheet(name: &[u8], sheet: Sheet, file: &[u8]) -> Day {
 
 // The panel is looked at where the listing agrees.
 fn compare_file(name: &[u8], file: &[u8]) -> Day {
-    let day = compare_sheet(name, Sheet::OfSteps, file);
+    let day = compare_sheet(name, Sheet::Listing, file);
     if differs(day) {
         return day;
     }
-    compare_sheet(name, Sheet::OfPosts, file)
+    compare_sheet(name, Sheet::Panel, file)
 }
 
 fn run(name: &[u8]) -> Day {

@@ -1,8 +1,9 @@
 // The layout of a day file.
 ghost use mathlib.Core.Path.{_≡_};
-ghost use Prim.Native.Nat.{_+_, _≤_};
+ghost use Prim.Native.Nat.{_+_, _*_, _≤_};
 ghost use lib.ListN.{length};
-ghost use Rattle.layout.specs.Layout.{mostSteps, pairBytes, four, fourBytes, fourAt, settingsBytes, settingsDistance, settingsIn, settingsLength, settingsOf, stepCount, stepsIn, trailer, trailerIn};
+ghost use Rattle.section.specs.Numbers.{stepLength};
+ghost use Rattle.layout.specs.Layout.{mostSteps, pairBytes, four, fourBytes, fourAt, settingsBytes, settingsDistance, settingsIn, settingsLength, settingsOf, stepAt, stepCount, stepsIn, trailer, trailerIn};
 use section::STEP_LENGTH;
 use section::Settings;
 use section::pair_of;
@@ -73,6 +74,16 @@ pub fn steps_in(file: &[u8]) -> &[u8]
 {
     let end = file.len() - SETTINGS_DISTANCE;
     &file[0..end]
+}
+
+// The bytes of step i.
+pub fn step_at(steps: &[u8], i: usize) -> &[u8]
+    requires { ⌜ stepLength * i + stepLength ≤ length (now steps) ⌝ }
+    ensures { λ r. ⌜ now r ≡ stepAt (now (steps .entry)) i ⌝ }
+{
+    let start = i * STEP_LENGTH;
+    let end = start + STEP_LENGTH;
+    &steps[start..end]
 }
 
 // How many steps these bytes are, an incomplete one at the end with them.

@@ -4,16 +4,16 @@ ghost use Prim.Native.Nat.{_+_, _*_, _≤_, _<_};
 ghost use lib.ListN.{length};
 ghost use Rattle.section.specs.Numbers.{mostPosts};
 ghost use Rattle.text.specs.Text.{written};
-ghost use Rattle.lines.specs.Lamps.{trackName, lamps, lampsOf, panelFields, panelLineRoom};
+ghost use Rattle.lines.specs.PanelLine.{trackName, postField, postFields, panelFields, panelLineRoom};
 use section::Indications;
 use section::Section;
 
 // Writes what a post shows, and returns the next place.
-fn put_lamps(buffer: &mut [u8], at: usize, l: Indications) -> usize
+fn put_post(buffer: &mut [u8], at: usize, l: Indications) -> usize
     requires { ⌜ at + 6 ≤ length (now buffer) ⌝ }
     requires { ⌜ (l .circulation < 10) × ((l .troncon < 10) × (l .permission < 10)) ⌝ }
-    ensures { λ r. ⌜ r ≡ at + length (lamps l) ⌝ }
-    ensures { λ _. ⌜ now (buffer .exit) ≡ written (now (buffer .entry)) at (lamps l) ⌝ }
+    ensures { λ r. ⌜ r ≡ at + length (postField l) ⌝ }
+    ensures { λ _. ⌜ now (buffer .exit) ≡ written (now (buffer .entry)) at (postField l) ⌝ }
 {
     text::put_text(
         buffer,
@@ -32,14 +32,14 @@ fn put_lamps(buffer: &mut [u8], at: usize, l: Indications) -> usize
 // Writes what every post shows on a track, and returns the next place.
 fn put_posts(buffer: &mut [u8], at: usize, s: Section, track: u8) -> usize
     requires { ⌜ at + 6 * s .settings .posts ≤ length (now buffer) ⌝ }
-    ensures { λ r. ⌜ r ≡ at + length (lampsOf s track) ⌝ }
-    ensures { λ _. ⌜ now (buffer .exit) ≡ written (now (buffer .entry)) at (lampsOf s track) ⌝ }
+    ensures { λ r. ⌜ r ≡ at + length (postFields s track) ⌝ }
+    ensures { λ _. ⌜ now (buffer .exit) ≡ written (now (buffer .entry)) at (postFields s track) ⌝ }
 {
     let n = s.settings.posts;
     let mut next = at;
     let mut p = 0;
     while p < n {
-        next = put_lamps(buffer, next, indications::indications(s, track, p));
+        next = put_post(buffer, next, indications::indications(s, track, p));
         p += 1;
     }
     next

@@ -9,13 +9,13 @@ use Rattle.layout.specs.Layout.{stepAt, stepsIn}
 use Rattle.dayfile.specs.Answers.{readOf}
 use Rattle.dayfile.specs.declared.Reading.{Reading}
 use Rattle.dayfile.specs.declared.Reading.the-variants.{Day, Refused}
-use Rattle.lines.specs.Text.{inTurn}
+use Rattle.text.specs.Text.{firstTexts}
 use Rattle.lines.specs.Lines.{refusedLine, header}
 use Rattle.whole_day.specs.Day.{answerTo}
 
 -- a line per step: `line` gives it from the step's index, its bytes and the answer to it
 unfoldable pub lines : (ℕ → List ℕ → Answer → List ℕ) → Section → List ℕ → ℕ → List ℕ
-lines line first steps count = inTurn (λ i. line i (stepAt steps i) (answerTo first steps i)) count
+lines line first steps count = firstTexts (λ i. line i (stepAt steps i) (answerTo first steps i)) count
 
 -- "A refused file gives one line. Else a header, then a line per step."
 unfoldable pub printedRead : (ℕ → List ℕ → Answer → List ℕ) → Reading → Settings → List ℕ → List ℕ

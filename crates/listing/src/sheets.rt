@@ -9,30 +9,30 @@ ghost use Rattle.section.specs.Settings.{settingsRight};
 ghost use Rattle.layout.specs.Layout.{mostSteps};
 ghost use Rattle.dayfile.specs.declared.Reading.{Reading};
 ghost use Rattle.text.specs.Text.{written};
-ghost use Rattle.text.specs.Handed.{handed, handedOver};
+ghost use Rattle.text.specs.Copied.{copied, copiedOut};
 ghost use Rattle.lines.specs.Lines.{stepLineRoom};
 ghost use Rattle.notes.specs.Note.{noteLength};
-ghost use Rattle.lines.specs.Lamps.{panelLineRoom};
+ghost use Rattle.lines.specs.PanelLine.{panelLineRoom};
 ghost use Rattle.listing.specs.declared.sheets.Sheet.{Sheet};
 ghost use Rattle.listing.specs.Printed.{lines, printedRead, printed};
 ghost use Rattle.listing.specs.Sheet.{lineOn, lineRoom, room};
 use dayfile::Reading;
 use layout::MOST_STEPS;
+use layout::step_at;
+use lines::listing::put_noted_lines;
 use lines::panel::put_panel;
 use lines::put_header;
 use lines::put_refused;
-use lines::steps::put_noted_lines;
 use notes::NOTE_LENGTH;
-use section::STEP_LENGTH;
 use section::Settings;
-use text::Handed;
-use text::hand_over;
+use text::Copied;
+use text::copy_out;
 use whole_day::note_day;
 
 // What is printed of each step: what it did, or what the posts show after it.
 pub enum Sheet {
-    OfSteps,
-    OfPosts,
+    Listing,
+    Panel,
 }
 
 // The longest header, and the longest line of a step in a listing and in a panel.
@@ -53,21 +53,14 @@ fn room_for(sheet: Sheet) -> usize
     ensures { λ r. ⌜ r ≡ room sheet mostSteps ⌝ }
 {
     match sheet {
-        Sheet::OfSteps => LISTING_ROOM,
-        Sheet::OfPosts => PANEL_ROOM,
+        Sheet::Listing => LISTING_ROOM,
+        Sheet::Panel => PANEL_ROOM,
     }
-}
-
-// Room for the longest listing.
-pub fn listing_room() -> [u8; LISTING_ROOM]
-    ensures { λ r. ⌜ r ≡ replicate (room Sheet.OfSteps mostSteps) 0 ⌝ }
-{
-    [0; LISTING_ROOM]
 }
 
 // Room for the longest panel.
 pub fn panel_room() -> [u8; PANEL_ROOM]
-    ensures { λ r. ⌜ r ≡ replicate (room Sheet.OfPosts mostSteps) 0 ⌝ }
+    ensures { λ r. ⌜ r ≡ replicate (room Sheet.Panel mostSteps) 0 ⌝ }
 {
     [0; PANEL_ROOM]
 }
@@ -81,11 +74,11 @@ fn room_for_notes() -> [u8; NOTES_ROOM]
 
 // Writes the listing's lines of all steps, from the notes taken of them, and returns the next place. Such a day can be noted, so the answer
 // is not looked at.
-fn put_step_lines(buffer: &mut [u8], at: usize, c: Settings, steps: &[u8], count: usize) -> usize
+fn put_listing_lines(buffer: &mut [u8], at: usize, c: Settings, steps: &[u8], count: usize) -> usize
     requires { ⌜ (at + stepLineRoom * count ≤ length (now buffer)) × (count ≤ mostSteps) ⌝ }
     requires { ⌜ (stepLength * count ≤ length (now steps)) × (settingsRight c ≡ true) ⌝ }
-    ensures { λ r. ⌜ r ≡ at + length (lines (lineOn Sheet.OfSteps) (freshSection c) (now (steps .entry)) count) ⌝ }
-    ensures { λ _. ⌜ now (buffer .exit) ≡ written (now (buffer .entry)) at (lines (lineOn Sheet.OfSteps) (freshSection c) (now (steps .entry)) count) ⌝ }
+    ensures { λ r. ⌜ r ≡ at + length (lines (lineOn Sheet.Listing) (freshSection c) (now (steps .entry)) count) ⌝ }
+    ensures { λ _. ⌜ now (buffer .exit) ≡ written (now (buffer .entry)) at (lines (lineOn Sheet.Listing) (freshSection c) (now (steps .entry)) count) ⌝ }
 {
     let mut notes = room_for_notes();
     note_day(c, steps, count, &mut notes);
@@ -93,18 +86,17 @@ fn put_step_lines(buffer: &mut [u8], at: usize, c: Settings, steps: &[u8], count
 }
 
 // Writes the panel's lines of all steps, each judged on the section that the one before left, and returns the next place.
-fn put_post_lines(buffer: &mut [u8], at: usize, c: Settings, steps: &[u8], count: usize) -> usize
+fn put_panel_lines(buffer: &mut [u8], at: usize, c: Settings, steps: &[u8], count: usize) -> usize
     requires { ⌜ at + panelLineRoom * count ≤ length (now buffer) ⌝ }
     requires { ⌜ (stepLength * count ≤ length (now steps)) × (settingsRight c ≡ true) ⌝ }
-    ensures { λ r. ⌜ r ≡ at + length (lines (lineOn Sheet.OfPosts) (freshSection c) (now (steps .entry)) count) ⌝ }
-    ensures { λ _. ⌜ now (buffer .exit) ≡ written (now (buffer .entry)) at (lines (lineOn Sheet.OfPosts) (freshSection c) (now (steps .entry)) count) ⌝ }
+    ensures { λ r. ⌜ r ≡ at + length (lines (lineOn Sheet.Panel) (freshSection c) (now (steps .entry)) count) ⌝ }
+    ensures { λ _. ⌜ now (buffer .exit) ≡ written (now (buffer .entry)) at (lines (lineOn Sheet.Panel) (freshSection c) (now (steps .entry)) count) ⌝ }
 {
     let mut state = section::fresh(c);
     let mut next = at;
     let mut i = 0;
     while i < count {
-        let start = i * STEP_LENGTH;
-        let bytes = &steps[start..start + STEP_LENGTH];
+        let bytes = step_at(steps, i);
         let answer = engine::judge(state, bytes);
         state = answer.section;
         next = put_panel(buffer, next, i, bytes[1], state);
@@ -128,8 +120,8 @@ fn put_lines(
     ensures { λ _. ⌜ now (buffer .exit) ≡ written (now (buffer .entry)) at (lines (lineOn sheet) (freshSection c) (now (steps .entry)) count) ⌝ }
 {
     match sheet {
-        Sheet::OfSteps => put_step_lines(buffer, at, c, steps, count),
-        Sheet::OfPosts => put_post_lines(buffer, at, c, steps, count),
+        Sheet::Listing => put_listing_lines(buffer, at, c, steps, count),
+        Sheet::Panel => put_panel_lines(buffer, at, c, steps, count),
     }
 }
 
@@ -165,14 +157,14 @@ fn put_sheet(sheet: Sheet, file: &[u8], buffer: &mut [u8]) -> usize
 }
 
 // What is printed of a file, at the front of the buffer, if it is long enough. A buffer that any sheet fits is written to at once.
-pub fn print(sheet: Sheet, file: &[u8], buffer: &mut [u8]) -> Handed
-    ensures { λ r. ⌜ r ≡ handed (printed (lineOn sheet) (now (file .entry))) (now (buffer .entry)) ⌝ }
-    ensures { λ _. ⌜ now (buffer .exit) ≡ handedOver (printed (lineOn sheet) (now (file .entry))) (now (buffer .entry)) ⌝ }
+pub fn print(sheet: Sheet, file: &[u8], buffer: &mut [u8]) -> Copied
+    ensures { λ r. ⌜ r ≡ copied (printed (lineOn sheet) (now (file .entry))) (now (buffer .entry)) ⌝ }
+    ensures { λ _. ⌜ now (buffer .exit) ≡ copiedOut (printed (lineOn sheet) (now (file .entry))) (now (buffer .entry)) ⌝ }
 {
     if room_for(sheet) <= buffer.len() {
-        return Handed::Bytes(put_sheet(sheet, file, buffer));
+        return Copied::Bytes(put_sheet(sheet, file, buffer));
     }
     let mut space = panel_room();
     let length = put_sheet(sheet, file, &mut space);
-    hand_over(&space[0..length], buffer)
+    copy_out(&space[0..length], buffer)
 }

@@ -6,8 +6,8 @@ use Rattle.dayfile.specs.declared.Reading.{Reading}
 use Rattle.dayfile.specs.declared.Reading.the-variants.{Day, Refused}
 use Rattle.dayfile.specs.declared.Written.{Written}
 use Rattle.dayfile.specs.declared.Written.the-variants.{Bytes, Refused as NotWritten}
-use Rattle.text.specs.declared.Handed.{Handed}
-use Rattle.text.specs.declared.Handed.the-variants.{Bytes as HandedBytes, TooShort}
+use Rattle.text.specs.declared.Copied.{Copied}
+use Rattle.text.specs.declared.Copied.the-variants.{Bytes as CopiedBytes, TooShort}
 
 -- the refusal × 65,536, and the count of steps or the refusal's index
 unfoldable pub packedReading : Reading → ℕ
@@ -28,6 +28,6 @@ unfoldable pub packedIndications : Indications → ℕ
 packedIndications i = i .circulation + i .troncon * 8 + i .permission * 64
 
 -- the length and 1, or 0 for a buffer too short
-unfoldable pub packedHanded : Handed → ℕ
-packedHanded (HandedBytes size) = size + 1
-packedHanded TooShort = 0
+unfoldable pub packedCopied : Copied → ℕ
+packedCopied (CopiedBytes size) = size + 1
+packedCopied TooShort = 0

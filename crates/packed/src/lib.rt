@@ -1,13 +1,13 @@
 // What the C interface takes and returns: settings field by field, and answers packed into one number.
 ghost use mathlib.Core.Path.{_≡_};
 ghost use Prim.Native.Nat.{_<_, _≤_, _^_};
-ghost use Rattle.packed.specs.Packed.{packedReading, packedSettings, packedWritten, packedIndications, packedHanded};
+ghost use Rattle.packed.specs.Packed.{packedReading, packedSettings, packedWritten, packedIndications, packedCopied};
 ghost use Rattle.packed.specs.Settings.{settingsGiven};
 use dayfile::Reading;
 use dayfile::Written;
 use section::Indications;
 use section::Settings;
-use text::Handed;
+use text::Copied;
 
 // The settings that a call hands in, field by field.
 pub fn settings_given(n: u8, form: u8, mask: u16, line: u16) -> Settings
@@ -60,12 +60,12 @@ pub fn packed_indications(shown: Indications) -> u16
 }
 
 // No buffer, and so no text in it, is as long as 2^63 bytes.
-pub fn packed_handed(done: Handed) -> u64
-    requires { ⌜ packedHanded done ≤ 2 ^ 63 ⌝ }
-    ensures { λ r. ⌜ r ≡ packedHanded done ⌝ }
+pub fn packed_copied(done: Copied) -> u64
+    requires { ⌜ packedCopied done ≤ 2 ^ 63 ⌝ }
+    ensures { λ r. ⌜ r ≡ packedCopied done ⌝ }
 {
     match done {
-        Handed::Bytes(size) => (size as u64) + 1,
-        Handed::TooShort => 0,
+        Copied::Bytes(size) => (size as u64) + 1,
+        Copied::TooShort => 0,
     }
 }

@@ -3,6 +3,7 @@
 use Prim.Native.Nat.{ℕ}
 use Prim.Native.Char.{code}
 use mathlib.Core.Bool.{Bool, cond}
+use lib.Dec.{eqb}
 use Rattle.section.specs.declared.Said.{Said}
 use Rattle.section.specs.declared.Said.the-variants.{Nothing, Cvt, Cvtz, Vns, Vnsz}
 use Rattle.section.specs.declared.Track.{Track}
@@ -27,6 +28,15 @@ saidNumber Cvt = 1
 saidNumber Cvtz = 2
 saidNumber Vns = 3
 saidNumber Vnsz = 4
+
+-- what a number stands for
+unfoldable pub saidNumbered : ℕ → Said
+saidNumbered number =
+    cond (eqb number 1) Cvt
+    (cond (eqb number 2) Cvtz
+    (cond (eqb number 3) Vns
+    (cond (eqb number 4) Vnsz
+    Nothing)))
 
 -- "V or C settled; c or v, reversing to CVT or VNS"
 unfoldable pub letter : Walk → Bool → ℕ

@@ -4,6 +4,7 @@ mod fresh_section;
 mod little_endian;
 pub mod positions;
 mod post_record;
+pub mod words;
 
 pub use fresh_section::fresh;
 pub use little_endian::pair_of;

@@ -19,10 +19,9 @@ use Rattle.section.specs.Step.{decoded}
 use Rattle.section.proofs.Laws.{fresh-in-range}
 use Rattle.rules.specs.Judge.{judgeInRange}
 use Rattle.layout.specs.Layout.{stepAt}
-use Rattle.text.specs.Text.{written}
+use Rattle.text.specs.Text.{written, firstTexts}
 use Rattle.section.specs.Words.{trackLetter}
-use Rattle.lines.specs.Text.{inTurn}
-use Rattle.lines.proofs.Puts.{none-put}
+use Rattle.text.proofs.Laws.{none-put}
 use Rattle.notes.specs.Note.{noteLength, noteWith, note}
 use Rattle.site.specs.declared.running.Running.{Running}
 use Rattle.judging.proofs.at_post.OnTrack.{malformed}
@@ -46,7 +45,7 @@ pub record Walked
   pub within : i ≤ count
   pub room : noteLength * count ≤ length lent
   pub same-length : length notes ≡ length lent
-  pub noted : notes ≡ written lent 0 (inTurn (noteOn c steps) i)
+  pub noted : notes ≡ written lent 0 (firstTexts (noteOn c steps) i)
   pub before : sectionIn posts trains last running c ≡ sectionBefore (freshSection c) steps i
   pub range : inRange (sectionIn posts trains last running c) ≡ true
   pub two : Two posts trains last running c

@@ -6,14 +6,13 @@ ghost use Prim.Native.Nat.{_+_, _*_, _<_, _≤_};
 ghost use lib.ListN.{length, replicate};
 ghost use Rattle.section.specs.Numbers.{stepLength};
 ghost use Rattle.section.specs.Settings.{settingsRight};
-ghost use Rattle.section.specs.Step.{decoded};
-ghost use Rattle.layout.specs.Layout.{stepAt};
 ghost use Rattle.text.specs.Text.{written};
 ghost use Rattle.section.specs.Words.{letter};
 ghost use Rattle.notes.specs.Note.{noteLength, noteWith};
 ghost use Rattle.whole_day.specs.Notes.{notesOf, canBeNoted, notesAfter};
 ghost use Rattle.whole_day.specs.Rows.{row, freshPosts, settled, letterAt};
 use judging::at_post::judge_step;
+use layout::step_at;
 use notes::NOTE_LENGTH;
 use notes::put_note;
 use ranges::settings::settings_right;
@@ -25,6 +24,7 @@ use section::Settings;
 use section::Trains;
 use section::Verdict;
 use section::Walk;
+use section::words;
 use site::running::Running;
 use site::running::place_of;
 
@@ -62,16 +62,7 @@ fn letter_of(running: Running) -> u8
     ensures { λ r. ⌜ r ≡ letter (running .walk) (running .cvt) ⌝ }
 {
     let walk = running.walk;
-    notes::letter(walk, running.cvt)
-}
-
-// Step i of a day.
-fn step_at(n: u8, steps: &[u8], i: usize) -> Decoded
-    requires { ⌜ stepLength * i + stepLength ≤ length (now steps) ⌝ }
-    ensures { λ r. ⌜ r ≡ decoded n (stepAt (now (steps .entry)) i) ⌝ }
-{
-    let start = i * STEP_LENGTH;
-    steps::decode(n, &steps[start..start + STEP_LENGTH])
+    words::letter(walk, running.cvt)
 }
 
 // Notes the verdict on step i, and the letters of the two tracks after it.
@@ -96,7 +87,7 @@ fn note_from(c: Settings, fresh: [Posts; 2], steps: &[u8], count: usize, notes: 
     let mut running = both_settled();
     let mut i: usize = 0;
     while i < count {
-        let d = step_at(c.posts, steps, i);
+        let d = steps::decode(c.posts, step_at(steps, i));
         let Decoded::Well(x) = d else {
             note_verdict(notes, i, Verdict::Refused(4), running);
             i += 1;

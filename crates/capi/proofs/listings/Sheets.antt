@@ -4,13 +4,13 @@ use mathlib.Core.Path.{_≡_, refl}
 use mathlib.Core.List.{List}
 use native.Mathlib.Omega.{arith}
 use lib.ListN.{length}
-use Rattle.text.specs.declared.Handed.{Handed}
-use Rattle.text.specs.declared.Handed.the-variants.{Bytes, TooShort}
-use Rattle.text.specs.Handed.{handed}
-use Rattle.text.proofs.HandedOver.{bytes-counted}
-use Rattle.packed.specs.Packed.{packedHanded}
+use Rattle.text.specs.declared.Copied.{Copied}
+use Rattle.text.specs.declared.Copied.the-variants.{Bytes, TooShort}
+use Rattle.text.specs.Copied.{copied}
+use Rattle.text.proofs.CopiedOut.{bytes-counted}
+use Rattle.packed.specs.Packed.{packedCopied}
 
-pub handed-fits : (text buffer : List ℕ) (r : Handed) → r ≡ handed text buffer → length buffer * 1 < 2 ^ 63 → packedHanded r ≤ 2 ^ 63
-unfolding packedHanded
-handed-fits text buffer (Bytes n) e h = omega (arith, bytes-counted text buffer (Bytes n) e buffer n refl refl .0)
-handed-fits text buffer TooShort e h = omega arith
+pub copied-fits : (text buffer : List ℕ) (r : Copied) → r ≡ copied text buffer → length buffer * 1 < 2 ^ 63 → packedCopied r ≤ 2 ^ 63
+unfolding packedCopied
+copied-fits text buffer (Bytes n) e h = omega (arith, bytes-counted text buffer (Bytes n) e buffer n refl refl .0)
+copied-fits text buffer TooShort e h = omega arith

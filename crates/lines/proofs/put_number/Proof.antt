@@ -1,7 +1,6 @@
 -- A number and a byte are one text: what is put after a text continues it (`then`).
 use borrow.Author.Needs.{needs}
-use Rattle.text.proofs.Laws.{decimal-length}
-use Rattle.lines.proofs.Puts.{then}
+use Rattle.text.proofs.Laws.{decimal-length, then}
 use native.Mathlib.Omega.{arith}
 use denote.Ref.{now}
 use Rattle.text.specs.Text.{decimal}

@@ -1,6 +1,6 @@
 -- The walk's laws, at each place of the loop.
 use Prim.Native.Nat.{_-_, _<_}
-use mathlib.Core.Path.{_≡_, sym, _∙_}
+use mathlib.Core.Path.{_≡_, sym, _∙_, ap}
 use native.Mathlib.Omega.{arith}
 use Rattle.section.specs.declared.Decoded.the-variants.{Well}
 use Rattle.section.specs.declared.TrackStep.{TrackStep}
@@ -24,11 +24,14 @@ abbrev μ-loop : tie.MeasureT-loop
 
 -- ## What the code knows once it has the place of a well-formed step's post
 
-abbrev offered : tie.After-place-of Inv-loop μ-loop → tie.After-step-at Inv-loop μ-loop
+abbrev offered : tie.After-place-of Inv-loop μ-loop → tie.After-decode Inv-loop μ-loop
 offered c = c .before .before .before .before .before
 
+abbrev taken : tie.After-place-of Inv-loop μ-loop → tie.After-step-at Inv-loop μ-loop
+taken c = offered c .before
+
 abbrev looped : tie.After-place-of Inv-loop μ-loop → tie.At-loop Inv-loop μ-loop
-looped c = offered c .before .before
+looped c = taken c .before .before
 
 abbrev start : tie.After-place-of Inv-loop μ-loop → tie.Start Inv-loop μ-loop
 start c = looped c .before .before .before .before
@@ -37,12 +40,13 @@ abbrev step : tie.After-place-of Inv-loop μ-loop → TrackStep
 step c = c .before .before .before .d .given .0 .0
 
 more : (c : tie.After-place-of Inv-loop μ-loop) → looped c .loop .i < start c .args .count
-more c = offered c .before .loop-test .taken
+more c = taken c .before .loop-test .taken
 
 says :
     (c : tie.After-place-of Inv-loop μ-loop)
     → decoded (start c .args .c .posts) (stepAt (start c .args .steps .now) (looped c .loop .i)) ≡ Well (step c)
-says c = sym (offered c .step-at .ensures) ∙ c .before .before .before .d .given .1
+says c =
+    ap (decoded _) (sym (taken c .step-at .ensures)) ∙ sym (offered c .decode .ensures) ∙ c .before .before .before .d .given .1
 
 -- the posts of a track are 16
 post-among : (c : tie.After-place-of Inv-loop μ-loop) → postOf (step c .step) < mostPosts
@@ -70,7 +74,7 @@ step-at-requires c κs = omega arith
 
 note-verdict-requires : tie.Need-note-verdict-requires Inv-loop μ-loop
 note-verdict-requires c κs =
-    let in-loop = c .before .before .before .before in
+    let in-loop = c .before .before .before .before .before in
     note-fits (in-loop .before .loop .inv) (in-loop .loop-test .taken)
 
 add-i : tie.Need-add-i Inv-loop μ-loop
@@ -83,9 +87,11 @@ loop-again : tie.Need-loop-again Inv-loop μ-loop
 loop-again c =
     let noted = c .before .before in
     let told = noted .before .before in
-    let offered = told .before .before in
-    let in-loop = offered .before in
-    passes-over (in-loop .before .loop .inv) (in-loop .loop-test .taken) (sym (offered .step-at .ensures) ∙ told .enum-told .given .1)
+    let decode = told .before .before in
+    let taken = decode .before in
+    let in-loop = taken .before in
+    passes-over (in-loop .before .loop .inv) (in-loop .loop-test .taken)
+    (ap (decoded _) (sym (taken .step-at .ensures)) ∙ sym (decode .decode .ensures) ∙ told .enum-told .given .1)
     (noted .note-verdict .ensures) (noted .note-verdict .kept .0)
 
 mul-judge-step : tie.Need-mul-judge-step Inv-loop μ-loop
@@ -181,6 +187,7 @@ note-from-spec =
     (λ c κs. search needs)
     loop-holds
     step-at-requires
+    (λ c κs. search needs)
     (λ c. search needs)
     (λ c. search needs)
     note-verdict-requires

@@ -3,9 +3,10 @@ use borrow.Author.Needs.{needs}
 use native.Mathlib.Omega.{arith}
 use denote.Ref.{now}
 use mathlib.Core.List.{[], _∷_}
-use Rattle.lines.specs.Lamps.{lampsOf, panelFields}
-use Rattle.lines.proofs.Puts.{number-length, number-then, then}
-use Rattle.lines.proofs.panel.Shown.{lamps-length}
+use Rattle.lines.specs.PanelLine.{postFields, panelFields}
+use Rattle.text.proofs.Laws.{then}
+use Rattle.lines.proofs.Puts.{number-length, number-then}
+use Rattle.lines.proofs.panel.Laws.{post-fields-length}
 use Rattle.lines.proofs.panel.put_panel.Statement.{statement}
 use Rattle.lines.proofs.panel.put_panel.Tie as tie
 
@@ -20,7 +21,7 @@ put-posts-requires c κs =
 put-byte-requires-2 : tie.Need-put-byte-requires-2
 put-byte-requires-2 c κs =
     let entry = c .before .before .before .before .before .before .before .before .before .before .before .before .before .before .before in
-    let a = entry .args in omega (arith, number-length (a .index) 32, lamps-length (a .s) (a .track))
+    let a = entry .args in omega (arith, number-length (a .index) 32, post-fields-length (a .s) (a .track))
 
 returns : tie.Need-returns
 unfolding panelFields
@@ -33,11 +34,11 @@ returns c =
     let entry = at-put-number .before .before .before in
     let a = entry .args in
     let h = number-length (a .index) 32 in
-    let k = lamps-length (a .s) (a .track) in
+    let k = post-fields-length (a .s) (a .track) in
     rw (← at-track-name .track-name .ensures)
     (number-then (now (a .buffer)) _ _ (a .at) _ _ (a .index) 32 _ (omega arith) (at-put-number .put-number .ensures)
     (then _ _ _ _ _ _ (at-track-name .track-name .result ∷ []) _ (omega arith) (at-put-byte .put-byte .ensures)
-    (then _ _ _ _ _ _ (lampsOf (a .s) (a .track)) _ (omega arith) (at-put-posts .put-posts .ensures) (at-put-byte2 .put-byte2 .ensures))))
+    (then _ _ _ _ _ _ (postFields (a .s) (a .track)) _ (omega arith) (at-put-posts .put-posts .ensures) (at-put-byte2 .put-byte2 .ensures))))
 
 pub put-panel-spec : {M : Type 1} → statement M
 put-panel-spec =

@@ -1,5 +1,5 @@
 use borrow.Author.Tests.{eq-eqb, ne-eqb}
-use Rattle.lines.specs.Lamps.{trackName}
+use Rattle.lines.specs.PanelLine.{trackName}
 use Rattle.lines.proofs.panel.track_name.Statement.{statement}
 use Rattle.lines.proofs.panel.track_name.Tie as tie
 

@@ -6,7 +6,8 @@ use native.Mathlib.Nat.{zero-add}
 use denote.Ref.{now}
 use Rattle.section.specs.Fresh.{freshSection}
 use Rattle.lines.specs.Lines.{header}
-use Rattle.lines.proofs.Puts.{header-length, then}
+use Rattle.text.proofs.Laws.{then}
+use Rattle.lines.proofs.Puts.{header-length}
 use Rattle.listing.specs.Printed.{lines, printedRead}
 use Rattle.listing.specs.Sheet.{lineOn, room}
 use Rattle.listing.proofs.sheets.put_day.Statement.{statement}

@@ -6,7 +6,7 @@ use native.Mathlib.Nat.{zero-add}
 use denote.Ref.{now}
 use Rattle.dayfile.specs.declared.ReadAnswer.{ReadAnswer}
 use Rattle.listing.specs.Sheet.{room}
-use Rattle.listing.proofs.sheets.Days.{fewer-fit, few-steps-read, steps-whole, settings-read-right, printed-refused, printed-day, same-text}
+use Rattle.listing.proofs.sheets.Laws.{fewer-fit, few-steps-read, steps-whole, settings-read-right, printed-refused, printed-day, same-text}
 use Rattle.listing.proofs.sheets.put_sheet.Statement.{statement}
 use Rattle.listing.proofs.sheets.put_sheet.Tie as tie
 
