@@ -3,7 +3,7 @@ use Prim.Native.Nat.{ℕ}
 use mathlib.Core.Path.{_≡_, refl}
 use mathlib.Core.List.{List, []}
 use Rattle.section.specs.Words.{saidBy}
-use Rattle.section.specs.Step.{isWell, wellFormed}
+use Rattle.section.specs.Step.{wellFormed}
 use Rattle.rules.specs.Indications.{setCount, isNextToSet, circulation, troncon, shown, lampsAt, dark, indicationsOn, indications}
 use Rattle.layout.specs.Layout.{pairBytes, four, fourBytes, fourAt, settingsBytes, trailer, stepCount, fileOf, fromEnd, trailerIn, settingsIn, stepsIn}
 use Rattle.layout.specs.Layout.{settingsOf, stepAt}
@@ -25,7 +25,7 @@ unfoldable listingOf : List ℕ → List ℕ
 unfolding refusedLine header verdictFields fields stepLine sectionBefore answerTo lines printedRead printed listing inTurn word letter trackLetter
     decimalDigits decimal
     refusals fresh saidBy readOf readVerdict refusalNumber lengthWrong trailerRight markRight settingsBytesRight zerosRight someMalformed
-    firstMalformed leading wellAt wellFormed isWell trailerIn settingsIn stepsIn fromEnd settingsOf stepAt fourAt four
+    firstMalformed leading wellAt wellFormed trailerIn settingsIn stepsIn fromEnd settingsOf stepAt fourAt four
 listingOf file = listing file
 
 unfoldable panelOf : List ℕ → List ℕ

@@ -5,7 +5,7 @@ pub mod well_formed;
 ghost use mathlib.Core.Path.{_≡_};
 ghost use lib.ListN.{length};
 ghost use Rattle.section.specs.Numbers.{stepLength};
-ghost use Rattle.section.specs.Step.{faultOf, stepOf, stepSaid, decoded};
+ghost use Rattle.section.specs.Step.{fields, faultOf, stepOf, stepSaid, decoded};
 use crate::well_formed::is_well_formed;
 use section::Decoded;
 use section::Fault;
@@ -24,7 +24,7 @@ fn fault_of(fault: u8) -> Fault
 }
 
 fn step_of(kind: u8, post: u8, fault: u8, number: u16) -> Step
-    ensures { λ r. ⌜ r ≡ stepOf kind post fault number ⌝ }
+    ensures { λ r. ⌜ r ≡ stepOf (fields kind post fault number) ⌝ }
 {
     match kind {
         1 => Step::Order { post: post },

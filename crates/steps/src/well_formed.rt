@@ -1,7 +1,7 @@
 // Whether eight bytes say a step: every test of document 01's steps.
 ghost use mathlib.Core.Path.{_≡_};
 ghost use Rattle.section.specs.Bytes.{within};
-ghost use Rattle.section.specs.Step.{faultRight, numberRight, placeRight, fieldsRight, wellFormed};
+ghost use Rattle.section.specs.Step.{fields, faultRight, numberRight, placeRight, fieldsRight, wellFormed};
 use section::LARGEST_TRAIN;
 use section::STEP_LENGTH;
 use section::pair_of;
@@ -46,7 +46,7 @@ fn place_right(n: u8, kind: u16, track: u8, post: u8) -> bool
 }
 
 fn fields_right(n: u8, kind: u8, track: u8, post: u8, fault: u8, number: u16, zeros: u16) -> bool
-    ensures { λ r. ⌜ r ≡ fieldsRight n kind track post fault number zeros ⌝ }
+    ensures { λ r. ⌜ r ≡ fieldsRight n track (fields kind post fault number) zeros ⌝ }
 {
     let k = kind as u16;
     if !place_right(n, k, track, post) {
