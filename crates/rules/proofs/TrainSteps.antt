@@ -5,7 +5,7 @@ use mathlib.Core.Path.{_≡_, refl, sym, ap, _∙_}
 use mathlib.Core.List.{List}
 use lib.Dec.{eqb}
 use Rattle.section.specs.Bytes.{within}
-use Rattle.section.specs.Step.{kindOf, numberOf}
+use Rattle.section.specs.Step.{isTrainKind, kindOf, numberOf}
 use Rattle.rules.specs.Demand3.{Taken, kind, post, number, isStepOfTrain, isOfTrain, Run, noteStep}
 use Rattle.rules.proofs.View.{order, setDevice, announce, acknowledge, key, Motion, start, pass, leave, measures, fault}
 use Rattle.rules.proofs.View.{View, walks, runs, notes, releases, flat, post-flat, Seen, shown}
@@ -33,7 +33,7 @@ note-kind p pass y rs = refl
 note-kind p leave y rs = refl
 
 -- kinds 5 to 7 are the motions
-train-kind : (p z number : ℕ) (k : View) → numberOf (flat p k) ≡ number → (within 5 7 (kindOf (flat p k)) && eqb number z) ≡ ofTrain z k
+train-kind : (p z number : ℕ) (k : View) → numberOf (flat p k) ≡ number → (isTrainKind (kindOf (flat p k)) && eqb number z) ≡ ofTrain z k
 unfolding within kindOf numberOf flat
 train-kind p z number (walks order) e = refl
 train-kind p z number (walks setDevice) e = refl

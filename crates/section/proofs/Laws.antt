@@ -21,7 +21,7 @@ use Rattle.section.specs.declared.Walk.the-variants.{Turn}
 use Rattle.section.specs.Bytes.{within}
 use Rattle.section.specs.Fresh.{freshTrack, freshSection}
 use Rattle.section.specs.Geometry.{upward, rank, block, isLast}
-use Rattle.section.specs.Numbers.{mostPosts, mostBlocks, mostSeals, largestTrain}
+use Rattle.section.specs.Numbers.{leastPosts, mostPosts, mostBlocks, mostSeals, largestTrain}
 use Rattle.section.specs.Post.{blank, permitted}
 use Rattle.section.specs.Range.{sealsFit, numbersFit, actFits, walkFits, trackFits, inRange}
 use Rattle.section.specs.Settings.{settingsRight}
@@ -180,11 +180,13 @@ unfolding trackFits
 track-cells n track t =
     regroup (sealsFit n (t .posts)) (numbersFit (n - 1) (t .trains)) (numbersFit (n - 1) (t .last)) (walkFits n (upward track (t .cvt)) (t .walk))
 
-pub posts-right : (c : Settings) → settingsRight c ≡ true → (2 ≤ c .posts) × (c .posts ≤ 16)
+pub posts-right : (c : Settings) → settingsRight c ≡ true → (leastPosts ≤ c .posts) × (c .posts ≤ mostPosts)
 unfolding settingsRight within
 posts-right c h =
-    let r : (leb 2 (c .posts) && leb (c .posts) 16) ≡ true = and-left _ _ h in
-    (leb-true _ _ (and-left (leb 2 (c .posts)) (leb (c .posts) 16) r), leb-true _ _ (and-right (leb 2 (c .posts)) (leb (c .posts) 16) r))
+    let least = leb leastPosts (c .posts) in
+    let most = leb (c .posts) mostPosts in
+    let r : (least && most) ≡ true = and-left _ _ h in
+    (leb-true _ _ (and-left least most r), leb-true _ _ (and-right least most r))
 
 -- a track in its ranges
 pub record TrackRight (n : ℕ) (track : Bool) (t : Track) : Type 0 where

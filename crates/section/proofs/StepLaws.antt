@@ -15,7 +15,8 @@ use Rattle.section.specs.declared.Step.the-variants.{Order, Set, Announc
 use Rattle.section.specs.declared.Step.the-variants.{MeasuresOn, MeasuresOff, FaultOn, FaultOff, Release, Key}
 use Rattle.section.specs.declared.Decoded.the-variants.{Well, Malformed}
 use Rattle.section.specs.Bytes.{byte, pair, within, AllBytes}
-use Rattle.section.specs.Numbers.{largestTrain, stepLength}
+use Rattle.section.specs.Numbers.{largestTrain, stepLength, lastFault, lastKind, releaseKind}
+use Rattle.section.specs.Step.{isKind, isTrainKind, isFaultKind, isFault, isTrain}
 use Rattle.section.specs.Step.{Fields, fields, fieldsIn, faultRight, numberRight, placeRight, fieldsRight, wellFormed}
 use Rattle.section.specs.Step.{faultOf, stepOf, stepSaid, decoded, faultNumber, fieldsOf, trackNumber}
 use Rattle.section.proofs.Laws.{and-left, and-right}
@@ -41,7 +42,7 @@ module _ (n : ℕ) (s : List ℕ) (e : wellFormed n s ≡ true) where
 
 -- what the tests of the fields ask
 pub record Right (n track : ℕ) (f : Fields) (zeros : ℕ) : Type 0 where
-  pub kind-right : within 1 13 (f .kind) ≡ true
+  pub kind-right : isKind (f .kind) ≡ true
   pub track-right : track < 2
   pub post-right : f .post < n
   pub fault-right : faultRight (f .kind) (f .fault) ≡ true
@@ -51,7 +52,7 @@ pub record Right (n track : ℕ) (f : Fields) (zeros : ℕ) : Type 0 where
 pub right : (n track : ℕ) (f : Fields) (zeros : ℕ) → fieldsRight n track f zeros ≡ true → Right n track f zeros
 unfolding fieldsRight placeRight
 right n track f zeros e =
-    let kind = within 1 13 (f .kind) in
+    let kind = isKind (f .kind) in
     let spot = ltb track 2 && ltb (f .post) n in
     let fault = faultRight (f .kind) (f .fault) in
     let number = numberRight (f .kind) (f .number) in
@@ -85,9 +86,9 @@ from-one P m e zero w = let z : _≡_ {A = ℕ} 0 1 = cc in absurd (omega arith)
 from-one P m e (suc k) w =
     below (λ (j : ℕ). P (suc j)) m e k (omega (arith, leb-true (suc k) m (and-right (leb 1 (suc k)) (leb (suc k) m) w)))
 
-fault-back : (f : ℕ) → within 1 3 f ≡ true → faultNumber (faultOf f) ≡ f
+fault-back : (f : ℕ) → isFault f ≡ true → faultNumber (faultOf f) ≡ f
 unfolding faultNumber faultOf
-fault-back f w = from-one (λ (f : ℕ). faultNumber (faultOf f) ≡ f) 3 (refl, (refl, (refl, tt))) f w
+fault-back f w = from-one (λ (f : ℕ). faultNumber (faultOf f) ≡ f) lastFault (refl, (refl, (refl, tt))) f w
 
 pub track-back : (t : ℕ) → t < 2 → trackNumber (eqb t 1) ≡ t
 unfolding trackNumber
@@ -95,55 +96,29 @@ track-back t h = below (λ (t : ℕ). trackNumber (eqb t 1) ≡ t) 2 (refl, (ref
 
 -- the step of right fields has these fields
 module _ (p f z : ℕ) where
-  plain : (k : ℕ) → eqb f 0 ≡ true → eqb z 0 ≡ true → fields k p 0 0 ≡ fields k p f z
-  plain k no-fault no-number = rw (eqb-true f 0 no-fault, eqb-true z 0 no-number)
+  plain : {k : ℕ} → eqb f 0 ≡ true → eqb z 0 ≡ true → fields k p 0 0 ≡ fields k p f z
+  plain no-fault no-number = rw (eqb-true f 0 no-fault, eqb-true z 0 no-number)
 
-  numbered : (k : ℕ) {number : Bool} → eqb f 0 ≡ true → number ≡ true → fields k p 0 z ≡ fields k p f z
-  numbered k no-fault h = rw (eqb-true f 0 no-fault)
+  numbered : {k : ℕ} {number : Bool} → eqb f 0 ≡ true → number ≡ true → fields k p 0 z ≡ fields k p f z
+  numbered no-fault h = rw (eqb-true f 0 no-fault)
 
-  faulted : (k : ℕ) → within 1 3 f ≡ true → eqb z 0 ≡ true → fields k p (faultNumber (faultOf f)) 0 ≡ fields k p f z
-  faulted k h no-number = rw (fault-back f h, eqb-true z 0 no-number)
+  faulted : {k : ℕ} → isFault f ≡ true → eqb z 0 ≡ true → fields k p (faultNumber (faultOf f)) 0 ≡ fields k p f z
+  faulted h no-number = rw (fault-back f h, eqb-true z 0 no-number)
 
-  fields-again : (k : ℕ) → within 1 13 k ≡ true → faultRight k f ≡ true → numberRight k z ≡ true → fieldsOf (stepOf (fields k p f z)) ≡ fields k p f z
+  fields-again : (k : ℕ) → isKind k ≡ true → faultRight k f ≡ true → numberRight k z ≡ true → fieldsOf (stepOf (fields k p f z)) ≡ fields k p f z
   unfolding stepOf faultRight numberRight within
   fields-again k w =
-      from-one (λ (k : ℕ). faultRight k f ≡ true → numberRight k z ≡ true → fieldsOf (stepOf (fields k p f z)) ≡ fields k p f z) 13 (
-        plain 1,
-        (
-          plain 2,
-          (
-            plain 3,
-            (
-              plain 4,
-              (
-                numbered 5,
-                (
-                  numbered 6,
-                  (
-                    numbered 7,
-                    (
-                      plain 8,
-                      (
-                        plain 9,
-                        (faulted 10, (faulted 11, (numbered 12, (plain 13, tt)))),
-                      ),
-                    ),
-                  ),
-                ),
-              ),
-            ),
-          ),
-        ),
-      ) k w
+      from-one (λ (k : ℕ). faultRight k f ≡ true → numberRight k z ≡ true → fieldsOf (stepOf (fields k p f z)) ≡ fields k p f z) lastKind
+      (plain, (plain, (plain, (plain, (numbered, (numbered, (numbered, (plain, (plain, (faulted, (faulted, (numbered, (plain, tt))))))))))))) k w
 
 pub fields-back :
-    (f : Fields) → within 1 13 (f .kind) ≡ true → faultRight (f .kind) (f .fault) ≡ true → numberRight (f .kind) (f .number) ≡ true →
+    (f : Fields) → isKind (f .kind) ≡ true → faultRight (f .kind) (f .fault) ≡ true → numberRight (f .kind) (f .number) ≡ true →
     fieldsOf (stepOf f) ≡ f
 fields-back f w = fields-again (f .post) (f .fault) (f .number) (f .kind) w
 
 -- ## A step's own fields
 
-fault-within : (f : Fault) → within 1 3 (faultNumber f) ≡ true
+fault-within : (f : Fault) → isFault (faultNumber f) ≡ true
 unfolding faultNumber within
 fault-within One = refl
 fault-within Two = refl
@@ -158,7 +133,7 @@ fault-same Three = refl
 -- they give the step, and its kind and fault are right
 pub record Own (x : Step) : Type 0 where
   pub same : stepOf (fieldsOf x) ≡ x
-  pub kind-right : within 1 13 (fieldsOf x .kind) ≡ true
+  pub kind-right : isKind (fieldsOf x .kind) ≡ true
   pub fault-right : faultRight (fieldsOf x .kind) (fieldsOf x .fault) ≡ true
 
 pub own : (x : Step) → Own x
@@ -192,25 +167,25 @@ track-same false = refl
 -- a right number is none or a train's
 pub number-small : (kind number : ℕ) → numberRight kind number ≡ true → number ≤ largestTrain
 unfolding numberRight within
-number-small kind number e = small (within 5 7 kind) (eqb kind 12) e
+number-small kind number e = small (isTrainKind kind) (eqb kind releaseKind) e
   where
     small : (moves releases : Bool) →
-        cond moves (within 1 largestTrain number) (cond releases (leb number largestTrain) (eqb number 0)) ≡ true →
+        cond moves (isTrain number) (cond releases (leb number largestTrain) (eqb number 0)) ≡ true →
         number ≤ largestTrain
     small true releases h = leb-true number largestTrain (and-right (leb 1 number) (leb number largestTrain) h)
     small false true h = leb-true number largestTrain h
     small false false h = omega (arith, eqb-true number 0 h)
 
-pub kind-small : (kind : ℕ) → within 1 13 kind ≡ true → kind ≤ 13
+pub kind-small : (kind : ℕ) → isKind kind ≡ true → kind ≤ lastKind
 unfolding within
-kind-small kind e = leb-true kind 13 (and-right (leb 1 kind) (leb kind 13) e)
+kind-small kind e = leb-true kind lastKind (and-right (leb 1 kind) (leb kind lastKind) e)
 
-pub fault-small : (kind fault : ℕ) → faultRight kind fault ≡ true → fault ≤ 3
+pub fault-small : (kind fault : ℕ) → faultRight kind fault ≡ true → fault ≤ lastFault
 unfolding faultRight within
-fault-small kind fault e = small (within 10 11 kind) e
+fault-small kind fault e = small (isFaultKind kind) e
   where
-    small : (faults : Bool) → cond faults (within 1 3 fault) (eqb fault 0) ≡ true → fault ≤ 3
-    small true h = leb-true fault 3 (and-right (leb 1 fault) (leb fault 3) h)
+    small : (faults : Bool) → cond faults (isFault fault) (eqb fault 0) ≡ true → fault ≤ lastFault
+    small true h = leb-true fault lastFault (and-right (leb 1 fault) (leb fault lastFault) h)
     small false h = omega (arith, eqb-true fault 0 h)
 
 -- ## Two bytes and their number

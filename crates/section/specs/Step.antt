@@ -13,7 +13,9 @@ use Rattle.section.specs.declared.TrackStep.{TrackStep}
 use Rattle.section.specs.declared.Decoded.{Decoded}
 use Rattle.section.specs.declared.Decoded.the-variants.{Well, Malformed}
 use Rattle.section.specs.Bytes.{byte, pair, within}
-use Rattle.section.specs.Numbers.{largestTrain, stepLength}
+use Rattle.section.specs.Numbers.{largestTrain, stepLength, lastFault, lastKind}
+use Rattle.section.specs.Numbers.{orderKind, setKind, announceKind, acknowledgeKind, startKind, passKind, leaveKind}
+use Rattle.section.specs.Numbers.{measuresOnKind, measuresOffKind, faultOnKind, faultOffKind, releaseKind, keyKind}
 
 -- ## The fields
 
@@ -31,21 +33,41 @@ fields kind post fault number = record { kind = kind; post = post; fault = fault
 abbrev pub fieldsIn : List ℕ → Fields
 fieldsIn s = fields (byte s 0) (byte s 2) (byte s 3) (pair (byte s 4) (byte s 5))
 
+-- ## The kinds
+
+-- "kind, 1 to 13"
+abbrev pub isKind : ℕ → Bool
+isKind kind = within 1 lastKind kind
+
+-- kinds 5 to 7, start, pass and leave: a train's own steps
+abbrev pub isTrainKind : ℕ → Bool
+isTrainKind kind = within startKind leaveKind kind
+
+-- kinds 10 and 11: a fault comes or goes
+abbrev pub isFaultKind : ℕ → Bool
+isFaultKind kind = within faultOnKind faultOffKind kind
+
+abbrev pub isFault : ℕ → Bool
+isFault fault = within 1 lastFault fault
+
+abbrev pub isTrain : ℕ → Bool
+isTrain number = within 1 largestTrain number
+
 -- ## The tests
 
 -- "The fault is 1 to 3 in kinds 10 and 11, else zero."
 unfoldable pub faultRight : ℕ → ℕ → Bool
-faultRight kind fault = cond (within 10 11 kind) (within 1 3 fault) (eqb fault 0)
+faultRight kind fault = cond (isFaultKind kind) (isFault fault) (eqb fault 0)
 
 -- "The number is 1 to 9,999 in kinds 5 to 7, 0 to 9,999 in kind 12, else zero."
 unfoldable pub numberRight : ℕ → ℕ → Bool
 numberRight kind number =
-    cond (within 5 7 kind) (within 1 largestTrain number)
-    (cond (eqb kind 12) (leb number largestTrain) (eqb number 0))
+    cond (isTrainKind kind) (isTrain number)
+    (cond (eqb kind releaseKind) (leb number largestTrain) (eqb number 0))
 
 -- "byte 0 kind, 1 to 13; byte 1 track, 0 or 1; byte 2 post, below n"
 unfoldable pub placeRight : ℕ → ℕ → ℕ → ℕ → Bool
-placeRight n kind track post = within 1 13 kind && (ltb track 2 && ltb post n)
+placeRight n kind track post = isKind kind && (ltb track 2 && ltb post n)
 
 -- all of it, of the track, the fields and bytes 6–7
 unfoldable pub fieldsRight : ℕ → ℕ → Fields → ℕ → Bool
@@ -63,18 +85,18 @@ faultOf fault = cond (eqb fault 1) One (cond (eqb fault 2) Two Three)
 
 unfoldable pub stepOf : Fields → Step
 stepOf f =
-    cond (eqb (f .kind) 1) (Order (f .post))
-    (cond (eqb (f .kind) 2) (Set (f .post))
-    (cond (eqb (f .kind) 3) (Announce (f .post))
-    (cond (eqb (f .kind) 4) (Acknowledge (f .post))
-    (cond (eqb (f .kind) 5) (Start (f .post) (f .number))
-    (cond (eqb (f .kind) 6) (Pass (f .post) (f .number))
-    (cond (eqb (f .kind) 7) (Leave (f .post) (f .number))
-    (cond (eqb (f .kind) 8) (MeasuresOn (f .post))
-    (cond (eqb (f .kind) 9) (MeasuresOff (f .post))
-    (cond (eqb (f .kind) 10) (FaultOn (f .post) (faultOf (f .fault)))
-    (cond (eqb (f .kind) 11) (FaultOff (f .post) (faultOf (f .fault)))
-    (cond (eqb (f .kind) 12) (Release (f .post) (f .number))
+    cond (eqb (f .kind) orderKind) (Order (f .post))
+    (cond (eqb (f .kind) setKind) (Set (f .post))
+    (cond (eqb (f .kind) announceKind) (Announce (f .post))
+    (cond (eqb (f .kind) acknowledgeKind) (Acknowledge (f .post))
+    (cond (eqb (f .kind) startKind) (Start (f .post) (f .number))
+    (cond (eqb (f .kind) passKind) (Pass (f .post) (f .number))
+    (cond (eqb (f .kind) leaveKind) (Leave (f .post) (f .number))
+    (cond (eqb (f .kind) measuresOnKind) (MeasuresOn (f .post))
+    (cond (eqb (f .kind) measuresOffKind) (MeasuresOff (f .post))
+    (cond (eqb (f .kind) faultOnKind) (FaultOn (f .post) (faultOf (f .fault)))
+    (cond (eqb (f .kind) faultOffKind) (FaultOff (f .post) (faultOf (f .fault)))
+    (cond (eqb (f .kind) releaseKind) (Release (f .post) (f .number))
     (Key (f .post)))))))))))))
 
 -- the step that eight bytes say, right or not
@@ -93,19 +115,19 @@ faultNumber Two = 2
 faultNumber Three = 3
 
 abbrev pub fieldsOf : Step → Fields
-fieldsOf (Order p) = fields 1 p 0 0
-fieldsOf (Set p) = fields 2 p 0 0
-fieldsOf (Announce p) = fields 3 p 0 0
-fieldsOf (Acknowledge p) = fields 4 p 0 0
-fieldsOf (Start p z) = fields 5 p 0 z
-fieldsOf (Pass p z) = fields 6 p 0 z
-fieldsOf (Leave p z) = fields 7 p 0 z
-fieldsOf (MeasuresOn p) = fields 8 p 0 0
-fieldsOf (MeasuresOff p) = fields 9 p 0 0
-fieldsOf (FaultOn p f) = fields 10 p (faultNumber f) 0
-fieldsOf (FaultOff p f) = fields 11 p (faultNumber f) 0
-fieldsOf (Release p z) = fields 12 p 0 z
-fieldsOf (Key p) = fields 13 p 0 0
+fieldsOf (Order p) = fields orderKind p 0 0
+fieldsOf (Set p) = fields setKind p 0 0
+fieldsOf (Announce p) = fields announceKind p 0 0
+fieldsOf (Acknowledge p) = fields acknowledgeKind p 0 0
+fieldsOf (Start p z) = fields startKind p 0 z
+fieldsOf (Pass p z) = fields passKind p 0 z
+fieldsOf (Leave p z) = fields leaveKind p 0 z
+fieldsOf (MeasuresOn p) = fields measuresOnKind p 0 0
+fieldsOf (MeasuresOff p) = fields measuresOffKind p 0 0
+fieldsOf (FaultOn p f) = fields faultOnKind p (faultNumber f) 0
+fieldsOf (FaultOff p f) = fields faultOffKind p (faultNumber f) 0
+fieldsOf (Release p z) = fields releaseKind p 0 z
+fieldsOf (Key p) = fields keyKind p 0 0
 
 unfoldable pub kindOf : Step → ℕ
 kindOf x = fieldsOf x .kind

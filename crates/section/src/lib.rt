@@ -1,6 +1,7 @@
 // The vocabulary of direction blocking (document 01): settings, steps, the state of a section, answers.
 
 mod fresh_section;
+pub mod kinds;
 mod little_endian;
 pub mod positions;
 mod post_record;
@@ -23,6 +24,9 @@ pub const LARGEST_TRAIN: u16 = 9999;
 pub const MOST_SEALS: u16 = 999;
 
 pub const STEP_LENGTH: usize = 8;
+
+// The faults of a post: 1 to 3.
+pub const LAST_FAULT: u8 = 3;
 
 // What a line is: n posts, the form (0 telephone, 1 materialised), the mask of signalled posts, the line number.
 pub struct Settings {
