@@ -57,7 +57,7 @@ pub fn set(c: Settings, e: Site, trains: &Trains) -> Verdict
     if !secured(e) {
         return Verdict::Refused(16);
     }
-    if e.own.fault2 {
+    if e.own.faults.two {
         return Verdict::Refused(19);
     }
     Verdict::Accepted(Said::Nothing)

@@ -72,14 +72,19 @@ pub enum Decoded {
     Malformed,
 }
 
+// Which faults stand at a post.
+pub struct Faults {
+    pub one: bool,
+    pub two: bool,
+    pub three: bool,
+}
+
 // What a post keeps on one track. `cvt`: its device stands at CVT.
 pub struct Post {
     pub cvt: bool,
     pub permission: bool,
     pub measures: bool,
-    pub fault1: bool,
-    pub fault2: bool,
-    pub fault3: bool,
+    pub faults: Faults,
     pub mark: bool,
     pub seals: u16,
 }

@@ -18,7 +18,11 @@ fn is_within(lo: u8, hi: u8, x: u8) -> bool
 fn is_train(number: u16) -> bool
     ensures { λ r. ⌜ r ≡ isTrain number ⌝ }
 {
-    if 1 <= number { number <= LARGEST_TRAIN } else { false }
+    if 1 <= number {
+        number <= LARGEST_TRAIN
+    } else {
+        false
+    }
 }
 
 fn fault_right(kind: u8, fault: u8) -> bool
