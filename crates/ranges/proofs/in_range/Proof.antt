@@ -1,3 +1,4 @@
+-- The branches are the tests of the settings and of the two tracks, in their order; settings in range give the number of posts that a track's test asks for.
 use borrow.Author.Needs.{needs}
 use Rattle.section.specs.Range.{inRange}
 use Rattle.section.proofs.Laws.{posts-right}
