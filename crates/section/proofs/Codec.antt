@@ -18,7 +18,7 @@ use Rattle.section.specs.RoundTrip.{DecodesWhatIsEncoded, EncodesInEight
 use Rattle.section.specs.Step.{Fields, fieldsIn, numberRight, placeRight, fieldsRight, wellFormed, stepSaid, decoded}
 use Rattle.section.specs.Step.{fieldsOf, kindOf, postOf, numberOf, trackNumber, bytesOf, encoded, stepFits}
 use Rattle.section.proofs.Laws.{and-left, and-right}
-use Rattle.section.proofs.StepLaws.{malformed, well-said, well-length, well-fields, Right, right, below, fields-back, own, track-within, track-same}
+use Rattle.section.proofs.StepLaws.{malformed, well-said, well-length, well-fields, WellFormed, well-formed-fields, below, fields-back, own, track-within, track-same}
 use Rattle.section.proofs.StepLaws.{track-back, low-back, high-back, zero-low, zero-high, pair-back, kind-small, fault-small, number-small, all-bytes}
 
 -- ## From a step to its bytes and back
@@ -34,7 +34,7 @@ module _ (n : ℕ) (x : Step) (h : stepFits n x ≡ true) where
 
   own-fit : (b : Bool) → fieldsRight n (trackNumber b) (fieldsOf x) 0 ≡ true
   unfolding fieldsRight placeRight
-  own-fit b = rw (own x .kind-right, track-within b, own-post, own x .fault-right, own-number)
+  own-fit b = rw (own x .kind-well-formed, track-within b, own-post, own x .fault-right, own-number)
 
 no-pair : pair 0 0 ≡ 0
 unfolding pair
@@ -55,7 +55,7 @@ pub encodes-in-eight-bytes : EncodesInEightBytes
 unfolding encoded bytesOf
 encodes-in-eight-bytes n x m h =
     let f = fieldsOf (x .step) in
-    let kind = kind-small (f .kind) (own (x .step) .kind-right) in
+    let kind = kind-small (f .kind) (own (x .step) .kind-well-formed) in
     let track = ltb-true (trackNumber (x .track)) 2 (track-within (x .track)) in
     let post = ltb-true (f .post) n (own-post n (x .step) h) in
     let fault = fault-small (f .kind) (f .fault) (own (x .step) .fault-right) in
@@ -78,8 +78,8 @@ module _ (n : ℕ) (s : List ℕ) (x : TrackStep) (d : decoded n s ≡ Well x) w
   is-said : x ≡ stepSaid s
   is-said = cc (d, well-said n s well)
 
-  tests : Right n (byte s 1) (fieldsIn s) (pair (byte s 6) (byte s 7))
-  tests = right n (byte s 1) (fieldsIn s) (pair (byte s 6) (byte s 7)) (well-fields n s well)
+  tests : WellFormed n (byte s 1) (fieldsIn s) (pair (byte s 6) (byte s 7))
+  tests = well-formed-fields n (byte s 1) (fieldsIn s) (pair (byte s 6) (byte s 7)) (well-fields n s well)
 
   pub decoded-length : length s ≡ stepLength
   decoded-length = well-length n s well
@@ -91,7 +91,7 @@ module _ (n : ℕ) (s : List ℕ) (x : TrackStep) (d : decoded n s ≡ Well x) w
   -- the fields, read off the bytes
   pub decoded-fields : fieldsOf (x .step) ≡ fieldsIn s
   unfolding stepSaid
-  decoded-fields = rw is-said (fields-back (fieldsIn s) (tests .kind-right) (tests .fault-right) (tests .number-right))
+  decoded-fields = rw is-said (fields-back (fieldsIn s) (tests .kind-well-formed) (tests .fault-right) (tests .number-right))
 
   pub decoded-kind : kindOf (x .step) ≡ byte s 0
   unfolding kindOf
@@ -107,7 +107,7 @@ module _ (n : ℕ) (s : List ℕ) (x : TrackStep) (d : decoded n s ≡ Well x) w
 
   -- and their ranges
   pub decoded-post-below : postOf (x .step) < n
-  decoded-post-below = rw decoded-post (tests .post-right)
+  decoded-post-below = rw decoded-post (tests .post-below)
 
   pub decoded-number-right : numberRight (kindOf (x .step)) (numberOf (x .step)) ≡ true
   decoded-number-right = rw (decoded-kind, decoded-number) (tests .number-right)
@@ -119,9 +119,9 @@ module _ (n : ℕ) (s : List ℕ) (x : TrackStep) (d : decoded n s ≡ Well x) w
   encoded-decoded : AllBytes s → encoded x ≡ s
   unfolding encoded bytesOf
   encoded-decoded bytes =
-      let zero6 : 0 ≡ byte s 6 = zero-low (byte s 6) (byte s 7) (tests .zeros-right) in
-      let zero7 : 0 ≡ byte s 7 = zero-high (byte s 6) (byte s 7) (tests .zeros-right) in
-      let track : trackNumber (x .track) ≡ byte s 1 = rw decoded-track (track-back (byte s 1) (tests .track-right)) in
+      let zero6 : 0 ≡ byte s 6 = zero-low (byte s 6) (byte s 7) (tests .zeros-none) in
+      let zero7 : 0 ≡ byte s 7 = zero-high (byte s 6) (byte s 7) (tests .zeros-none) in
+      let track : trackNumber (x .track) ≡ byte s 1 = rw decoded-track (track-back (byte s 1) (tests .track-below)) in
       let low = low-back (byte s 4) (byte s 5) (bytes 4) in
       let high = high-back (byte s 4) (byte s 5) (bytes 4) in
       ap (bytesOf (trackNumber (x .track))) decoded-fields

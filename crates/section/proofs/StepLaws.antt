@@ -41,17 +41,17 @@ module _ (n : ℕ) (s : List ℕ) (e : wellFormed n s ≡ true) where
   well-fields = and-right (eqb (length s) stepLength) (fieldsRight n (byte s 1) (fieldsIn s) (pair (byte s 6) (byte s 7))) e
 
 -- what the tests of the fields ask
-pub record Right (n track : ℕ) (f : Fields) (zeros : ℕ) : Type 0 where
-  pub kind-right : isKind (f .kind) ≡ true
-  pub track-right : track < 2
-  pub post-right : f .post < n
+pub record WellFormed (n track : ℕ) (f : Fields) (zeros : ℕ) : Type 0 where
+  pub kind-well-formed : isKind (f .kind) ≡ true
+  pub track-below : track < 2
+  pub post-below : f .post < n
   pub fault-right : faultRight (f .kind) (f .fault) ≡ true
   pub number-right : numberRight (f .kind) (f .number) ≡ true
-  pub zeros-right : zeros ≡ 0
+  pub zeros-none : zeros ≡ 0
 
-pub right : (n track : ℕ) (f : Fields) (zeros : ℕ) → fieldsRight n track f zeros ≡ true → Right n track f zeros
+pub well-formed-fields : (n track : ℕ) (f : Fields) (zeros : ℕ) → fieldsRight n track f zeros ≡ true → WellFormed n track f zeros
 unfolding fieldsRight placeRight
-right n track f zeros e =
+well-formed-fields n track f zeros e =
     let kind = isKind (f .kind) in
     let spot = ltb track 2 && ltb (f .post) n in
     let fault = faultRight (f .kind) (f .fault) in
@@ -60,12 +60,12 @@ right n track f zeros e =
     let rest = and-right (kind && spot) (fault && (number && eqb zeros 0)) e in
     let last = and-right fault (number && eqb zeros 0) rest in
     record {
-      kind-right = and-left kind spot place;
-      track-right = ltb-true track 2 (and-left (ltb track 2) (ltb (f .post) n) (and-right kind spot place));
-      post-right = ltb-true (f .post) n (and-right (ltb track 2) (ltb (f .post) n) (and-right kind spot place));
+      kind-well-formed = and-left kind spot place;
+      track-below = ltb-true track 2 (and-left (ltb track 2) (ltb (f .post) n) (and-right kind spot place));
+      post-below = ltb-true (f .post) n (and-right (ltb track 2) (ltb (f .post) n) (and-right kind spot place));
       fault-right = and-left fault (number && eqb zeros 0) rest;
       number-right = and-left number (eqb zeros 0) last;
-      zeros-right = eqb-true zeros 0 (and-right number (eqb zeros 0) last);
+      zeros-none = eqb-true zeros 0 (and-right number (eqb zeros 0) last);
     }
 
 -- ## The fields that a step gives back
@@ -133,24 +133,24 @@ fault-same Three = refl
 -- they give the step, and its kind and fault are right
 pub record Own (x : Step) : Type 0 where
   pub same : stepOf (fieldsOf x) ≡ x
-  pub kind-right : isKind (fieldsOf x .kind) ≡ true
+  pub kind-well-formed : isKind (fieldsOf x .kind) ≡ true
   pub fault-right : faultRight (fieldsOf x .kind) (fieldsOf x .fault) ≡ true
 
 pub own : (x : Step) → Own x
 unfolding stepOf faultRight within
-own (Order p) = record { same = refl; kind-right = refl; fault-right = refl }
-own (Set p) = record { same = refl; kind-right = refl; fault-right = refl }
-own (Announce p) = record { same = refl; kind-right = refl; fault-right = refl }
-own (Acknowledge p) = record { same = refl; kind-right = refl; fault-right = refl }
-own (Start p z) = record { same = refl; kind-right = refl; fault-right = refl }
-own (Pass p z) = record { same = refl; kind-right = refl; fault-right = refl }
-own (Leave p z) = record { same = refl; kind-right = refl; fault-right = refl }
-own (MeasuresOn p) = record { same = refl; kind-right = refl; fault-right = refl }
-own (MeasuresOff p) = record { same = refl; kind-right = refl; fault-right = refl }
-own (FaultOn p f) = record { same = ap (FaultOn p) (fault-same f); kind-right = refl; fault-right = fault-within f }
-own (FaultOff p f) = record { same = ap (FaultOff p) (fault-same f); kind-right = refl; fault-right = fault-within f }
-own (Release p z) = record { same = refl; kind-right = refl; fault-right = refl }
-own (Key p) = record { same = refl; kind-right = refl; fault-right = refl }
+own (Order p) = record { same = refl; kind-well-formed = refl; fault-right = refl }
+own (Set p) = record { same = refl; kind-well-formed = refl; fault-right = refl }
+own (Announce p) = record { same = refl; kind-well-formed = refl; fault-right = refl }
+own (Acknowledge p) = record { same = refl; kind-well-formed = refl; fault-right = refl }
+own (Start p z) = record { same = refl; kind-well-formed = refl; fault-right = refl }
+own (Pass p z) = record { same = refl; kind-well-formed = refl; fault-right = refl }
+own (Leave p z) = record { same = refl; kind-well-formed = refl; fault-right = refl }
+own (MeasuresOn p) = record { same = refl; kind-well-formed = refl; fault-right = refl }
+own (MeasuresOff p) = record { same = refl; kind-well-formed = refl; fault-right = refl }
+own (FaultOn p f) = record { same = ap (FaultOn p) (fault-same f); kind-well-formed = refl; fault-right = fault-within f }
+own (FaultOff p f) = record { same = ap (FaultOff p) (fault-same f); kind-well-formed = refl; fault-right = fault-within f }
+own (Release p z) = record { same = refl; kind-well-formed = refl; fault-right = refl }
+own (Key p) = record { same = refl; kind-well-formed = refl; fault-right = refl }
 
 pub track-within : (b : Bool) → ltb (trackNumber b) 2 ≡ true
 unfolding trackNumber
@@ -162,9 +162,9 @@ unfolding trackNumber
 track-same true = refl
 track-same false = refl
 
--- ## Right fields are small
+-- ## Well-formed fields are small
 
--- a right number is none or a train's
+-- a well-formed number is none or a train's
 pub number-small : (kind number : ℕ) → numberRight kind number ≡ true → number ≤ largestTrain
 unfolding numberRight within
 number-small kind number e = small (isTrainKind kind) (eqb kind releaseKind) e
