@@ -180,10 +180,12 @@ regroup false b c d = refl
 pub track-cells :
     (n : ℕ) (track : Bool) (t : Track) →
     trackFits n track t
-    ≡ ((sealsFit n (t .posts) && (numbersFit (n - 1) (t .trains) && numbersFit (n - 1) (t .last))) && walkFits n (upward track (t .cvt)) (t .walk))
+    ≡ ((sealsFit n (t .posts) && (numbersFit (n - 1) (t .trains) && numbersFit (n - 1) (t .last)))
+    && walkFits n (upward track (t .cvt)) (t .walk))
 unfolding trackFits
 track-cells n track t =
-    regroup (sealsFit n (t .posts)) (numbersFit (n - 1) (t .trains)) (numbersFit (n - 1) (t .last)) (walkFits n (upward track (t .cvt)) (t .walk))
+    regroup (sealsFit n (t .posts)) (numbersFit (n - 1) (t .trains)) (numbersFit (n - 1) (t .last))
+    (walkFits n (upward track (t .cvt)) (t .walk))
 
 pub posts-right : (c : Settings) → settingsRight c ≡ true → (leastPosts ≤ c .posts) × (c .posts ≤ mostPosts)
 unfolding settingsRight within

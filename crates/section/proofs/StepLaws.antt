@@ -34,7 +34,9 @@ well-said n s e = rw e
 module _ (n : ℕ) (s : List ℕ) (e : wellFormed n s ≡ true) where
   pub well-length : length s ≡ stepLength
   unfolding wellFormed
-  well-length = eqb-true (length s) stepLength (and-left (eqb (length s) stepLength) (fieldsRight n (byte s 1) (fieldsIn s) (pair (byte s 6) (byte s 7))) e)
+  well-length =
+      eqb-true (length s) stepLength
+      (and-left (eqb (length s) stepLength) (fieldsRight n (byte s 1) (fieldsIn s) (pair (byte s 6) (byte s 7))) e)
 
   pub well-fields : fieldsRight n (byte s 1) (fieldsIn s) (pair (byte s 6) (byte s 7)) ≡ true
   unfolding wellFormed
