@@ -30,7 +30,7 @@ pub fn release(c: Settings, e: Site, number: u16, trains: &Trains, last: &Trains
     if at_receiving_end(c, e) {
         return Verdict::Refused(12);
     }
-    if !e.own.fault1 {
+    if !e.own.faults.one {
         return Verdict::Refused(21);
     }
     if watched_occupied(c, e, trains) {
@@ -50,7 +50,7 @@ pub fn key(c: Settings, e: Site, trains: &Trains) -> Verdict
     if !is_turn(walk, e.post, Act::Set) {
         return Verdict::Refused(15);
     }
-    if !e.own.fault2 {
+    if !e.own.faults.two {
         return Verdict::Refused(21);
     }
     if watched_occupied(c, e, trains) {

@@ -58,7 +58,7 @@ pub fn set(c: Settings, e: Site, trains: &Trains) -> Verdict
     if !measures_suffice(e) {
         return Verdict::Refused(16);
     }
-    if e.own.fault2 {
+    if e.own.faults.two {
         return Verdict::Refused(19);
     }
     Verdict::Accepted(Said::Nothing)

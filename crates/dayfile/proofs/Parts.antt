@@ -1,6 +1,6 @@
 -- The parts of a file, both ways: settings and their bytes, the trailer and its numbers, and a file put together of its parts.
 use mathlib.Core.Path.{_≡_, refl, sym, _∙_, ap}
-use mathlib.Core.Bool.{Bool, true, false, _&&_, false≢true}
+use mathlib.Core.Bool.{true, _&&_}
 use mathlib.Core.List.{List, [], _∷_, _++_, append-assoc}
 use Prim.Native.Nat.{ℕ, zero, suc, _+_, _-_, _*_, _/_, _^_, _<_, _≤_}
 use native.Mathlib.Nat.{div-lt-iff-lt-mul, pow-le-pow-right}
@@ -17,11 +17,8 @@ use Rattle.section.specs.Settings.{bit, noneFrom, settingsRight}
 use Rattle.layout.specs.Layout.{mostSteps, settingsLength, trailerLength, settingsDistance, stepsDistance, mark, pairBytes, fourBytes}
 use Rattle.layout.specs.Layout.{fourAt, settingsBytes, trailer, fromEnd, trailerIn, settingsIn, stepsIn, settingsOf}
 use Rattle.dayfile.specs.Tests.{markRight, trailerRight, zerosRight, settingsBytesRight}
+use Rattle.section.proofs.Laws.{and-parts}
 use Rattle.layout.proofs.Numbers.{pair-number, four-number, pair-bytes, four-bytes, listed}
-
-pub both : (a b : Bool) → a && b ≡ true → (a ≡ true) × (b ≡ true)
-both true b e = (refl, e)
-both false b e = absurd (false≢true e)
 
 -- ## Settings
 
@@ -34,16 +31,16 @@ module _ (c : Settings) (e : settingsRight c ≡ true) where
   fields-fit : (c .mask < 65536) × (c .line < 65536)
   unfolding settingsRight within noneFrom
   fields-fit =
-      let a = both (leb leastPosts (c .posts) && leb (c .posts) mostPosts) _ e in
-      let f = both (leb (c .form) 1) _ (a .1) in
-      let g = both (bit (c .mask) 0) _ (f .1) in
-      let h = both (bit (c .mask) (c .posts - 1)) _ (g .1) in
-      let k = both (eqb (c .mask / 2 ^ (c .posts)) 0) (leb 1 (c .line) && leb (c .line) largestLine) (h .1) in
-      let p : c .posts ≤ 16 = leb-true _ _ (both (leb leastPosts (c .posts)) (leb (c .posts) mostPosts) (a .0) .1) in
-      let l : c .line ≤ 999 = leb-true _ _ (both (leb 1 (c .line)) (leb (c .line) largestLine) (k .1) .1) in
+      let a = and-parts (leb leastPosts (c .posts) && leb (c .posts) mostPosts) _ e in
+      let f = and-parts (leb (c .form) 1) _ (a .1) in
+      let g = and-parts (bit (c .mask) 0) _ (f .1) in
+      let h = and-parts (bit (c .mask) (c .posts - 1)) _ (g .1) in
+      let k = and-parts (eqb (c .mask / 2 ^ (c .posts)) 0) (leb 1 (c .line) && leb (c .line) largestLine) (h .1) in
+      let p : c .posts ≤ mostPosts = leb-true _ _ (and-parts (leb leastPosts (c .posts)) (leb (c .posts) mostPosts) (a .0) .1) in
+      let l : c .line ≤ largestLine = leb-true _ _ (and-parts (leb 1 (c .line)) (leb (c .line) largestLine) (k .1) .1) in
       let z : c .mask / 2 ^ (c .posts) ≡ 0 = eqb-true _ _ (k .0) in
       let m : c .mask < 1 * 2 ^ (c .posts) = div-lt-iff-lt-mul (pow-pos (c .posts)) .0 (omega arith) in
-      let t : 2 ^ (c .posts) ≤ 2 ^ 16 = pow-le-pow-right {n = 2} (omega arith) p in
+      let t : 2 ^ (c .posts) ≤ 2 ^ mostPosts = pow-le-pow-right {n = 2} (omega arith) p in
       (omega arith, omega arith)
 
   pub settings-said : settingsOf (settingsBytes c) ≡ c
@@ -57,11 +54,11 @@ module _ (c : Settings) (e : settingsRight c ≡ true) where
 module _ (s : List ℕ) (l : length s ≡ settingsLength) (bytes : AllBytes s) (e : settingsBytesRight s ≡ true) where
   pub settings-right : settingsRight (settingsOf s) ≡ true
   unfolding settingsBytesRight
-  settings-right = both (settingsRight (settingsOf s)) _ e .0
+  settings-right = and-parts (settingsRight (settingsOf s)) _ e .0
 
   zeros-are : (byte s 6 ≡ 0) × (byte s 7 ≡ 0)
   unfolding settingsBytesRight zerosRight pair
-  zeros-are = let z = both (settingsRight (settingsOf s)) (zerosRight s) e .1 in (omega (arith, eqb-true), omega (arith, eqb-true))
+  zeros-are = let z = and-parts (settingsRight (settingsOf s)) (zerosRight s) e .1 in (omega (arith, eqb-true), omega (arith, eqb-true))
 
   pub settings-bytes : settingsBytes (settingsOf s) ≡ s
   unfolding settingsBytes settingsOf
@@ -93,17 +90,17 @@ module _ (count : ℕ) (t : List ℕ) (l : length t ≡ trailerLength) (bytes : 
   mark-bytes : markRight t ≡ true → mark ≡ byte t 0 ∷ byte t 1 ∷ byte t 2 ∷ byte t 3 ∷ []
   unfolding markRight
   mark-bytes m =
-      let a = both (eqb (byte t 0) 66) _ m in
-      let b = both (eqb (byte t 1) 83) _ (a .1) in
-      let c = both (eqb (byte t 2) 82) (eqb (byte t 3) 49) (b .1) in
+      let a = and-parts (eqb (byte t 0) 66) _ m in
+      let b = and-parts (eqb (byte t 1) 83) _ (a .1) in
+      let c = and-parts (eqb (byte t 2) 82) (eqb (byte t 3) 49) (b .1) in
       rw (eqb-true (byte t 0) 66 (a .0), eqb-true (byte t 1) 83 (b .0), eqb-true (byte t 2) 82 (c .0), eqb-true (byte t 3) 49 (c .1))
 
   pub trailer-bytes : trailer count ≡ t
   unfolding trailerRight trailer
   trailer-bytes =
-      let a = both (markRight t) _ e in
-      let b = both (eqb (fourAt t 4) settingsDistance) _ (a .1) in
-      let c = both (eqb (fourAt t 8) (stepsDistance count)) (eqb (fourAt t 12) count) (b .1) in
+      let a = and-parts (markRight t) _ e in
+      let b = and-parts (eqb (fourAt t 4) settingsDistance) _ (a .1) in
+      let c = and-parts (eqb (fourAt t 8) (stepsDistance count)) (eqb (fourAt t 12) count) (b .1) in
       ap (λ (m : List ℕ). m ++ (fourBytes settingsDistance ++ (fourBytes (stepsDistance count) ++ fourBytes count))) (mark-bytes (a .0))
       ∙ rw (
         number-bytes 4 settingsDistance (eqb-true _ _ (b .0)),

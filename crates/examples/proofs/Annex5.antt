@@ -9,7 +9,7 @@ use lib.ListN.{getD, take}
 use Rattle.section.specs.declared.Step.the-variants.{Set}
 use Rattle.section.specs.Fresh.{freshSection}
 use Rattle.section.specs.Settings.{settingsRight}
-use Rattle.section.specs.Step.{kindOf, bytesOf, encoded}
+use Rattle.section.specs.Step.{bytesOf, encoded}
 use Rattle.rules.specs.Demand3.{AcceptedStep, kind, stateAfter, acceptedSteps, underWay, NoTrainInReversal, Demand3}
 use Rattle.rules.proofs.Theorem.{demand3, newOrder}
 use Rattle.rules.proofs.Days.{offeredAs, refusals, fresh}
@@ -56,7 +56,7 @@ train-in-reversal h = let e : _≡_ {A = ℕ} 2410 0 = h .empty false refl 1 (om
 
 -- its sixth step is a leave, and no order
 pub another-order : newOrder settings settings-right day ended ≡ acceptedSteps (freshSection settings) day → ⊥
-unfolding encoded bytesOf kindOf accepted reordered
+unfolding encoded bytesOf accepted reordered
 another-order e =
     let f : _≡_ {A = ℕ} 7 1 = ap (λ (l : List AcceptedStep). kind (getD l 5 (quiet (Set 0)))) (sym new-order ∙ e ∙ accepts) in
     omega arith

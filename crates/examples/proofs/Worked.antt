@@ -3,7 +3,7 @@ use Prim.Native.Nat.{ℕ}
 use mathlib.Core.Path.{_≡_, refl}
 use mathlib.Core.List.{List, []}
 use Rattle.section.specs.Words.{saidBy, letter, trackLetter}
-use Rattle.section.specs.Step.{isWell, wellFormed}
+use Rattle.section.specs.Step.{wellFormed}
 use Rattle.rules.specs.Indications.{setCount, isNextToSet, circulation, troncon, shown, lampsAt, dark, indicationsOn, indications}
 use Rattle.layout.specs.Layout.{pairBytes, four, fourBytes, fourAt, settingsBytes, trailer, stepCount, fileOf, fromEnd, trailerIn, settingsIn, stepsIn, settingsOf, stepAt}
 use Rattle.dayfile.specs.Tests.{lengthWrong, markRight, trailerRight, zerosRight, settingsBytesRight, wellAt, leading, firstMalformed, someMalformed}
@@ -22,7 +22,7 @@ unfoldable listingOf : List ℕ → List ℕ
 unfolding refusedLine header verdictFields fields stepLine sectionBefore answerTo lines printedRead printed listing firstTexts word letter trackLetter
     decimalDigits decimal
     refusals fresh saidBy readOf readVerdict refusalNumber lengthWrong trailerRight markRight settingsBytesRight zerosRight someMalformed
-    firstMalformed leading wellAt wellFormed isWell trailerIn settingsIn stepsIn fromEnd settingsOf stepAt fourAt four
+    firstMalformed leading wellAt wellFormed trailerIn settingsIn stepsIn fromEnd settingsOf stepAt fourAt four
 listingOf file = listing file
 
 unfoldable panelOf : List ℕ → List ℕ

@@ -88,7 +88,7 @@ module _ (front : List ℕ) {at : ℕ} (here : length front ≡ at) (rest : List
           flag-right (o .cvt),
           flag-right (o .permission),
           flag-right (o .measures),
-          faults-back (o .fault1) (o .fault2) (o .fault3) .right,
+          faults-back (o .faults .one) (o .faults .two) (o .faults .three) .right,
           flag-right (o .mark),
         )
 
@@ -96,7 +96,7 @@ module _ (front : List ℕ) {at : ℕ} (here : length front ≡ at) (rest : List
     unfolding postAt numberAt postImage faultsByte pairBytes
     post-back h =
         let l = postImage o ++ rest in
-        let faults = faults-back (o .fault1) (o .fault2) (o .fault3) in
+        let faults = faults-back (o .faults .one) (o .faults .two) (o .faults .three) in
         let seven : at + 6 + 1 ≡ at + 7 = omega arith in
         rw (
           seven,

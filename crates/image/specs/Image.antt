@@ -55,7 +55,7 @@ flag x = cond x 1 0
 
 -- fault 1 at bit 0, fault 2 at bit 1, fault 3 at bit 2
 unfoldable pub faultsByte : Post → ℕ
-faultsByte o = flag (o .fault1) + flag (o .fault2) * 2 + flag (o .fault3) * 4
+faultsByte o = flag (o .faults .one) + flag (o .faults .two) * 2 + flag (o .faults .three) * 4
 
 -- device (1 at CVT), permission, measures, faults, mark, zero, seals
 unfoldable pub postImage : Post → List ℕ
@@ -101,9 +101,7 @@ postAt l at = record {
   cvt = eqb (byte l at) 1;
   permission = eqb (byte l (at + 1)) 1;
   measures = eqb (byte l (at + 2)) 1;
-  fault1 = eqb (byte l (at + 3) % 2) 1;
-  fault2 = eqb (byte l (at + 3) / 2 % 2) 1;
-  fault3 = eqb (byte l (at + 3) / 4 % 2) 1;
+  faults = record { one = eqb (byte l (at + 3) % 2) 1; two = eqb (byte l (at + 3) / 2 % 2) 1; three = eqb (byte l (at + 3) / 4 % 2) 1 };
   mark = eqb (byte l (at + 4)) 1;
   seals = numberAt l (at + 6);
 }

@@ -14,6 +14,7 @@ use crate::TRACK_A;
 use crate::TRACK_B;
 use crate::TRAINS;
 use section::Act;
+use section::Faults;
 use section::MOST_BLOCKS;
 use section::Post;
 use section::Posts;
@@ -33,14 +34,17 @@ fn post_at(bytes: &[u8], at: usize) -> Post
     requires { ⌜ at + postLength ≤ length (now bytes) ⌝ }
     ensures { λ r. ⌜ r ≡ postAt (now (bytes .entry)) at ⌝ }
 {
-    let faults = bytes[at + 3];
+    let flags = bytes[at + 3];
+    let faults = Faults {
+        one: flags % 2 == 1,
+        two: flags / 2 % 2 == 1,
+        three: flags / 4 % 2 == 1,
+    };
     Post {
         cvt: bytes[at] == 1,
         permission: bytes[at + 1] == 1,
         measures: bytes[at + 2] == 1,
-        fault1: faults % 2 == 1,
-        fault2: faults / 2 % 2 == 1,
-        fault3: faults / 4 % 2 == 1,
+        faults: faults,
         mark: bytes[at + 4] == 1,
         seals: number_at(bytes, at + 6),
     }

@@ -25,7 +25,7 @@ fn flag(x: bool) -> u8
 fn faults_byte(o: Post) -> u8
     ensures { λ r. ⌜ r ≡ faultsByte o ⌝ }
 {
-    flag(o.fault1) + flag(o.fault2) * 2 + flag(o.fault3) * 4
+    flag(o.faults.one) + flag(o.faults.two) * 2 + flag(o.faults.three) * 4
 }
 
 fn post_bytes(o: Post) -> [u8; 8]

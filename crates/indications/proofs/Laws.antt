@@ -93,9 +93,9 @@ flashing-is n k j rank r u up w a b d e = cc
 
 pub shown-parts :
     (c : Settings) (e : Site) (trains : List ℕ) (r₁ r₂ r₃ : ℕ) (flashing last occupied : Bool)
-    → r₁ ≡ cond (e .own .fault3) 0 (cond flashing (cond (e .own .cvt) 3 4) (cond (e .own .cvt) 2 1))
+    → r₁ ≡ cond (e .own .faults .three) 0 (cond flashing (cond (e .own .cvt) 3 4) (cond (e .own .cvt) 2 1))
     → flashing ≡ (isMaterialised c && isNextToSet (setCount (c .posts) (upAt c e) (e .walk)) (rankAt c e))
-    → r₂ ≡ cond (not last) (cond (e .own .fault1 || occupied) 2 1) 0 → last ≡ atReceivingEnd c e → occupied ≡ watchedOccupied c e trains
+    → r₂ ≡ cond (not last) (cond (e .own .faults .one || occupied) 2 1) 0 → last ≡ atReceivingEnd c e → occupied ≡ watchedOccupied c e trains
     → r₃ ≡ cond (e .own .permission) 1 0
     → _≡_ {A = Indications} (record { circulation = r₁; troncon = r₂; permission = r₃ }) (shown (lampsAt c e trains))
 unfolding lampsAt shown circulation troncon

@@ -119,10 +119,10 @@ fn shown_at(c: Settings, e: Site, trains: &Trains) -> Indications
 {
     let own = e.own;
     Indications {
-        circulation: circulation(own.fault3, is_flashing(c, e), own.cvt),
+        circulation: circulation(own.faults.three, is_flashing(c, e), own.cvt),
         troncon: troncon(
             !place::at_receiving_end(c, e),
-            own.fault1,
+            own.faults.one,
             trains::watched_occupied(c, e, trains),
         ),
         permission: number(own.permission),

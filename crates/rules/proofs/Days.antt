@@ -22,8 +22,8 @@ use Rattle.section.specs.Numbers.{mostBlocks}
 use Rattle.section.specs.Post.{sealed}
 use Rattle.section.specs.Range.{sealsFit, numbersFit, actFits, walkFits, trackFits, inRange}
 use Rattle.section.specs.Settings.{bit, noneFrom, isMaterialised, settingsRight}
-use Rattle.section.specs.Step.{faultRight, numberRight, placeRight, fieldsRight, faultOf, stepOf, trackStepOf, fromFields, decoded}
-use Rattle.section.specs.Step.{kindOf, postOf, faultNumber, faultByte, numberOf, trackNumber, bytesOf, encoded}
+use Rattle.section.specs.Step.{faultRight, numberRight, placeRight, fieldsRight, wellFormed, faultOf, stepOf, stepSaid, decoded}
+use Rattle.section.specs.Step.{postOf, faultNumber, numberOf, trackNumber, bytesOf, encoded}
 use Rattle.section.specs.Store.{trackOf, withTrack, postOn, withPost}
 use Rattle.section.specs.Words.{refusalOf}
 use Rattle.rules.specs.Site.{reach, anyOf, stretchEnds, watchedOccupied, trainBefore, lastEntered, occupancyAt}
@@ -115,7 +115,7 @@ reversalToCvt posts = map MeasuresOn posts ++ reversal posts
 
 -- the byte strings that are offered
 unfoldable pub offeredAs : List TrackStep → List (List ℕ)
-unfolding encoded bytesOf kindOf postOf faultByte faultNumber numberOf trackNumber
+unfolding encoded bytesOf faultNumber trackNumber
 offeredAs steps = map encoded steps
 
 -- ## Answers
@@ -125,7 +125,7 @@ unfoldable pub refusals : Section → List (List ℕ) → List ℕ
 unfolding judge judgeInRange judgeDecoded judgeStep sectionAfter verdictOn answerOf verdictOf refusalOf
     checks effect cellsAfter trackAfter reach anyOf stretchEnds watchedOccupied trainBefore lastEntered occupancyAt
     inRange trackFits walkFits actFits numbersFit sealsFit settingsRight noneFrom bit isMaterialised upward rank block isFirst isLast
-    decoded fromFields trackStepOf stepOf faultOf fieldsRight placeRight numberRight faultRight pair within postOf numberOf
+    decoded stepSaid stepOf faultOf wellFormed fieldsRight placeRight numberRight faultRight pair within postOf numberOf
 refusals s [] = []
 refusals s (bytes ∷ offered) = refusalOf (judge s bytes .verdict) ∷ refusals (judge s bytes .section) offered
 

@@ -15,9 +15,11 @@ use Rattle.section.specs.declared.Verdict.{Verdict}
 use Rattle.section.specs.declared.Verdict.the-variants.{Accepted, Refused}
 use Rattle.section.specs.declared.Track.{Track}
 use Rattle.section.specs.declared.Section.{Section}
-use Rattle.section.specs.Bytes.{byte, pair, within}
+use Rattle.section.specs.Bytes.{byte, pair}
 use Rattle.section.specs.Fresh.{freshSection}
 use Rattle.section.specs.Geometry.{upward, rank}
+use Rattle.section.specs.Numbers.{orderKind, setKind, startKind, passKind, keyKind}
+use Rattle.section.specs.Step.{isTrainKind}
 use Rattle.section.specs.Store.{trackOf, postOn}
 use Rattle.rules.specs.Judge.{judge}
 use Rattle.rules.specs.Site.{isSettled}
@@ -63,7 +65,7 @@ isOnTrack b d = Bool·beq (track d) b
 
 -- "A train's own steps are its starts, passes and leaves"
 abbrev pub isStepOfTrain : ℕ → AcceptedStep → Bool
-isStepOfTrain z d = within 5 7 (kind d) && eqb (number d) z
+isStepOfTrain z d = isTrainKind (kind d) && eqb (number d) z
 
 -- those on one track
 abbrev pub isOfTrain : Bool → ℕ → AcceptedStep → Bool
@@ -119,8 +121,8 @@ latest f (r ∷ earlier) = f r ∷ earlier
 -- a step of the train, noted in its runs, the latest first: kind 5 starts one, 6 passes, 7 leaves
 abbrev pub noteStep : ℕ → ℕ → List Run → List Run
 noteStep k p runs =
-    cond (eqb k 5) (record { from = p; passed = []; left = none } ∷ runs)
-    (cond (eqb k 6) (latest (λ r. notePass p (r .left) r) runs)
+    cond (eqb k startKind) (record { from = p; passed = []; left = none } ∷ runs)
+    (cond (eqb k passKind) (latest (λ r. notePass p (r .left) r) runs)
     (latest (λ r. noteLeave p (r .left) r) runs))
 
 abbrev pub runsFrom : List Run → List AcceptedStep → List Run
@@ -154,8 +156,8 @@ endsAt p (some q) = cond (eqb p q) none (some q)
 
 abbrev pub noteReversal : ℕ → AcceptedStep → Option ℕ → Option ℕ
 noteReversal n d r =
-    cond (eqb (kind d) 1) (some (otherEnd n (post d)))
-    (cond (eqb (kind d) 2 || eqb (kind d) 13) (endsAt (post d) r) r)
+    cond (eqb (kind d) orderKind) (some (otherEnd n (post d)))
+    (cond (eqb (kind d) setKind || eqb (kind d) keyKind) (endsAt (post d) r) r)
 
 abbrev pub reversalFrom : ℕ → Option ℕ → List AcceptedStep → Option ℕ
 reversalFrom n r [] = r
@@ -222,7 +224,7 @@ module _ (c : Settings) where
   -- "if it has start permission, or if a start with some number, offered there next, would be accepted"
   pub data MayStart (s : Section) (b : Bool) (p : ℕ) : Type 0 where
     permission : p < c .posts → T (postOn (trackOf s b) p .permission) → MayStart s b p
-    start : (d : AcceptedStep) → kind d ≡ 5 → track d ≡ b → post d ≡ p → judge s (d .bytes) .verdict ≡ Accepted (d .said) → MayStart s b p
+    start : (d : AcceptedStep) → kind d ≡ startKind → track d ≡ b → post d ≡ p → judge s (d .bytes) .verdict ≡ Accepted (d .said) → MayStart s b p
 
   -- ## The claim for one track
 

@@ -68,7 +68,7 @@ module _ (c : Settings) where
 
   -- 18: "fault 1 without a mark (never at the last post)"
   abbrev pub fault1Confirmed : Site → Bool
-  fault1Confirmed e = atReceivingEnd c e || (not (e .own .fault1) || e .own .mark)
+  fault1Confirmed e = atReceivingEnd c e || (not (e .own .faults .one) || e .own .mark)
 
   -- ## Checks
 
@@ -77,7 +77,7 @@ module _ (c : Settings) where
       (isSettled (e .walk) else 11) ∷ (atSendingEnd c e else 12) ∷ (orderAllowed e (g .otherOnVns) else 14) ∷ (not (orderOccupied g) else 13) ∷ []
   checks (Set p) e g =
       (isTurn (e .walk) (e .post) act.Set else 15) ∷ (not (g .watched) else 13) ∷ (fault1Confirmed e else 18) ∷ (measuresSuffice e else 16)
-      ∷ (not (e .own .fault2) else 19) ∷ []
+      ∷ (not (e .own .faults .two) else 19) ∷ []
   checks (Announce p) e g = (isTurn (e .walk) (e .post) act.Announce else 15) ∷ []
   checks (Acknowledge p) e g = (isTurn (e .walk) (e .post) act.Acknowledge else 15) ∷ []
   checks (Start p number) e g =
@@ -91,10 +91,10 @@ module _ (c : Settings) where
   checks (FaultOn p f) e g = (not (hasFault f (e .own)) else 21) ∷ []
   checks (FaultOff p f) e g = (hasFault f (e .own) else 21) ∷ []
   checks (Release p number) e g =
-      (releaseInTurn e else 15) ∷ (not (atReceivingEnd c e) else 12) ∷ (e .own .fault1 else 21) ∷ (not (g .watched) else 13)
+      (releaseInTurn e else 15) ∷ (not (atReceivingEnd c e) else 12) ∷ (e .own .faults .one else 21) ∷ (not (g .watched) else 13)
       ∷ (eqb (g .lastAhead) number else 17) ∷ []
   checks (Key p) e g =
-      (isTurn (e .walk) (e .post) act.Set else 15) ∷ (e .own .fault2 else 21) ∷ (not (g .watched) else 13) ∷ (fault1Confirmed e else 18)
+      (isTurn (e .walk) (e .post) act.Set else 15) ∷ (e .own .faults .two else 21) ∷ (not (g .watched) else 13) ∷ (fault1Confirmed e else 18)
       ∷ (measuresSuffice e else 16) ∷ (not (eqb (e .own .seals) mostSeals) else 20) ∷ []
 
   -- ## Effects

@@ -21,7 +21,7 @@ use Rattle.section.specs.declared.Walk.the-variants.{Turn}
 use Rattle.section.specs.Bytes.{within}
 use Rattle.section.specs.Fresh.{freshTrack, freshSection}
 use Rattle.section.specs.Geometry.{upward, rank, block, isLast}
-use Rattle.section.specs.Numbers.{mostPosts, mostBlocks, mostSeals, largestTrain}
+use Rattle.section.specs.Numbers.{leastPosts, mostPosts, mostBlocks, mostSeals, largestTrain}
 use Rattle.section.specs.Post.{blank, permitted}
 use Rattle.section.specs.Range.{sealsFit, numbersFit, actFits, walkFits, trackFits, inRange}
 use Rattle.section.specs.Settings.{settingsRight}
@@ -59,17 +59,22 @@ unfolding block
 block-block n true i h = refl
 block-block n false i h = omega arith
 
--- ## A test of the first m cells
+-- ## Two tests
 
--- two tests that both hold
+-- they both hold
 pub both : {a b : Bool} → a ≡ true → b ≡ true → (a && b) ≡ true
 both {a} {b} h k = and-eq-true-iff a b .1 (h, k)
 
+pub and-parts : (a b : Bool) → (a && b) ≡ true → (a ≡ true) × (b ≡ true)
+and-parts a b h = and-eq-true-iff a b .0 h
+
 pub and-left : (a b : Bool) → (a && b) ≡ true → a ≡ true
-and-left a b h = and-eq-true-iff a b .0 h .0
+and-left a b h = and-parts a b h .0
 
 pub and-right : (a b : Bool) → (a && b) ≡ true → b ≡ true
-and-right a b h = and-eq-true-iff a b .0 h .1
+and-right a b h = and-parts a b h .1
+
+-- ## A test of the first m cells
 
 -- `fits m` says that `test` holds of each cell below m
 module _ (test fits : ℕ → Bool) (none : fits zero ≡ true) (more : (m : ℕ) → fits (suc m) ≡ (test m && fits m)) where
@@ -81,7 +86,7 @@ module _ (test fits : ℕ → Bool) (none : fits zero ≡ true) (more : (m : ℕ
   each : (m : ℕ) → fits m ≡ true → (i : ℕ) → i < m → test i ≡ true
   each zero h i k = absurd (not-suc-le-zero k)
   each (suc m) h i k =
-      let parts = and-eq-true-iff (test m) (fits m) .0 (sym (more m) ∙ h) in
+      let parts = and-parts (test m) (fits m) (sym (more m) ∙ h) in
       below-more (λ (j : ℕ). test j ≡ true) m (each m (parts .1)) (parts .0) i (rw add-one k)
 
   all : (m : ℕ) → ((i : ℕ) → i < m → test i ≡ true) → fits m ≡ true
@@ -175,34 +180,38 @@ regroup false b c d = refl
 pub track-cells :
     (n : ℕ) (track : Bool) (t : Track) →
     trackFits n track t
-    ≡ ((sealsFit n (t .posts) && (numbersFit (n - 1) (t .trains) && numbersFit (n - 1) (t .last))) && walkFits n (upward track (t .cvt)) (t .walk))
+    ≡ ((sealsFit n (t .posts) && (numbersFit (n - 1) (t .trains) && numbersFit (n - 1) (t .last)))
+    && walkFits n (upward track (t .cvt)) (t .walk))
 unfolding trackFits
 track-cells n track t =
-    regroup (sealsFit n (t .posts)) (numbersFit (n - 1) (t .trains)) (numbersFit (n - 1) (t .last)) (walkFits n (upward track (t .cvt)) (t .walk))
+    regroup (sealsFit n (t .posts)) (numbersFit (n - 1) (t .trains)) (numbersFit (n - 1) (t .last))
+    (walkFits n (upward track (t .cvt)) (t .walk))
 
-pub posts-right : (c : Settings) → settingsRight c ≡ true → (2 ≤ c .posts) × (c .posts ≤ 16)
+pub posts-right : (c : Settings) → settingsRight c ≡ true → (leastPosts ≤ c .posts) × (c .posts ≤ mostPosts)
 unfolding settingsRight within
 posts-right c h =
-    let r : (leb 2 (c .posts) && leb (c .posts) 16) ≡ true = and-left _ _ h in
-    (leb-true _ _ (and-left (leb 2 (c .posts)) (leb (c .posts) 16) r), leb-true _ _ (and-right (leb 2 (c .posts)) (leb (c .posts) 16) r))
+    let least = leb leastPosts (c .posts) in
+    let most = leb (c .posts) mostPosts in
+    let r : (least && most) ≡ true = and-left _ _ h in
+    (leb-true _ _ (and-left least most r), leb-true _ _ (and-right least most r))
 
 -- a track in its ranges
-pub record TrackRight (n : ℕ) (track : Bool) (t : Track) : Type 0 where
+pub record TrackRanges (n : ℕ) (track : Bool) (t : Track) : Type 0 where
   pub seals : (p : ℕ) → p < n → getD (t .posts) p blank .seals ≤ mostSeals
   pub trains : (i : ℕ) → i < n - 1 → getD (t .trains) i 0 ≤ largestTrain
   pub last : (i : ℕ) → i < n - 1 → getD (t .last) i 0 ≤ largestTrain
   pub walk : walkFits n (upward track (t .cvt)) (t .walk) ≡ true
 
 module _ (n : ℕ) (track : Bool) (t : Track) where
-  pub track-right : trackFits n track t ≡ true → TrackRight n track t
+  pub track-ranges : trackFits n track t ≡ true → TrackRanges n track t
   unfolding trackFits
-  track-right h =
+  track-ranges h =
       let walk = walkFits n (upward track (t .cvt)) (t .walk) in
       let last = numbersFit (n - 1) (t .last) in
       let trains = numbersFit (n - 1) (t .trains) in
-      let one = and-eq-true-iff (sealsFit n (t .posts)) (trains && (last && walk)) .0 h in
-      let two = and-eq-true-iff trains (last && walk) .0 (one .1) in
-      let three = and-eq-true-iff last walk .0 (two .1) in
+      let one = and-parts (sealsFit n (t .posts)) (trains && (last && walk)) h in
+      let two = and-parts trains (last && walk) (one .1) in
+      let three = and-parts last walk (two .1) in
       record {
         seals = seals-each (t .posts) n (one .0);
         trains = numbers-each (t .trains) (n - 1) (two .0);
@@ -210,9 +219,9 @@ module _ (n : ℕ) (track : Bool) (t : Track) where
         walk = three .1;
       }
 
-  pub track-fits : TrackRight n track t → trackFits n track t ≡ true
+  pub ranges-hold : TrackRanges n track t → trackFits n track t ≡ true
   unfolding trackFits
-  track-fits r =
+  ranges-hold r =
       both (seals-all (t .posts) n (r .seals))
       (both (numbers-all (t .trains) (n - 1) (r .trains)) (both (numbers-all (t .last) (n - 1) (r .last)) (r .walk)))
 
@@ -221,7 +230,7 @@ module _ (n : ℕ) (up : Bool) (p : ℕ) (act : Act) where
   pub turn-right : walkFits n up (Turn p act) ≡ true → (p < n) × (actFits n up p act ≡ true)
   unfolding walkFits
   turn-right h =
-      let parts = and-eq-true-iff (ltb p n) (actFits n up p act) .0 h in
+      let parts = and-parts (ltb p n) (actFits n up p act) h in
       (ltb-true _ _ (parts .0), parts .1)
 
 module _ (n : ℕ) (up : Bool) (p : ℕ) where
@@ -241,7 +250,7 @@ module _ (s : Section) where
   tracks-in-range h =
       let a = trackFits (s .settings .posts) false (s .a) in
       let b = trackFits (s .settings .posts) true (s .b) in
-      and-eq-true-iff a b .0 (and-right (settingsRight (s .settings)) (a && b) h)
+      and-parts a b (and-right (settingsRight (s .settings)) (a && b) h)
 
   pub track-in-range : inRange s ≡ true → (track : Bool) → trackFits (s .settings .posts) track (trackOf s track) ≡ true
   track-in-range h true = tracks-in-range h .1
@@ -263,9 +272,9 @@ set-keeps P (x ∷ l) zero (suc j) a d h k = h
 set-keeps P (x ∷ l) (suc i) zero a d h k = h
 set-keeps P (x ∷ l) (suc i) (suc j) a d h k = set-keeps P l i j a d h k
 
-fresh-track-right : (n : ℕ) (track : Bool) → n ≤ mostPosts → TrackRight n track (freshTrack n track)
+fresh-track-ranges : (n : ℕ) (track : Bool) → n ≤ mostPosts → TrackRanges n track (freshTrack n track)
 unfolding freshTrack walkFits
-fresh-track-right n track h = record {
+fresh-track-ranges n track h = record {
   seals = λ p k. set-keeps (λ (o : Post). o .seals ≤ mostSeals) (replicate mostPosts blank) (cond track (n - 1) 0) p (permitted true blank) blank
       (rw (getD-replicate mostPosts p blank blank (omega arith)) (lit≤ tt)) (lit≤ tt);
   trains = λ i k. rw (getD-replicate {A = ℕ} mostBlocks i 0 0 (omega arith)) (lit≤ tt);
@@ -275,8 +284,8 @@ fresh-track-right n track h = record {
 
 fresh-tracks : (c : Settings) → c .posts ≤ mostPosts → (track : Bool) → trackFits (c .posts) track (trackOf (freshSection c) track) ≡ true
 unfolding freshSection
-fresh-tracks c h true = track-fits (c .posts) true (freshTrack (c .posts) true) (fresh-track-right (c .posts) true h)
-fresh-tracks c h false = track-fits (c .posts) false (freshTrack (c .posts) false) (fresh-track-right (c .posts) false h)
+fresh-tracks c h true = ranges-hold (c .posts) true (freshTrack (c .posts) true) (fresh-track-ranges (c .posts) true h)
+fresh-tracks c h false = ranges-hold (c .posts) false (freshTrack (c .posts) false) (fresh-track-ranges (c .posts) false h)
 
 pub fresh-in-range : (c : Settings) → settingsRight c ≡ true → inRange (freshSection c) ≡ true
 unfolding freshSection

@@ -3,7 +3,11 @@ use Prim.Native.Nat.{suc}
 use mathlib.Core.Bool.{Bool, false}
 use Rattle.section.specs.declared.Fault.{Fault}
 use Rattle.section.specs.declared.Fault.the-variants.{One, Two, Three}
+use Rattle.section.specs.declared.Faults.{Faults}
 use Rattle.section.specs.declared.Post.{Post}
+
+abbrev pub noFaults : Faults
+noFaults = record { one = false; two = false; three = false }
 
 -- no permission, no measures, no fault, no mark, count 0, the device at VNS
 abbrev pub blank : Post
@@ -11,9 +15,7 @@ blank = record {
   cvt = false;
   permission = false;
   measures = false;
-  fault1 = false;
-  fault2 = false;
-  fault3 = false;
+  faults = noFaults;
   mark = false;
   seals = 0;
 }
@@ -24,9 +26,7 @@ turned x o = record {
   cvt = x;
   permission = o .permission;
   measures = o .measures;
-  fault1 = o .fault1;
-  fault2 = o .fault2;
-  fault3 = o .fault3;
+  faults = o .faults;
   mark = o .mark;
   seals = o .seals;
 }
@@ -37,9 +37,7 @@ permitted x o = record {
   cvt = o .cvt;
   permission = x;
   measures = o .measures;
-  fault1 = o .fault1;
-  fault2 = o .fault2;
-  fault3 = o .fault3;
+  faults = o .faults;
   mark = o .mark;
   seals = o .seals;
 }
@@ -50,42 +48,23 @@ measured x o = record {
   cvt = o .cvt;
   permission = o .permission;
   measures = x;
-  fault1 = o .fault1;
-  fault2 = o .fault2;
-  fault3 = o .fault3;
+  faults = o .faults;
   mark = o .mark;
   seals = o .seals;
 }
 
 -- a fault that stands or is gone
+abbrev pub withFault : Fault → Bool → Faults → Faults
+withFault One x l = record { one = x; two = l .two; three = l .three }
+withFault Two x l = record { one = l .one; two = x; three = l .three }
+withFault Three x l = record { one = l .one; two = l .two; three = x }
+
 abbrev pub faulty : Fault → Bool → Post → Post
-faulty One x o = record {
+faulty f x o = record {
   cvt = o .cvt;
   permission = o .permission;
   measures = o .measures;
-  fault1 = x;
-  fault2 = o .fault2;
-  fault3 = o .fault3;
-  mark = o .mark;
-  seals = o .seals;
-}
-faulty Two x o = record {
-  cvt = o .cvt;
-  permission = o .permission;
-  measures = o .measures;
-  fault1 = o .fault1;
-  fault2 = x;
-  fault3 = o .fault3;
-  mark = o .mark;
-  seals = o .seals;
-}
-faulty Three x o = record {
-  cvt = o .cvt;
-  permission = o .permission;
-  measures = o .measures;
-  fault1 = o .fault1;
-  fault2 = o .fault2;
-  fault3 = x;
+  faults = withFault f x (o .faults);
   mark = o .mark;
   seals = o .seals;
 }
@@ -96,9 +75,7 @@ marked x o = record {
   cvt = o .cvt;
   permission = o .permission;
   measures = o .measures;
-  fault1 = o .fault1;
-  fault2 = o .fault2;
-  fault3 = o .fault3;
+  faults = o .faults;
   mark = x;
   seals = o .seals;
 }
@@ -109,14 +86,12 @@ sealed o = record {
   cvt = o .cvt;
   permission = o .permission;
   measures = o .measures;
-  fault1 = o .fault1;
-  fault2 = o .fault2;
-  fault3 = o .fault3;
+  faults = o .faults;
   mark = o .mark;
   seals = suc (o .seals);
 }
 
 abbrev pub hasFault : Fault → Post → Bool
-hasFault One o = o .fault1
-hasFault Two o = o .fault2
-hasFault Three o = o .fault3
+hasFault One o = o .faults .one
+hasFault Two o = o .faults .two
+hasFault Three o = o .faults .three

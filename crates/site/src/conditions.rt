@@ -112,7 +112,7 @@ pub fn fault1_confirmed(c: Settings, e: Site) -> bool
     if at_receiving_end(c, e) {
         return true;
     }
-    if !e.own.fault1 {
+    if !e.own.faults.one {
         return true;
     }
     e.own.mark

@@ -1,42 +1,55 @@
 // Whether eight bytes say a step: every test of document 01's steps.
 ghost use mathlib.Core.Path.{_≡_};
 ghost use Rattle.section.specs.Bytes.{within};
-ghost use Rattle.section.specs.Step.{faultRight, numberRight, placeRight, fieldsRight, wellFormed};
+ghost use Rattle.section.specs.Step.{isTrain, fields, faultRight, numberRight, placeRight, fieldsRight, wellFormed};
 use section::LARGEST_TRAIN;
+use section::LAST_FAULT;
 use section::STEP_LENGTH;
+use section::kinds;
 use section::pair_of;
 
-fn is_within(lo: u16, hi: u16, x: u16) -> bool
+fn is_within(lo: u8, hi: u8, x: u8) -> bool
     ensures { λ r. ⌜ r ≡ within lo hi x ⌝ }
 {
     if lo <= x { x <= hi } else { false }
 }
 
-fn fault_right(kind: u16, fault: u16) -> bool
+// The number of a train.
+fn is_train(number: u16) -> bool
+    ensures { λ r. ⌜ r ≡ isTrain number ⌝ }
+{
+    if 1 <= number {
+        number <= LARGEST_TRAIN
+    } else {
+        false
+    }
+}
+
+fn fault_right(kind: u8, fault: u8) -> bool
     ensures { λ r. ⌜ r ≡ faultRight kind fault ⌝ }
 {
-    if is_within(10, 11, kind) {
-        return is_within(1, 3, fault);
+    if is_within(kinds::FAULT_ON, kinds::FAULT_OFF, kind) {
+        return is_within(1, LAST_FAULT, fault);
     }
     fault == 0
 }
 
-fn number_right(kind: u16, number: u16) -> bool
+fn number_right(kind: u8, number: u16) -> bool
     ensures { λ r. ⌜ r ≡ numberRight kind number ⌝ }
 {
-    if is_within(5, 7, kind) {
-        return is_within(1, LARGEST_TRAIN, number);
+    if is_within(kinds::START, kinds::LEAVE, kind) {
+        return is_train(number);
     }
-    if kind == 12 {
+    if kind == kinds::RELEASE {
         return number <= LARGEST_TRAIN;
     }
     number == 0
 }
 
-fn place_right(n: u8, kind: u16, track: u8, post: u8) -> bool
+fn place_right(n: u8, kind: u8, track: u8, post: u8) -> bool
     ensures { λ r. ⌜ r ≡ placeRight n kind track post ⌝ }
 {
-    if !is_within(1, 13, kind) {
+    if !is_within(1, kinds::LAST, kind) {
         return false;
     }
     if track >= 2 {
@@ -46,16 +59,15 @@ fn place_right(n: u8, kind: u16, track: u8, post: u8) -> bool
 }
 
 fn fields_right(n: u8, kind: u8, track: u8, post: u8, fault: u8, number: u16, zeros: u16) -> bool
-    ensures { λ r. ⌜ r ≡ fieldsRight n kind track post fault number zeros ⌝ }
+    ensures { λ r. ⌜ r ≡ fieldsRight n track (fields kind post fault number) zeros ⌝ }
 {
-    let k = kind as u16;
-    if !place_right(n, k, track, post) {
+    if !place_right(n, kind, track, post) {
         return false;
     }
-    if !fault_right(k, fault as u16) {
+    if !fault_right(kind, fault) {
         return false;
     }
-    if !number_right(k, number) {
+    if !number_right(kind, number) {
         return false;
     }
     zeros == 0

@@ -9,7 +9,7 @@ use lib.ListN.{length, take, drop, length-take, length-drop}
 use lib.Dec.{leb}
 use borrow.Author.Tests.{ltb-false, leb-true, leb-false, ne-eqb}
 use Rattle.section.specs.Numbers.{stepLength}
-use Rattle.section.specs.Step.{wellFormed, isWell, decoded}
+use Rattle.section.specs.Step.{wellFormed}
 use Rattle.layout.specs.Layout.{stepAt, stepCount}
 use Rattle.dayfile.specs.Tests.{leading, wellAt, firstMalformed, someMalformed}
 
@@ -49,7 +49,7 @@ unfolding wellAt stepAt
 well-here n s i e = ap (λ (k : ℕ). wellFormed n (take k (drop (i * 8) s))) (sym (add-sub-cancel-left (i * 8) 8)) ∙ e
 
 not-eight : (n : ℕ) (s : List ℕ) → (length s ≡ 8 → ⊥) → wellFormed n s ≡ false
-unfolding wellFormed isWell decoded
+unfolding wellFormed
 not-eight n s h = rw (ne-eqb (length s) 8 h)
 
 -- an incomplete step is malformed

@@ -1,3 +1,4 @@
+-- The branches are the tests of the settings and of the two tracks, in their order; settings in range give the number of posts that a track's test asks for.
 use borrow.Author.Needs.{needs}
 use Rattle.section.specs.Range.{inRange}
 use Rattle.section.proofs.Laws.{posts-right}
@@ -28,7 +29,8 @@ unfolding inRange
 returns-3 c =
     let d = c .before in
     let b = d .before .before in
-    rw (told-true (b .before .settings-right .ensures) (b .if1 .left), told-true (d .before .track-fits .ensures) (d .if2 .left)) (c .track-fits2 .ensures)
+    rw (told-true (b .before .settings-right .ensures) (b .if1 .left), told-true (d .before .track-fits .ensures) (d .if2 .left))
+    (c .track-fits2 .ensures)
 
 pub in-range-spec : {M : Type 1} → statement M
 in-range-spec =

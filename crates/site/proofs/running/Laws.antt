@@ -6,7 +6,7 @@ use Rattle.section.specs.declared.Settings.{Settings}
 use Rattle.section.specs.declared.Track.{Track}
 use Rattle.section.specs.Range.{trackFits}
 use Rattle.section.specs.Settings.{settingsRight}
-use Rattle.section.proofs.Laws.{posts-right, track-right}
+use Rattle.section.proofs.Laws.{posts-right, track-ranges}
 use Rattle.rules.specs.Site.{siteOn}
 use Rattle.site.specs.Fit.{Fit}
 
@@ -15,5 +15,5 @@ pub fit-on :
     → Fit c (siteOn track p t)
 fit-on c track t p right fits below =
     let n = posts-right c right in
-    let r = track-right (c .posts) track t fits in
+    let r = track-ranges (c .posts) track t fits in
     record { placed = record { least = n .0; most = n .1; post = below }; seals = r .seals p below; walk = r .walk }

@@ -1,3 +1,4 @@
+-- Each arm is the row of its kind in `stepOf`; the last is reached by the kinds that no other arm names.
 use borrow.Author.Needs.{needs}
 use borrow.Author.Tests.{ne-eqb}
 use Rattle.section.specs.Step.{stepOf}

@@ -1,10 +1,10 @@
 use borrow.Author.Needs.{needs}
-use Rattle.section.specs.Step.{trackStepOf, stepSaid}
+use Rattle.section.specs.Step.{stepSaid}
 use Rattle.steps.proofs.step_said.Statement.{statement}
 use Rattle.steps.proofs.step_said.Tie as tie
 
 returns : tie.Need-returns
-unfolding stepSaid trackStepOf
+unfolding stepSaid
 returns c = rw (c .before .step-of .ensures, c .before .before .pair-of .ensures)
 
 pub step-said-spec : {M : Type 1} → statement M

@@ -1,3 +1,4 @@
+-- The branches are the tests of place, fault, number and zero bytes, in their order: those passed so far hold, the one that led to the return does not.
 use borrow.Author.Needs.{needs}
 use Rattle.section.specs.Step.{fieldsRight}
 use Rattle.section.proofs.Told.{told-false, told-true}

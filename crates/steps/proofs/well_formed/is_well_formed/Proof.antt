@@ -1,19 +1,20 @@
 -- Bytes are well formed where they are eight and their fields are right.
 use borrow.Author.Needs.{needs}
 use borrow.Author.Tests.{eq-eqb, ne-eqb}
-use Rattle.section.proofs.StepLaws.{bytesRight, well-formed-is}
+use Rattle.section.specs.Step.{wellFormed}
 use Rattle.steps.proofs.well_formed.is_well_formed.Statement.{statement}
 use Rattle.steps.proofs.well_formed.is_well_formed.Tie as tie
 
 returns : tie.Need-returns
-returns c = rw (well-formed-is, ne-eqb _ _ (c .if1 .taken))
+unfolding wellFormed
+returns c = rw (ne-eqb _ _ (c .if1 .taken))
 
 returns-2 : tie.Need-returns-2
-unfolding bytesRight
+unfolding wellFormed
 returns-2 c = let second = c .before .before .before .before .before in
     let first = second .before .before .before in
     let whole = first .before .before .before in
-    rw (well-formed-is, eq-eqb _ _ (whole .if1 .left), c .fields-right .ensures, second .pair-of2 .ensures, first .pair-of .ensures)
+    rw (eq-eqb _ _ (whole .if1 .left), c .fields-right .ensures, second .pair-of2 .ensures, first .pair-of .ensures)
 
 pub is-well-formed-spec : {M : Type 1} → statement M
 is-well-formed-spec =

@@ -7,7 +7,7 @@ use Rattle.steps.proofs.well_formed.number_right.Tie as tie
 
 returns : tie.Need-returns
 unfolding numberRight
-returns c = rw (told (c .before .before .is-within .ensures) (c .before .if1 .taken)) (c .is-within2 .ensures)
+returns c = rw (told (c .before .before .is-within .ensures) (c .before .if1 .taken)) (c .is-train .ensures)
 
 returns-2 : tie.Need-returns-2
 unfolding numberRight
