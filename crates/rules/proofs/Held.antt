@@ -34,11 +34,11 @@ module _ (c : Settings) (e : Site) (g : Occupancy) where
     pub free : T (not (g .watched))
     pub fault1-confirmed : T (fault1Confirmed c e)
     pub measures-suffice : T (measuresSuffice e)
-    pub no-fault2 : T (not (e .own .fault2))
+    pub no-fault2 : T (not (e .own .faults .two))
 
   pub record KeyHeld : Type 0 where
     pub in-turn : T (isTurn (e .walk) (e .post) act.Set)
-    pub fault2 : T (e .own .fault2)
+    pub fault2 : T (e .own .faults .two)
     pub free : T (not (g .watched))
     pub fault1-confirmed : T (fault1Confirmed c e)
     pub measures-suffice : T (measuresSuffice e)
@@ -83,7 +83,7 @@ module _ (c : Settings) (e : Site) (g : Occupancy) where
   pub record ReleaseHeld (z : ℕ) : Type 0 where
     pub in-turn : T (releaseInTurn c e)
     pub not-last : T (not (atReceivingEnd c e))
-    pub fault1 : T (e .own .fault1)
+    pub fault1 : T (e .own .faults .one)
     pub free : T (not (g .watched))
     pub last-train : T (eqb (g .lastAhead) z)
 

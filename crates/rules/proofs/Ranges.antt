@@ -18,7 +18,7 @@ use Rattle.section.specs.Numbers.{mostSeals, largestTrain}
 use Rattle.section.specs.Post.{blank}
 use Rattle.section.specs.Range.{actFits, walkFits, trackFits}
 use Rattle.section.specs.Store.{postOn}
-use Rattle.section.proofs.Laws.{track-right, track-fits, set-keeps}
+use Rattle.section.proofs.Laws.{track-ranges, ranges-hold, set-keeps}
 use Rattle.rules.specs.declared.Site.{Site}
 use Rattle.rules.specs.declared.Movement.{Movement}
 use Rattle.rules.specs.declared.Movement.the-variants.{Stays, Enters, Moves, Leaves}
@@ -76,12 +76,12 @@ module _ (c : Settings) (b : Bool) where
 
   pub track-in : (t : Track) → trackFits (c .posts) b t ≡ true → InRange t
   track-in t h =
-      let r = track-right (c .posts) b t h in
+      let r = track-ranges (c .posts) b t h in
       record { seals = r .seals; trains = r .trains; last = r .last; turn = turn-in (t .cvt) (t .walk) (true-T _ (r .walk)) }
 
   pub track-out : (t : Track) → InRange t → trackFits (c .posts) b t ≡ true
   track-out t r =
-      track-fits (c .posts) b t
+      ranges-hold (c .posts) b t
       (record { seals = r .seals; trains = r .trains; last = r .last; walk = T-true _ (turn-out (t .cvt) (t .walk) (r .turn)) })
 
   -- ## Kept by an accepted step

@@ -26,14 +26,14 @@ from-locked c = from-in-turn (c .before .before)
 abbrev from-free : tie.After-watched-occupied → tie.Start
 from-free c = from-locked (c .before .before)
 
-abbrev from-confirmed : tie.After-confirmed → tie.Start
-from-confirmed c = from-free (c .before .before)
+abbrev from-fault1-confirmed : tie.After-fault1-confirmed → tie.Start
+from-fault1-confirmed c = from-free (c .before .before)
 
-abbrev from-secured : tie.After-secured → tie.Start
-from-secured c = from-confirmed (c .before .before)
+abbrev from-measures-suffice : tie.After-measures-suffice → tie.Start
+from-measures-suffice c = from-fault1-confirmed (c .before .before)
 
 abbrev from-seal-left : tie.After-struct-known2 → tie.Start
-from-seal-left c = from-secured (c .before .before)
+from-seal-left c = from-measures-suffice (c .before .before)
 
 in-turn : (c : tie.After-is-turn) → AskedAt 1 15 (row (from-in-turn c)) (not (c .is-turn .result))
 unfolding checks occupancyAt
@@ -47,17 +47,17 @@ free : (c : tie.After-watched-occupied) → AskedAt 3 13 (row (from-free c)) (c 
 unfolding checks occupancyAt
 free c = when (locked (c .before .before) .left (c .before .if2 .left)) (c .watched-occupied .ensures)
 
-confirmed : (c : tie.After-confirmed) → AskedAt 4 18 (row (from-confirmed c)) (not (c .confirmed .result))
+fault1-confirmed : (c : tie.After-fault1-confirmed) → AskedAt 4 18 (row (from-fault1-confirmed c)) (not (c .fault1-confirmed .result))
 unfolding checks occupancyAt
-confirmed c = unless (free (c .before .before) .left (c .before .if3 .left)) (c .confirmed .ensures)
+fault1-confirmed c = unless (free (c .before .before) .left (c .before .if3 .left)) (c .fault1-confirmed .ensures)
 
-secured : (c : tie.After-secured) → AskedAt 5 16 (row (from-secured c)) (not (c .secured .result))
+measures-suffice : (c : tie.After-measures-suffice) → AskedAt 5 16 (row (from-measures-suffice c)) (not (c .measures-suffice .result))
 unfolding checks occupancyAt
-secured c = unless (confirmed (c .before .before) .left (c .before .if4 .left)) (c .secured .ensures)
+measures-suffice c = unless (fault1-confirmed (c .before .before) .left (c .before .if4 .left)) (c .measures-suffice .ensures)
 
 seal-left : (c : tie.After-struct-known2) → AskedAt 6 20 (row (from-seal-left c)) (eqb (from-seal-left c .args .e .own .seals) mostSeals)
 unfolding checks occupancyAt
-seal-left c = when (secured (c .before .before) .left (c .before .if5 .left)) refl
+seal-left c = when (measures-suffice (c .before .before) .left (c .before .if5 .left)) refl
 
 accepts : tie.Need-returns-7
 unfolding checks effect
@@ -73,8 +73,8 @@ key-spec =
     (λ c κs. from-locked (c .before) .pre)
     (λ c. free (c .before) .taken _ (c .if3 .taken))
     (λ c κs. from-free (c .before) .pre)
-    (λ c. confirmed (c .before) .taken _ (c .if4 .taken))
+    (λ c. fault1-confirmed (c .before) .taken _ (c .if4 .taken))
     (λ c κs. tt)
-    (λ c. secured (c .before) .taken _ (c .if5 .taken))
+    (λ c. measures-suffice (c .before) .taken _ (c .if5 .taken))
     (λ c. seal-left (c .before) .taken _ (eq-eqb _ _ (c .if6 .taken)))
     accepts)

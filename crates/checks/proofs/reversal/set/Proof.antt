@@ -20,14 +20,14 @@ from-in-turn c = c .before
 abbrev from-free : tie.After-watched-occupied → tie.Start
 from-free c = from-in-turn (c .before .before)
 
-abbrev from-confirmed : tie.After-confirmed → tie.Start
-from-confirmed c = from-free (c .before .before)
+abbrev from-fault1-confirmed : tie.After-fault1-confirmed → tie.Start
+from-fault1-confirmed c = from-free (c .before .before)
 
-abbrev from-secured : tie.After-secured → tie.Start
-from-secured c = from-confirmed (c .before .before)
+abbrev from-measures-suffice : tie.After-measures-suffice → tie.Start
+from-measures-suffice c = from-fault1-confirmed (c .before .before)
 
 abbrev from-unlocked : tie.Else4 → tie.Start
-from-unlocked c = from-secured (c .before)
+from-unlocked c = from-measures-suffice (c .before)
 
 in-turn : (c : tie.After-is-turn) → AskedAt 1 15 (row (from-in-turn c)) (not (c .is-turn .result))
 unfolding checks occupancyAt
@@ -37,17 +37,17 @@ free : (c : tie.After-watched-occupied) → AskedAt 2 13 (row (from-free c)) (c 
 unfolding checks occupancyAt
 free c = when (in-turn (c .before .before) .left (c .before .if1 .left)) (c .watched-occupied .ensures)
 
-confirmed : (c : tie.After-confirmed) → AskedAt 3 18 (row (from-confirmed c)) (not (c .confirmed .result))
+fault1-confirmed : (c : tie.After-fault1-confirmed) → AskedAt 3 18 (row (from-fault1-confirmed c)) (not (c .fault1-confirmed .result))
 unfolding checks occupancyAt
-confirmed c = unless (free (c .before .before) .left (c .before .if2 .left)) (c .confirmed .ensures)
+fault1-confirmed c = unless (free (c .before .before) .left (c .before .if2 .left)) (c .fault1-confirmed .ensures)
 
-secured : (c : tie.After-secured) → AskedAt 4 16 (row (from-secured c)) (not (c .secured .result))
+measures-suffice : (c : tie.After-measures-suffice) → AskedAt 4 16 (row (from-measures-suffice c)) (not (c .measures-suffice .result))
 unfolding checks occupancyAt
-secured c = unless (confirmed (c .before .before) .left (c .before .if3 .left)) (c .secured .ensures)
+measures-suffice c = unless (fault1-confirmed (c .before .before) .left (c .before .if3 .left)) (c .measures-suffice .ensures)
 
 unlocked : (c : tie.Else4) → AskedAt 5 19 (row (from-unlocked c)) (from-unlocked c .args .e .own .fault2)
 unfolding checks occupancyAt
-unlocked c = when (secured (c .before) .left (c .if4 .left)) refl
+unlocked c = when (measures-suffice (c .before) .left (c .if4 .left)) refl
 
 accepts : tie.Need-returns-6
 unfolding checks effect
@@ -62,8 +62,8 @@ set-spec =
     (λ c κs. from-in-turn (c .before) .pre)
     (λ c. free (c .before) .taken _ (c .if2 .taken))
     (λ c κs. from-free (c .before) .pre)
-    (λ c. confirmed (c .before) .taken _ (c .if3 .taken))
+    (λ c. fault1-confirmed (c .before) .taken _ (c .if3 .taken))
     (λ c κs. tt)
-    (λ c. secured (c .before) .taken _ (c .if4 .taken))
+    (λ c. measures-suffice (c .before) .taken _ (c .if4 .taken))
     (λ c. unlocked (c .before) .taken _ (c .if5 .taken))
     accepts)

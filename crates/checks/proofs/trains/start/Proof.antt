@@ -27,8 +27,8 @@ from-unknown c = from-sending (c .before .before .before)
 abbrev from-free : tie.After-stretch-occupied → tie.Start
 from-free c = from-unknown (c .before .before)
 
-abbrev from-confirmed : tie.After-confirmed → tie.Start
-from-confirmed c = from-free (c .before .before)
+abbrev from-fault1-confirmed : tie.After-fault1-confirmed → tie.Start
+from-fault1-confirmed c = from-free (c .before .before)
 
 settled : (c : tie.After-is-settled) → AskedAt 1 11 (row (from-settled c)) (not (c .is-settled .result))
 unfolding checks occupancyAt numberOf
@@ -46,13 +46,13 @@ free : (c : tie.After-stretch-occupied) → AskedAt 4 13 (row (from-free c)) (c 
 unfolding checks occupancyAt numberOf
 free c = when (unknown (c .before .before) .left (c .before .if3 .left)) (c .stretch-occupied .ensures)
 
-confirmed : (c : tie.After-confirmed) → AskedAt 5 18 (row (from-confirmed c)) (not (c .confirmed .result))
+fault1-confirmed : (c : tie.After-fault1-confirmed) → AskedAt 5 18 (row (from-fault1-confirmed c)) (not (c .fault1-confirmed .result))
 unfolding checks occupancyAt numberOf
-confirmed c = unless (free (c .before .before) .left (c .before .if4 .left)) (c .confirmed .ensures)
+fault1-confirmed c = unless (free (c .before .before) .left (c .before .if4 .left)) (c .fault1-confirmed .ensures)
 
 accepts : tie.Need-returns-6
 unfolding checks effect
-accepts c = accepted _ (confirmed (c .before) .left (c .if5 .left))
+accepts c = accepted _ (fault1-confirmed (c .before) .left (c .if5 .left))
 
 pub start-spec : {M : Type 1} → statement M
 start-spec =
@@ -68,5 +68,5 @@ start-spec =
     (λ c κs. from-unknown (c .before) .pre)
     (λ c. free (c .before) .taken _ (c .if4 .taken))
     (λ c κs. from-free (c .before) .pre)
-    (λ c. confirmed (c .before) .taken _ (c .if5 .taken))
+    (λ c. fault1-confirmed (c .before) .taken _ (c .if5 .taken))
     accepts)
