@@ -21,7 +21,7 @@ use Rattle.section.specs.Post.{blank}
 use Rattle.section.proofs.Laws.{and-left}
 use Rattle.layout.specs.Layout.{settingsLength, pairBytes, settingsBytes}
 use Rattle.text.specs.Text.{decimalDigits, written}
-use Rattle.text.proofs.Laws.{Put, put-nothing, put-then, written-length}
+use Rattle.text.proofs.Laws.{put-nothing, then, written-length}
 use Rattle.image.specs.Image.{trackA, trackB, numberLength, postLength, postsLength}
 use Rattle.image.specs.Image.{numbersLength, headLength, trackLength, imageLength}
 use Rattle.image.specs.Image.{flag, postImage, postsImage, numbersImage, walkImage, trackHead}
@@ -93,9 +93,19 @@ numbers-more m l = rw (add-one m)
 
 -- ## Pieces put one after another
 
+-- a text put at a place: the next place, and the buffer afterwards
+pub record Put (l : List ℕ) (at : ℕ) (text : List ℕ) (r : ℕ) (m : List ℕ) : Type 0 where
+  pub next : r ≡ at + length text
+  pub after : m ≡ written l at text
+
+put-then : {l m k : List ℕ} {at r q : ℕ} {s t : List ℕ} → Put l at s r m → at + length s ≤ length l → Put m r t q k → Put l at (s ++ t) q k
+put-then {l} {m} {k} {at} {r} {q} {s} {t} a room b =
+    let both = then l m k at r q s t room (a .next, a .after) (b .next, b .after) in
+    record { next = both .0; after = both .1 }
+
 pub nothing-put : (l : List ℕ) (at : ℕ) → Put l at [] at l
 unfolding decimalDigits
-nothing-put l at = put-nothing l at 0 0 refl
+nothing-put l at = let e = put-nothing l at 0 0 refl in record { next = e .0; after = e .1 }
 
 module _ {l b s : List ℕ} {at next : ℕ} (p : Put l at s next b) where
   pub same-after : at + length s ≤ length l → length b ≡ length l

@@ -39,7 +39,7 @@ in-turn : (c : tie.After-is-turn) → AskedAt 1 15 (row (from-in-turn c)) (not (
 unfolding checks occupancyAt
 in-turn c = unless none (c .is-turn .ensures)
 
-locked : (c : tie.After-struct-known) → AskedAt 2 21 (row (from-locked c)) (not (from-locked c .args .e .own .fault2))
+locked : (c : tie.After-struct-known) → AskedAt 2 21 (row (from-locked c)) (not (from-locked c .args .e .own .faults .two))
 unfolding checks occupancyAt
 locked c = unless (in-turn (c .before .before) .left (c .before .if1 .left)) refl
 

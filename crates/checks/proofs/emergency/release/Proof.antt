@@ -38,7 +38,7 @@ block-ahead : (c : tie.After-at-receiving-end) → AskedAt 2 12 (row (from-block
 unfolding checks occupancyAt
 block-ahead c = when (in-turn (c .before .before) .left (c .before .if1 .left)) (c .at-receiving-end .ensures)
 
-faulty : (c : tie.After-struct-known) → AskedAt 3 21 (row (from-faulty c)) (not (from-faulty c .args .e .own .fault1))
+faulty : (c : tie.After-struct-known) → AskedAt 3 21 (row (from-faulty c)) (not (from-faulty c .args .e .own .faults .one))
 unfolding checks occupancyAt
 faulty c = unless (block-ahead (c .before .before) .left (c .before .if2 .left)) refl
 

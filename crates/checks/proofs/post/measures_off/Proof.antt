@@ -1,5 +1,5 @@
 -- Each check is asked past those that held; the return on it is its refusal, the last return is past them all.
-use mathlib.Core.Bool.{not}
+use mathlib.Core.Bool.{false, not}
 use mathlib.Core.List.{List, []}
 use mathlib.Core.Path.{refl}
 use Rattle.section.specs.declared.Settings.{Settings}
@@ -11,7 +11,7 @@ use Rattle.checks.proofs.post.measures_off.Statement.{statement}
 use Rattle.checks.proofs.post.measures_off.Tie as tie
 
 abbrev row : Settings → tie.Start → List Check
-row s c = rowAt s (MeasuresOff (c .args .e .post)) (c .args .e) [] []
+row s c = rowAt s false (MeasuresOff (c .args .e .post)) (c .args .e) [] []
 
 -- the entry, from where each check is asked
 abbrev from-in-place : tie.After-struct-known → tie.Start

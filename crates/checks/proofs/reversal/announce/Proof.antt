@@ -1,5 +1,5 @@
 -- Each check is asked past those that held; the return on it is its refusal, the last return is past them all.
-use mathlib.Core.Bool.{not}
+use mathlib.Core.Bool.{false, not}
 use mathlib.Core.List.{[]}
 use Rattle.section.specs.declared.Settings.{Settings}
 use Rattle.section.specs.declared.Step.the-variants.{Announce}
@@ -10,7 +10,7 @@ use Rattle.checks.proofs.reversal.announce.Statement.{statement}
 use Rattle.checks.proofs.reversal.announce.Tie as tie
 
 in-turn : (s : Settings) (c : tie.After-is-turn) →
-    let e = c .before .args .e in AskedAt 1 15 (rowAt s (Announce (e .post)) e [] []) (not (c .is-turn .result))
+    let e = c .before .args .e in AskedAt 1 15 (rowAt s false (Announce (e .post)) e [] []) (not (c .is-turn .result))
 unfolding checks
 in-turn s c = unless none (c .is-turn .ensures)
 

@@ -45,7 +45,7 @@ measures-suffice : (c : tie.After-measures-suffice) → AskedAt 4 16 (row (from-
 unfolding checks occupancyAt
 measures-suffice c = unless (fault1-confirmed (c .before .before) .left (c .before .if3 .left)) (c .measures-suffice .ensures)
 
-unlocked : (c : tie.Else4) → AskedAt 5 19 (row (from-unlocked c)) (from-unlocked c .args .e .own .fault2)
+unlocked : (c : tie.Else4) → AskedAt 5 19 (row (from-unlocked c)) (from-unlocked c .args .e .own .faults .two)
 unfolding checks occupancyAt
 unlocked c = when (measures-suffice (c .before) .left (c .if4 .left)) refl
 

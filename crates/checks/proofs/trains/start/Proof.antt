@@ -21,7 +21,7 @@ from-settled c = c .before
 abbrev from-sending : tie.After-at-sending-end → tie.Start
 from-sending c = from-settled (c .before .before)
 
-abbrev from-unknown : tie.After-has-number → tie.Start
+abbrev from-unknown : tie.After-any-of → tie.Start
 from-unknown c = from-sending (c .before .before .before)
 
 abbrev from-free : tie.After-stretch-occupied → tie.Start
@@ -38,9 +38,9 @@ sending : (c : tie.After-at-sending-end) → AskedAt 2 12 (row (from-sending c))
 unfolding checks occupancyAt numberOf
 sending c = unless (settled (c .before .before) .left (c .before .if1 .left)) (c .at-sending-end .ensures)
 
-unknown : (c : tie.After-has-number) → AskedAt 3 17 (row (from-unknown c)) (c .has-number .result)
+unknown : (c : tie.After-any-of) → AskedAt 3 17 (row (from-unknown c)) (c .any-of .result)
 unfolding checks occupancyAt numberOf
-unknown c = when (sending (c .before .before .before) .left (c .before .before .if2 .left)) (c .has-number .ensures)
+unknown c = when (sending (c .before .before .before) .left (c .before .before .if2 .left)) (c .any-of .ensures)
 
 free : (c : tie.After-stretch-occupied) → AskedAt 4 13 (row (from-free c)) (c .stretch-occupied .result)
 unfolding checks occupancyAt numberOf

@@ -6,7 +6,7 @@ use native.Mathlib.Omega.{arith}
 use denote.Ref.{now}
 use lib.ListN.{length}
 use Rattle.image.specs.Image.{postsImage}
-use Rattle.text.proofs.Laws.{Put}
+use Rattle.image.proofs.Laws.{Put}
 use Rattle.image.proofs.Laws.{posts-length, post-length, posts-more, nothing-put, same-after, room-after, put-next}
 use Rattle.image.proofs.writer.put_posts.Statement.{statement}
 use Rattle.image.proofs.writer.put_posts.Tie as tie
