@@ -1,25 +1,22 @@
--- What a call returns that notes the steps of a day, and the lent buffer afterwards.
+-- What a call returns that notes the steps of a day, and the lent buffer afterwards. Settings come in a day file's bytes.
 use Prim.Native.Nat.{ℕ, _/_}
 use mathlib.Core.Bool.{cond}
 use mathlib.Core.List.{List}
 use lib.ListN.{length}
-use Rattle.section.specs.declared.Settings.{Settings}
 use Rattle.section.specs.Numbers.{stepLength}
-use Rattle.section.specs.Settings.{settingsRight}
+use Rattle.layout.specs.Layout.{settingsOf}
+use Rattle.packed.specs.Settings.{lentSettingsWellFormed}
 use Rattle.whole_day.specs.Notes.{canBeNoted, notesAfter}
 
 -- the whole steps that are offered
 abbrev pub stepsOffered : List ℕ → ℕ
 stepsOffered steps = length steps / stepLength
 
--- of a day that cannot be noted: 6 for settings out of their ranges, else 5, for the buffer is too short for the notes
-unfoldable pub dayRefusal : Settings → ℕ
-dayRefusal c = cond (settingsRight c) 5 6
-
--- 0 where the day can be noted
-unfoldable pub dayAnswer : Settings → List ℕ → ℕ → ℕ
-dayAnswer c steps room = cond (canBeNoted c steps (stepsOffered steps) room) 0 (dayRefusal c)
+-- 6 for bytes that are no settings, as for a state with settings out of range; then 5: the buffer is too short for the notes
+unfoldable pub dayAnswer : List ℕ → List ℕ → ℕ → ℕ
+dayAnswer settings steps room =
+    cond (lentSettingsWellFormed settings) (cond (canBeNoted (settingsOf settings) steps (stepsOffered steps) room) 0 5) 6
 
 -- the notes at the buffer's front; a refused call leaves it untouched
-abbrev pub dayNotes : Settings → List ℕ → List ℕ → List ℕ
-dayNotes c steps buffer = notesAfter c steps (stepsOffered steps) buffer
+unfoldable pub dayNotes : List ℕ → List ℕ → List ℕ → List ℕ
+dayNotes settings steps buffer = cond (lentSettingsWellFormed settings) (notesAfter (settingsOf settings) steps (stepsOffered steps) buffer) buffer

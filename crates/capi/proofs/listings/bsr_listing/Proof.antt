@@ -1,6 +1,6 @@
 use mathlib.Core.Path.{_∙_, ap}
 use denote.Ref.{now}
-use Rattle.capi.proofs.listings.Sheets.{handed-fits}
+use Rattle.capi.proofs.Texts.{handed-fits}
 use Rattle.packed.specs.Packed.{packedHanded}
 use borrow.Author.Needs.{needs}
 use Rattle.capi.proofs.listings.bsr_listing.Statement.{statement}

@@ -1,33 +1,53 @@
+use native.Mathlib.Omega.{arith}
 use borrow.Author.Tests.{lt-ltb, le-ltb}
-use denote.Ref.{now}
-use Rattle.packed.specs.Settings.{settingsGiven}
-use Rattle.capi.proofs.sections.Images.{too-short, put}
 use borrow.Author.Needs.{needs}
-use Rattle.capi.proofs.sections.bsr_fresh.Statement.{statement}
-use Rattle.capi.proofs.sections.bsr_fresh.Tie as tie
+use denote.Ref.{now}
+use Rattle.section.proofs.Told.{told-false, told-true}
+use Rattle.packed.proofs.Settings.{settings-lent}
+use Rattle.capi.proofs.section_images.Images.{no-settings, too-short, put}
+use Rattle.capi.proofs.section_images.bsr_fresh.Statement.{statement}
+use Rattle.capi.proofs.section_images.bsr_fresh.Tie as tie
 
 returns : tie.Need-returns
 returns c =
-    let x = c .before .before .args in
-    too-short (settingsGiven (x .n) (x .form) (x .mask) (x .line)) (now (x .buffer)) (lt-ltb _ _ (c .if1 .taken))
+    let tested = c .before in
+    let x = tested .before .before .before .before .args in
+    no-settings (now (x .settings)) (now (x .buffer)) (told-false (tested .lent-settings-well-formed .ensures) (c .if1 .taken))
 
 returns-2 : tie.Need-returns-2
 returns-2 c =
+    let well = c .before .before in
+    let tested = well .before in
+    let x = tested .before .before .before .before .args in
+    too-short (now (x .settings)) (now (x .buffer)) (told-true (tested .lent-settings-well-formed .ensures) (well .if1 .left)) (lt-ltb _ _ (c .if2 .taken))
+
+settings-of-requires : tie.Need-settings-of-requires
+settings-of-requires c κs =
+    let well = c .before .before .before in
+    omega (arith, settings-lent _ (told-true (well .before .lent-settings-well-formed .ensures) (well .if1 .left)))
+
+returns-3 : tie.Need-returns-3
+returns-3 c =
     let written = c .before .before in
     let fresh = written .before in
     let given = fresh .before in
-    let e = given .before .before in
-    let x = e .before .before .args in
-    put (settingsGiven (x .n) (x .form) (x .mask) (x .line)) (now (x .buffer)) (le-ltb _ _ (e .if1 .left))
-    (given .settings-given .ensures) (fresh .fresh .ensures) (written .put-image .ensures)
+    let fits = given .before .before in
+    let well = fits .before .before in
+    let tested = well .before in
+    let x = tested .before .before .before .before .args in
+    put (now (x .settings)) (now (x .buffer)) (told-true (tested .lent-settings-well-formed .ensures) (well .if1 .left)) (le-ltb _ _ (fits .if2 .left))
+    (given .settings-of .ensures) (fresh .fresh .ensures) (written .put-image .ensures)
 
 pub bsr-fresh-spec : {M : Type 1} → statement M
 bsr-fresh-spec =
     tie.close
     (tie.spec
-    returns
     (λ c κs. search needs)
+    (λ c. search needs)
+    returns
+    returns-2
+    settings-of-requires
     (λ c κs. search needs)
     (λ c κs. search needs)
     (λ c. search needs)
-    returns-2)
+    returns-3)
