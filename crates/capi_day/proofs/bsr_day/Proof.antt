@@ -12,9 +12,7 @@ unfolding dayAnswer dayNotes
 returns c = let e = told-false (c .before .lent-settings-well-formed .ensures) (c .if1 .taken) in (rw e, rw e)
 
 settings-of-requires : tie.Need-settings-of-requires
-settings-of-requires c κs =
-    let well = c .before in
-    omega (arith, settings-lent _ (told-true (well .before .lent-settings-well-formed .ensures) (well .if1 .left)))
+settings-of-requires c κs = omega (arith, settings-lent _ (told-true (c .before .lent-settings-well-formed .ensures) (c .if1 .left)))
 
 returns-2 : tie.Need-returns-2
 unfolding dayAnswer dayNotes
@@ -43,7 +41,6 @@ bsr-day-spec =
     tie.close
     (tie.spec
     (λ c κs. search needs)
-    (λ c. search needs)
     returns
     settings-of-requires
     (λ c κs. search needs)

@@ -14,9 +14,7 @@ unfolding dayAnswer dayNotes
 returns c = let e = told-false (c .before .lent-settings-well-formed .ensures) (c .if1 .taken) in (rw e, rw e)
 
 settings-of-requires : tie.Need-settings-of-requires
-settings-of-requires c κs =
-    let well = c .before in
-    omega (arith, settings-lent _ (told-true (well .before .lent-settings-well-formed .ensures) (well .if1 .left)))
+settings-of-requires c κs = omega (arith, settings-lent _ (told-true (c .before .lent-settings-well-formed .ensures) (c .if1 .left)))
 
 returns-2 : tie.Need-returns-2
 unfolding dayAnswer dayNotes
@@ -24,7 +22,7 @@ returns-2 c =
     let asked = c .before in
     let given = asked .before in
     let well = given .before in
-    let a = well .before .before .before .before .before .before .args in
+    let a = well .before .before .before .before .before .args in
     let not-so = told-false (asked .can-be-noted .ensures) (c .if2 .taken) in
     rw (told-true (well .before .lent-settings-well-formed .ensures) (well .if1 .left), ← given .settings-of .ensures) (
       rw not-so,
@@ -45,7 +43,7 @@ returns-3 c =
     let asked = else .before in
     let given = asked .before in
     let well = given .before in
-    let a = well .before .before .before .before .before .before .args in
+    let a = well .before .before .before .before .before .args in
     let so = told-true (asked .can-be-noted .ensures) (else .if2 .left) in
     rw (told-true (well .before .lent-settings-well-formed .ensures) (well .if1 .left), ← given .settings-of .ensures) (
       rw so,
@@ -57,11 +55,9 @@ bsr-day-singly-spec =
     tie.close
     (tie.spec
     (λ c κs. search needs)
-    (λ c. search needs)
     returns
     settings-of-requires
     (λ c κs. search needs)
-    (λ c. search needs)
     returns-2
     note-singly-requires
     (λ c. search needs)

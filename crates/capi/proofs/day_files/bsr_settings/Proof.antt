@@ -1,17 +1,24 @@
 use mathlib.Core.Path.{_∙_, ap}
 use borrow.Author.Needs.{needs}
 use denote.Ref.{now}
-use Rattle.dayfile.specs.declared.ReadAnswer.{ReadAnswer}
 use Rattle.packed.specs.Packed.{packedHanded}
 use Rattle.capi.proofs.Texts.{handed-fits}
 use Rattle.capi.proofs.day_files.bsr_settings.Statement.{statement}
 use Rattle.capi.proofs.day_files.bsr_settings.Tie as tie
 
 packed-handed-requires : tie.Need-packed-handed-requires
-packed-handed-requires c κs = ?
+packed-handed-requires c κs =
+    let over = c .before .before in
+    let made = over .before .before .before in
+    let x = made .before .before .before .before in
+    handed-fits _ (now (x .args .buffer)) _ (over .hand-over .ensures .0) (x .good .1 .0 .1)
 
 returns : tie.Need-returns
-returns c = ?
+returns c =
+    let over = c .before .before .before in
+    let made = over .before .before .before in
+    let e = over .hand-over .ensures in
+    rw (← made .before .read .ensures, ← made .settings-bytes .ensures) (c .packed-handed .ensures ∙ ap packedHanded (e .0), e .1)
 
 pub bsr-settings-spec : {M : Type 1} → statement M
 bsr-settings-spec =

@@ -1,5 +1,5 @@
 -- By whether the lent settings are well formed.
-use mathlib.Core.Path.{_∙_, ap}
+use mathlib.Core.Path.{refl, _∙_, ap}
 use native.Mathlib.Omega.{arith}
 use borrow.Author.Needs.{needs}
 use Rattle.section.proofs.Told.{told-false, told-true}
@@ -14,12 +14,10 @@ unfolding writeAnswer writeBuffer
 returns c =
     let then = c .before in
     let e = told-false (then .before .lent-settings-well-formed .ensures) (then .if1 .taken) in
-    rw e (c .packed-written .ensures, rw e)
+    rw e (c .packed-written .ensures, refl)
 
 settings-of-requires : tie.Need-settings-of-requires
-settings-of-requires c κs =
-    let else = c .before in
-    omega (arith, settings-lent _ (told-true (else .before .lent-settings-well-formed .ensures) (else .if1 .left)))
+settings-of-requires c κs = omega (arith, settings-lent _ (told-true (c .before .lent-settings-well-formed .ensures) (c .if1 .left)))
 
 returns-2 : tie.Need-returns-2
 unfolding writeAnswer writeBuffer
@@ -37,7 +35,6 @@ bsr-write-spec =
     (tie.spec
     (λ c κs. search needs)
     (λ c κs. search needs)
-    (λ c. search needs)
     returns
     settings-of-requires
     (λ c κs. search needs)
