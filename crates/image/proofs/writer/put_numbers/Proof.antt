@@ -57,10 +57,10 @@ loop-again : tie.Need-loop-again Inv-loop μ-loop
 loop-again c =
     let p = c .before .before .before .before .before in
     let a = p .before .before in
-    let l = a .before .before .args .t3 in (
-      omega arith,
-      next-put (item l) numberLength (sized l) (a .loop .i) (a .loop .inv .1) (p .pair-bytes .result) (p .pair-bytes .ensures) (omega arith) (c .before .before .put-text .ensures),
-    )
+    let l = a .before .before .args .t3 in
+    let put = c .before .before .put-text .ensures in
+    let one = p .pair-bytes in
+    (omega arith, next-put (item l) numberLength (sized l) (a .loop .i) (a .loop .inv .1) (one .result) (one .ensures) (omega arith) put)
 
 same-length : tie.Need-same-length Inv-loop μ-loop
 same-length c =

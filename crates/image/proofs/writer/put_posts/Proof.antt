@@ -58,10 +58,10 @@ loop-again : tie.Need-loop-again Inv-loop μ-loop
 loop-again c =
     let p = c .before .before .before .before .before in
     let a = p .before .before .before in
-    let l = a .before .before .args .t3 in (
-      omega arith,
-      next-put (item l) postLength (sized l) (a .loop .i) (a .loop .inv .1) (p .post-bytes .result) (p .post-bytes .ensures) (omega arith) (c .before .before .put-text .ensures),
-    )
+    let l = a .before .before .args .t3 in
+    let put = c .before .before .put-text .ensures in
+    let one = p .post-bytes in
+    (omega arith, next-put (item l) postLength (sized l) (a .loop .i) (a .loop .inv .1) (one .result) (one .ensures) (omega arith) put)
 
 same-length : tie.Need-same-length Inv-loop μ-loop
 same-length c =
