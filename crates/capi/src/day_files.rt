@@ -2,14 +2,16 @@
 // It is not stable: names and packed numbers may change with any delivery.
 ghost use mathlib.Core.Path.{_≡_};
 ghost use lib.ListN.{length};
-ghost use Rattle.layout.specs.Layout.{stepsPart};
-ghost use Rattle.dayfile.specs.Answers.{readOf, writeVerdict, writtenInto};
-ghost use Rattle.packed.specs.Packed.{packedReading, packedSettings, packedWritten};
-ghost use Rattle.packed.specs.Settings.{settingsGiven};
+ghost use Rattle.layout.specs.Layout.{settingsBytes, stepsPart};
+ghost use Rattle.dayfile.specs.Answers.{readOf};
+ghost use Rattle.text.specs.Copied.{copied, copiedOut};
+ghost use Rattle.packed.specs.Packed.{packedReading, packedWritten, packedCopied};
+ghost use Rattle.capi.specs.DayFiles.{writeAnswer, writeBuffer};
+use dayfile::Written;
+use packed::lent_settings_well_formed;
+use packed::packed_copied;
 use packed::packed_reading;
-use packed::packed_settings;
 use packed::packed_written;
-use packed::settings_given;
 
 // Reads a day file: the refusal, and the count of steps or the refusal's index.
 #[no_mangle]
@@ -21,13 +23,15 @@ pub extern "C" fn bsr_read(file: &[u8]) -> u32
     packed_reading(reading)
 }
 
-// The settings of a day file; 0 for one that is refused.
+// The settings of a day file in its own bytes, at the front of the buffer; zeros for a file that is refused.
 #[no_mangle]
-pub extern "C" fn bsr_settings(file: &[u8]) -> u64
-    ensures { λ r. ⌜ r ≡ packedSettings (readOf (now (file .entry)) .settings) ⌝ }
+pub extern "C" fn bsr_settings(file: &[u8], buffer: &mut [u8]) -> u64
+    ensures { λ r. ⌜ r ≡ packedCopied (copied (settingsBytes (readOf (now (file .entry)) .settings)) (now (buffer .entry))) ⌝ }
+    ensures { λ _. ⌜ now (buffer .exit) ≡ copiedOut (settingsBytes (readOf (now (file .entry)) .settings)) (now (buffer .entry)) ⌝ }
 {
     let answer = dayfile::read(file);
-    packed_settings(answer.settings)
+    let settings = layout::settings_bytes(answer.settings);
+    packed_copied(text::copy_out(&settings, buffer))
 }
 
 // The length of the part that holds the first so many steps.
@@ -39,18 +43,14 @@ pub extern "C" fn bsr_steps_length(file: &[u8], count: u64) -> u64
     steps.len() as u64
 }
 
-// Writes the day file of settings and steps: the refusal, and the file's length or the refusal's index.
+// Writes the day file of settings, in a file's bytes, and steps: the refusal, and the file's length or the refusal's index.
 #[no_mangle]
-pub extern "C" fn bsr_write(
-    n: u8,
-    form: u8,
-    mask: u16,
-    line: u16,
-    steps: &[u8],
-    buffer: &mut [u8],
-) -> u64
-    ensures { λ r. ⌜ r ≡ packedWritten (writeVerdict (settingsGiven n form mask line) (now (steps .entry)) (length (now (buffer .entry)))) ⌝ }
-    ensures { λ _. ⌜ now (buffer .exit) ≡ writtenInto (settingsGiven n form mask line) (now (steps .entry)) (now (buffer .entry)) ⌝ }
+pub extern "C" fn bsr_write(settings: &[u8], steps: &[u8], buffer: &mut [u8]) -> u64
+    ensures { λ r. ⌜ r ≡ packedWritten (writeAnswer (now (settings .entry)) (now (steps .entry)) (length (now (buffer .entry)))) ⌝ }
+    ensures { λ _. ⌜ now (buffer .exit) ≡ writeBuffer (now (settings .entry)) (now (steps .entry)) (now (buffer .entry)) ⌝ }
 {
-    packed_written(dayfile::write(settings_given(n, form, mask, line), steps, buffer))
+    if !lent_settings_well_formed(settings) {
+        return packed_written(Written::Refused(3, 0));
+    }
+    packed_written(dayfile::write(layout::settings_of(settings), steps, buffer))
 }

@@ -3,4 +3,4 @@
 
 pub mod day_files;
 pub mod listings;
-pub mod sections;
+pub mod section_images;

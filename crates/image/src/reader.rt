@@ -4,12 +4,13 @@ ghost use Prim.Native.Nat.{_+_, _≤_};
 ghost use lib.ListN.{length};
 ghost use Rattle.section.specs.Numbers.{mostPosts, mostBlocks};
 ghost use Rattle.image.specs.Image.{imageLength, trackLength, postLength, postsLength, numberLength, numbersLength};
-ghost use Rattle.image.specs.Image.{numberAt, postAt, postsFrom, numbersFrom, walkOf, trackAt, sectionOf};
+ghost use Rattle.image.specs.Image.{numberAt, postAt, postsFrom, numbersFrom, walkOf, trackFrom, sectionOf};
 use crate::LAST_TRAINS;
 use crate::NUMBER_LENGTH;
 use crate::POST_LENGTH;
 use crate::POSTS;
 use crate::POSTS_HELD;
+use crate::SETTINGS;
 use crate::TRACK_A;
 use crate::TRACK_B;
 use crate::TRAINS;
@@ -23,7 +24,8 @@ use section::Track;
 use section::Trains;
 use section::Walk;
 
-fn number_at(bytes: &[u8], at: usize) -> u16
+// Two bytes, the lower first.
+pub fn number_at(bytes: &[u8], at: usize) -> u16
     requires { ⌜ at + numberLength ≤ length (now bytes) ⌝ }
     ensures { λ r. ⌜ r ≡ numberAt (now (bytes .entry)) at ⌝ }
 {
@@ -87,9 +89,9 @@ fn walk_of(act: u8, post: u8) -> Walk
     }
 }
 
-fn track_at(bytes: &[u8], at: usize) -> Track
+fn track_from(bytes: &[u8], at: usize) -> Track
     requires { ⌜ at + trackLength ≤ length (now bytes) ⌝ }
-    ensures { λ r. ⌜ r ≡ trackAt (now (bytes .entry)) at ⌝ }
+    ensures { λ r. ⌜ r ≡ trackFrom (now (bytes .entry)) at ⌝ }
 {
     Track {
         posts: posts_from(bytes, at + POSTS),
@@ -106,8 +108,8 @@ pub fn section_of(bytes: &[u8]) -> Section
     ensures { λ r. ⌜ r ≡ sectionOf (now (bytes .entry)) ⌝ }
 {
     Section {
-        settings: layout::settings_of(bytes),
-        a: track_at(bytes, TRACK_A),
-        b: track_at(bytes, TRACK_B),
+        settings: layout::settings_of(&bytes[SETTINGS..TRACK_A]),
+        a: track_from(bytes, TRACK_A),
+        b: track_from(bytes, TRACK_B),
     }
 }

@@ -6,6 +6,7 @@ ghost use Rattle.section.specs.Numbers.{mostPosts, mostBlocks};
 ghost use Rattle.text.specs.Text.{written};
 ghost use Rattle.image.specs.Image.{imageLength, trackLength, postsLength, numbersLength, flag, faultsByte, postImage, postsImage};
 ghost use Rattle.image.specs.Image.{numbersImage, actNumber, walkImage, trackHead, trackImage, imageOf};
+use crate::LAYOUT_NUMBER;
 use crate::POSTS_HELD;
 use section::Act;
 use section::MOST_BLOCKS;
@@ -123,8 +124,10 @@ pub fn put_image(buffer: &mut [u8], s: Section)
     requires { ⌜ imageLength ≤ length (now buffer) ⌝ }
     ensures { λ _. ⌜ now (buffer .exit) ≡ written (now (buffer .entry)) 0 (imageOf s) ⌝ }
 {
+    let number = layout::pair_bytes(LAYOUT_NUMBER);
     let settings = layout::settings_bytes(s.settings);
-    let a = text::put_text(buffer, 0, &settings);
+    let settings_at = text::put_text(buffer, 0, &number);
+    let a = text::put_text(buffer, settings_at, &settings);
     let b = put_track(buffer, a, s.a);
     put_track(buffer, b, s.b);
 }

@@ -1,7 +1,6 @@
 -- What the C interface returns, packed into one number.
 use Prim.Native.Nat.{ℕ, _+_, _*_, _%_, _^_}
 use Rattle.section.specs.declared.Indications.{Indications}
-use Rattle.section.specs.declared.Settings.{Settings}
 use Rattle.dayfile.specs.declared.Reading.{Reading}
 use Rattle.dayfile.specs.declared.Reading.the-variants.{Day, Refused}
 use Rattle.dayfile.specs.declared.Written.{Written}
@@ -13,10 +12,6 @@ use Rattle.text.specs.declared.Copied.the-variants.{Bytes as CopiedBytes, TooSh
 unfoldable pub packedReading : Reading → ℕ
 packedReading (Day count) = count
 packedReading (Refused number index) = number * 65536 + index
-
--- n, the form, the mask and the line, each from a byte of its own on
-unfoldable pub packedSettings : Settings → ℕ
-packedSettings c = c .posts + c .form * 2 ^ 8 + c .mask * 2 ^ 16 + c .line * 2 ^ 32
 
 -- the refusal, and 256 × the file's length or the refusal's index, of which the lowest 32 bits are kept
 unfoldable pub packedWritten : Written → ℕ

@@ -5,8 +5,8 @@ use native.Mathlib.Omega.{arith}
 use denote.Ref.{now}
 use lib.ListN.{length, take, length-set}
 use lib.Seq.{take-all}
-use Rattle.image.specs.Image.{numberLength, numberAt, numbersFrom}
-use Rattle.image.proofs.Laws.{filled-more}
+use Rattle.image.specs.Image.{numberLength, numberAt, items, numbersFrom}
+use Rattle.image.proofs.Items.{filled-more}
 use Rattle.image.proofs.reader.numbers_from.Statement.{statement}
 use Rattle.image.proofs.reader.numbers_from.Tie as tie
 
@@ -17,7 +17,7 @@ abbrev μ-loop : tie.MeasureT-loop
 μ-loop bytes at numbers₀ i₀ numbers i = 15 - i
 
 loop-holds : tie.Need-loop-holds Inv-loop μ-loop
-unfolding numbersFrom
+unfolding numbersFrom items
 loop-holds c = (omega arith, (refl, refl))
 
 mul-number-at : tie.Need-mul-number-at Inv-loop μ-loop
@@ -49,7 +49,7 @@ loop-again c =
     let h : a .i ≤ 15 = a .inv .0 in
     let bytes = now (x .bytes) in
     let more =
-    filled-more (λ (m : ℕ). numberAt bytes (x .at + numberLength * m)) (numbersFrom bytes (x .at)) (λ m. refl)
+    filled-more (λ (m : ℕ). numberAt bytes (x .at + numberLength * m))
     (a .numbers) (a .i) (c .number-at .result) (omega arith) (a .inv .1 .1) (c .number-at .ensures) in
     (omega arith, (length-set (a .numbers) (a .i) (c .number-at .result) ∙ a .inv .1 .0, more))
 

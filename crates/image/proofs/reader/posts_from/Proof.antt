@@ -5,8 +5,8 @@ use native.Mathlib.Omega.{arith}
 use denote.Ref.{now}
 use lib.ListN.{length, take, length-set}
 use lib.Seq.{take-all}
-use Rattle.image.specs.Image.{postLength, postAt, postsFrom}
-use Rattle.image.proofs.Laws.{filled-more}
+use Rattle.image.specs.Image.{postLength, postAt, items, postsFrom}
+use Rattle.image.proofs.Items.{filled-more}
 use Rattle.image.proofs.reader.posts_from.Statement.{statement}
 use Rattle.image.proofs.reader.posts_from.Tie as tie
 
@@ -20,7 +20,7 @@ blank-requires : tie.Need-blank-requires Inv-loop μ-loop
 blank-requires c κs = tt
 
 loop-holds : tie.Need-loop-holds Inv-loop μ-loop
-unfolding postsFrom
+unfolding postsFrom items
 loop-holds c = (omega arith, (refl, refl))
 
 mul-post-at : tie.Need-mul-post-at Inv-loop μ-loop
@@ -52,7 +52,7 @@ loop-again c =
     let h : a .i ≤ 16 = a .inv .0 in
     let bytes = now (x .bytes) in
     let more =
-    filled-more (λ (m : ℕ). postAt bytes (x .at + postLength * m)) (postsFrom bytes (x .at)) (λ m. refl)
+    filled-more (λ (m : ℕ). postAt bytes (x .at + postLength * m))
     (a .posts) (a .i) (c .post-at .result) (omega arith) (a .inv .1 .1) (c .post-at .ensures) in
     (omega arith, (length-set (a .posts) (a .i) (c .post-at .result) ∙ a .inv .1 .0, more))
 

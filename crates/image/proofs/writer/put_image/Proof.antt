@@ -8,16 +8,22 @@ returns : tie.Need-returns
 returns c =
     let b = c .before .before in
     let a = b .before .before .before .before in
-    let text = a .before .before .before .before in
-    let settings = text .before .before .before in
-    let x = settings .before .before in
+    let settings-put = a .before .before .before .before in
+    let number-put = settings-put .before .before .before .before .before in
+    let settings = number-put .before .before .before in
+    let number = settings .before in
+    let x = number .before .before in
     image-put (now (x .args .buffer)) (x .args .s) (x .pre)
-    (settings .settings-bytes .ensures) (text .put-text .ensures) (a .put-track .ensures) (b .put-track2 .ensures)
+    (number .pair-bytes .ensures) (settings .settings-bytes .ensures)
+    (number-put .put-text .ensures) (settings-put .put-text2 .ensures) (a .put-track .ensures) (b .put-track2 .ensures)
 
 pub put-image-spec : {M : Type 1} → statement M
 put-image-spec =
     tie.close
     (tie.spec
+    (λ c κs. search needs)
+    (λ c κs. search needs)
+    (λ c. search needs)
     (λ c κs. search needs)
     (λ c. search needs)
     (λ c κs. search needs)

@@ -1,24 +1,34 @@
--- After i turns the first i of the image stand in the buffer.
+-- After i turns the first i items of the image stand in the buffer.
 use borrow.Author.Needs.{needs}
-use Prim.Native.Nat.{_-_, _≤_}
-use mathlib.Core.Path.{_≡_, ap, _∙_}
+use Prim.Native.Nat.{ℕ, _-_, _≤_}
+use mathlib.Core.List.{List}
+use mathlib.Core.Path.{_≡_}
 use native.Mathlib.Omega.{arith}
 use denote.Ref.{now}
-use lib.ListN.{length}
-use Rattle.image.specs.Image.{numbersImage}
-use Rattle.image.proofs.Laws.{Put}
-use Rattle.image.proofs.Laws.{numbers-length, pair-length, numbers-more, nothing-put, same-after, room-after, put-next}
+use lib.ListN.{length, getD}
+use Rattle.layout.specs.Layout.{pairBytes}
+use Rattle.image.proofs.Items.{Put}
+use Rattle.image.specs.Image.{numberLength, itemsImage, numbersImage}
+use Rattle.image.proofs.Items.{nothing-put, items-kept, next-fits, next-put}
+use Rattle.image.proofs.Laws.{pair-length, numbers-length}
 use Rattle.image.proofs.writer.put_numbers.Statement.{statement}
 use Rattle.image.proofs.writer.put_numbers.Tie as tie
 
+module _ (l : List ℕ) where
+  abbrev item : ℕ → List ℕ
+  item i = pairBytes (getD l i 0)
+
+  sized : (i : ℕ) → length (item i) ≡ numberLength
+  sized i = pair-length (getD l i 0)
+
 abbrev Inv-loop : tie.InvT-loop
-Inv-loop buffer₀ at numbers next₀ i₀ buffer next i = (i ≤ 15) × Put buffer₀ at (numbersImage i numbers) next buffer
+Inv-loop buffer₀ at numbers next₀ i₀ buffer next i = (i ≤ 15) × Put buffer₀ at (itemsImage (item numbers) i) next buffer
 
 abbrev μ-loop : tie.MeasureT-loop
 μ-loop buffer₀ at numbers next₀ i₀ buffer next i = 15 - i
 
 loop-holds : tie.Need-loop-holds Inv-loop μ-loop
-unfolding numbersImage
+unfolding itemsImage
 loop-holds c = let x = c .before .args in (omega arith, nothing-put (now (x .buffer)) (x .at))
 
 mul-pair-bytes : tie.Need-mul-pair-bytes Inv-loop μ-loop
@@ -34,8 +44,8 @@ put-text-requires : tie.Need-put-text-requires Inv-loop μ-loop
 put-text-requires c κs =
     let p = c .before .before .pair-bytes in
     let a = c .before .before .before .before in
-    room-after (a .loop .inv .1) (length (p .result))
-    (omega (arith, numbers-length (a .loop .i) (a .before .before .args .t3), ap length (p .ensures) ∙ pair-length _))
+    let l = a .before .before .args .t3 in
+    next-fits (item l) numberLength (sized l) (a .loop .i) (a .loop .inv .1) (p .result) (p .ensures) (omega arith)
 
 add-i : tie.Need-add-i Inv-loop μ-loop
 add-i c = omega arith
@@ -48,13 +58,18 @@ loop-again c =
     let p = c .before .before .before .before .before in
     let a = p .before .before in
     let l = a .before .before .args .t3 in
-    let one-more = put-next (a .loop .inv .1) (p .pair-bytes .result) (omega (arith, numbers-length (a .loop .i) l)) (c .before .before .put-text .ensures) in
-    (omega arith, rw (numbers-more (a .loop .i) l, ← p .pair-bytes .ensures) one-more)
+    let put = c .before .before .put-text .ensures in
+    let one = p .pair-bytes in
+    (omega arith, next-put (item l) numberLength (sized l) (a .loop .i) (a .loop .inv .1) (one .result) (one .ensures) (omega arith) put)
 
 same-length : tie.Need-same-length Inv-loop μ-loop
-same-length c = let a = c .before .loop in same-after (a .inv .1) (omega (arith, numbers-length (a .i) (c .before .before .before .args .t3)))
+same-length c =
+    let a = c .before .loop in
+    let l = c .before .before .before .args .t3 in
+    items-kept (item l) numberLength (sized l) (a .i) (a .inv .1) (omega arith)
 
 returns : tie.Need-returns Inv-loop μ-loop
+unfolding numbersImage
 returns c =
     let a = c .before .loop in
     let e : a .i ≡ 15 = omega arith in

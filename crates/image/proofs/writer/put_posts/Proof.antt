@@ -1,24 +1,35 @@
--- After i turns the first i of the image stand in the buffer.
+-- After i turns the first i items of the image stand in the buffer.
 use borrow.Author.Needs.{needs}
-use Prim.Native.Nat.{_-_, _≤_}
-use mathlib.Core.Path.{_≡_, ap, _∙_}
+use Prim.Native.Nat.{ℕ, _-_, _≤_}
+use mathlib.Core.List.{List}
+use mathlib.Core.Path.{_≡_}
 use native.Mathlib.Omega.{arith}
 use denote.Ref.{now}
-use lib.ListN.{length}
-use Rattle.image.specs.Image.{postsImage}
-use Rattle.image.proofs.Laws.{Put}
-use Rattle.image.proofs.Laws.{posts-length, post-length, posts-more, nothing-put, same-after, room-after, put-next}
+use lib.ListN.{length, getD}
+use Rattle.section.specs.declared.Post.{Post}
+use Rattle.section.specs.Post.{blank}
+use Rattle.image.proofs.Items.{Put}
+use Rattle.image.specs.Image.{postLength, postImage, itemsImage, postsImage}
+use Rattle.image.proofs.Items.{nothing-put, items-kept, next-fits, next-put}
+use Rattle.image.proofs.Laws.{post-length, posts-length}
 use Rattle.image.proofs.writer.put_posts.Statement.{statement}
 use Rattle.image.proofs.writer.put_posts.Tie as tie
 
+module _ (l : List Post) where
+  abbrev item : ℕ → List ℕ
+  item p = postImage (getD l p blank)
+
+  sized : (p : ℕ) → length (item p) ≡ postLength
+  sized p = post-length (getD l p blank)
+
 abbrev Inv-loop : tie.InvT-loop
-Inv-loop buffer₀ at posts next₀ i₀ buffer next i = (i ≤ 16) × Put buffer₀ at (postsImage i posts) next buffer
+Inv-loop buffer₀ at posts next₀ i₀ buffer next i = (i ≤ 16) × Put buffer₀ at (itemsImage (item posts) i) next buffer
 
 abbrev μ-loop : tie.MeasureT-loop
 μ-loop buffer₀ at posts next₀ i₀ buffer next i = 16 - i
 
 loop-holds : tie.Need-loop-holds Inv-loop μ-loop
-unfolding postsImage
+unfolding itemsImage
 loop-holds c = let x = c .before .args in (omega arith, nothing-put (now (x .buffer)) (x .at))
 
 mul-post-bytes : tie.Need-mul-post-bytes Inv-loop μ-loop
@@ -34,8 +45,8 @@ put-text-requires : tie.Need-put-text-requires Inv-loop μ-loop
 put-text-requires c κs =
     let p = c .before .before .post-bytes in
     let a = c .before .before .before .before .before in
-    room-after (a .loop .inv .1) (length (p .result))
-    (omega (arith, posts-length (a .loop .i) (a .before .before .args .t3), ap length (p .ensures) ∙ post-length _))
+    let l = a .before .before .args .t3 in
+    next-fits (item l) postLength (sized l) (a .loop .i) (a .loop .inv .1) (p .result) (p .ensures) (omega arith)
 
 add-i : tie.Need-add-i Inv-loop μ-loop
 add-i c = omega arith
@@ -48,13 +59,18 @@ loop-again c =
     let p = c .before .before .before .before .before in
     let a = p .before .before .before in
     let l = a .before .before .args .t3 in
-    let one-more = put-next (a .loop .inv .1) (p .post-bytes .result) (omega (arith, posts-length (a .loop .i) l)) (c .before .before .put-text .ensures) in
-    (omega arith, rw (posts-more (a .loop .i) l, ← p .post-bytes .ensures) one-more)
+    let put = c .before .before .put-text .ensures in
+    let one = p .post-bytes in
+    (omega arith, next-put (item l) postLength (sized l) (a .loop .i) (a .loop .inv .1) (one .result) (one .ensures) (omega arith) put)
 
 same-length : tie.Need-same-length Inv-loop μ-loop
-same-length c = let a = c .before .loop in same-after (a .inv .1) (omega (arith, posts-length (a .i) (c .before .before .before .args .t3)))
+same-length c =
+    let a = c .before .loop in
+    let l = c .before .before .before .args .t3 in
+    items-kept (item l) postLength (sized l) (a .i) (a .inv .1) (omega arith)
 
 returns : tie.Need-returns Inv-loop μ-loop
+unfolding postsImage
 returns c =
     let a = c .before .loop in
     let e : a .i ≡ 16 = omega arith in

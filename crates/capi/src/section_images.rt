@@ -3,28 +3,30 @@
 ghost use mathlib.Core.Path.{_≡_};
 ghost use lib.ListN.{length};
 ghost use Rattle.capi.specs.Engine.{freshAnswer, freshImage, judgeAnswer, judgeImage, shownOf};
-ghost use Rattle.packed.specs.Settings.{settingsGiven};
 use image::IMAGE_LENGTH;
 use image::reader;
 use image::writer;
+use packed::lent_settings_well_formed;
 use packed::packed_indications;
-use packed::settings_given;
 use section::Verdict;
 use section::words::said_number;
 
 // What bytes that are no section's image give, as a state out of range does.
 const NO_IMAGE: u16 = 6;
 
-// The fresh section's image, at the front of the buffer.
+// The fresh section's image, at the front of the buffer. The settings come in a day file's bytes.
 #[no_mangle]
-pub extern "C" fn bsr_fresh(n: u8, form: u8, mask: u16, line: u16, buffer: &mut [u8]) -> u8
-    ensures { λ r. ⌜ r ≡ freshAnswer (length (now (buffer .entry))) ⌝ }
-    ensures { λ _. ⌜ now (buffer .exit) ≡ freshImage (settingsGiven n form mask line) (now (buffer .entry)) ⌝ }
+pub extern "C" fn bsr_fresh(settings: &[u8], buffer: &mut [u8]) -> u8
+    ensures { λ r. ⌜ r ≡ freshAnswer (now (settings .entry)) (length (now (buffer .entry))) ⌝ }
+    ensures { λ _. ⌜ now (buffer .exit) ≡ freshImage (now (settings .entry)) (now (buffer .entry)) ⌝ }
 {
+    if !lent_settings_well_formed(settings) {
+        return 6;
+    }
     if buffer.len() < IMAGE_LENGTH {
         return 5;
     }
-    writer::put_image(buffer, section::fresh(settings_given(n, form, mask, line)));
+    writer::put_image(buffer, section::fresh(layout::settings_of(settings)));
     0
 }
 
@@ -34,7 +36,7 @@ pub extern "C" fn bsr_judge(bytes: &mut [u8], step: &[u8]) -> u16
     ensures { λ r. ⌜ r ≡ judgeAnswer (now (bytes .entry)) (now (step .entry)) ⌝ }
     ensures { λ _. ⌜ now (bytes .exit) ≡ judgeImage (now (bytes .entry)) (now (step .entry)) ⌝ }
 {
-    if !image::image_right(bytes) {
+    if !image::image_well_formed(bytes) {
         return NO_IMAGE;
     }
     let answer = engine::judge(reader::section_of(bytes), step);
@@ -54,7 +56,7 @@ pub extern "C" fn bsr_judge(bytes: &mut [u8], step: &[u8]) -> u16
 pub extern "C" fn bsr_indications(bytes: &[u8], track: u8, post: u8) -> u16
     ensures { λ r. ⌜ r ≡ shownOf (now (bytes .entry)) track post ⌝ }
 {
-    if !image::image_right(bytes) {
+    if !image::image_well_formed(bytes) {
         return 0;
     }
     packed_indications(engine::indications(reader::section_of(bytes), track, post))

@@ -1,10 +1,10 @@
-use Rattle.image.specs.Image.{trackAt}
+use Rattle.image.specs.Image.{trackFrom}
 use borrow.Author.Needs.{needs}
-use Rattle.image.proofs.reader.track_at.Statement.{statement}
-use Rattle.image.proofs.reader.track_at.Tie as tie
+use Rattle.image.proofs.reader.track_from.Statement.{statement}
+use Rattle.image.proofs.reader.track_from.Tie as tie
 
 returns : tie.Need-returns
-unfolding trackAt
+unfolding trackFrom
 returns c =
     rw (
       c .before .before .before .before .before .before .posts-from .ensures,
@@ -13,8 +13,8 @@ returns c =
       c .walk-of .ensures,
     )
 
-pub track-at-spec : {M : Type 1} → statement M
-track-at-spec =
+pub track-from-spec : {M : Type 1} → statement M
+track-from-spec =
     tie.close
     (tie.spec
     (λ c. search needs)

@@ -1,4 +1,4 @@
--- A listing's length and 1 fit 64 bits, since no slice is as long as 2^63 bytes.
+-- The length of a text copied over and 1 fit 64 bits, since no slice is as long as 2^63 bytes.
 use Prim.Native.Nat.{ℕ, _<_, _≤_, _*_, _^_}
 use mathlib.Core.Path.{_≡_, refl}
 use mathlib.Core.List.{List}

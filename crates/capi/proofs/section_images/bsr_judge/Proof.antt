@@ -2,24 +2,24 @@
 use native.Mathlib.Omega.{arith}
 use denote.Ref.{now}
 use Rattle.section.proofs.Told.{told-false, told-true}
-use Rattle.image.proofs.Laws.{right-length}
-use Rattle.capi.proofs.sections.Images.{said-small, no-image, accepted, refused}
+use Rattle.image.proofs.Laws.{well-formed-length}
+use Rattle.capi.proofs.section_images.Images.{said-small, no-image, accepted, refused}
 use borrow.Author.Needs.{needs}
-use Rattle.capi.proofs.sections.bsr_judge.Statement.{statement}
-use Rattle.capi.proofs.sections.bsr_judge.Tie as tie
+use Rattle.capi.proofs.section_images.bsr_judge.Statement.{statement}
+use Rattle.capi.proofs.section_images.bsr_judge.Tie as tie
 
 returns : tie.Need-returns
 returns c =
     let x = c .before .before .before .before .before .args in
-    no-image (now (x .bytes)) (now (x .step)) (told-false (c .before .image-right .ensures) (c .if1 .taken))
+    no-image (now (x .bytes)) (now (x .step)) (told-false (c .before .image-well-formed .ensures) (c .if1 .taken))
 
 section-of-requires : tie.Need-section-of-requires
-section-of-requires c κs = omega (arith, right-length _ (told-true (c .before .before .image-right .ensures) (c .before .if1 .left)))
+section-of-requires c κs = omega (arith, well-formed-length _ (told-true (c .before .before .image-well-formed .ensures) (c .before .if1 .left)))
 
 put-image-requires : tie.Need-put-image-requires
 put-image-requires c κs =
     let e = c .before .before .before .before .before .before .before .before in
-    omega (arith, right-length _ (told-true (e .before .image-right .ensures) (e .if1 .left)))
+    omega (arith, well-formed-length _ (told-true (e .before .image-well-formed .ensures) (e .if1 .left)))
 
 mul-result : tie.Need-mul-result
 mul-result c = omega (arith, said-small _ (c .said-number .ensures))
@@ -32,7 +32,7 @@ returns-2 c =
     let r = j .before in
     let e = r .before .before in
     let x = e .before .before .before .before .before .args in
-    accepted (now (x .bytes)) (now (x .step)) (told-true (e .before .image-right .ensures) (e .if1 .left)) (r .section-of .ensures)
+    accepted (now (x .bytes)) (now (x .step)) (told-true (e .before .image-well-formed .ensures) (e .if1 .left)) (r .section-of .ensures)
     (j .judge .ensures) (v .verdict .given .1) (c .said-number .ensures) (put .put-image .ensures)
 
 returns-3 : tie.Need-returns-3
@@ -42,7 +42,7 @@ returns-3 c =
     let r = j .before in
     let e = r .before .before in
     let x = e .before .before .before .before .before .args in
-    refused (now (x .bytes)) (now (x .step)) (told-true (e .before .image-right .ensures) (e .if1 .left)) (r .section-of .ensures)
+    refused (now (x .bytes)) (now (x .step)) (told-true (e .before .image-well-formed .ensures) (e .if1 .left)) (r .section-of .ensures)
     (j .judge .ensures) (v .verdict2 .given .1)
 
 pub bsr-judge-spec : {M : Type 1} → statement M
