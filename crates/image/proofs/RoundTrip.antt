@@ -91,7 +91,7 @@ module _ (front : List ℕ) {at : ℕ} (here : length front ≡ at) (rest : List
           flag-well-formed (o .cvt),
           flag-well-formed (o .permission),
           flag-well-formed (o .measures),
-          faults-back (o .fault1) (o .fault2) (o .fault3) .all-known,
+          faults-back (o .faults .one) (o .faults .two) (o .faults .three) .all-known,
           flag-well-formed (o .mark),
         )
 
@@ -99,7 +99,7 @@ module _ (front : List ℕ) {at : ℕ} (here : length front ≡ at) (rest : List
     unfolding postAt numberAt postImage faultsByte pairBytes
     post-back h =
         let l = postImage o ++ rest in
-        let faults = faults-back (o .fault1) (o .fault2) (o .fault3) in
+        let faults = faults-back (o .faults .one) (o .faults .two) (o .faults .three) in
         let seven : at + 6 + 1 ≡ at + 7 = omega arith in
         rw (
           seven,

@@ -6,8 +6,8 @@ use borrow.Author.Needs.{needs}
 use Rattle.capi.proofs.listings.bsr_listing.Statement.{statement}
 use Rattle.capi.proofs.listings.bsr_listing.Tie as tie
 
-packed-handed-requires : tie.Need-packed-handed-requires
-packed-handed-requires c κs =
+packed-copied-requires : tie.Need-packed-copied-requires
+packed-copied-requires c κs =
     let x = c .before .before .before .before .before .before in
     copied-fits _ (now (x .args .buffer)) _ (c .before .before .listing .ensures .0) (x .good .1 .0 .1)
 
@@ -15,4 +15,4 @@ returns : tie.Need-returns
 returns c = let e = c .before .before .before .listing .ensures in (c .packed-copied .ensures ∙ ap packedCopied (e .0), e .1)
 
 pub bsr-listing-spec : {M : Type 1} → statement M
-bsr-listing-spec = tie.close (tie.spec (λ c κs. search needs) packed-handed-requires (λ c. search needs) returns)
+bsr-listing-spec = tie.close (tie.spec (λ c κs. search needs) packed-copied-requires (λ c. search needs) returns)

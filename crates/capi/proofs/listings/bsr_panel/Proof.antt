@@ -6,8 +6,8 @@ use borrow.Author.Needs.{needs}
 use Rattle.capi.proofs.listings.bsr_panel.Statement.{statement}
 use Rattle.capi.proofs.listings.bsr_panel.Tie as tie
 
-packed-handed-requires : tie.Need-packed-handed-requires
-packed-handed-requires c κs =
+packed-copied-requires : tie.Need-packed-copied-requires
+packed-copied-requires c κs =
     let x = c .before .before .before .before .before .before in
     copied-fits _ (now (x .args .buffer)) _ (c .before .before .panel .ensures .0) (x .good .1 .0 .1)
 
@@ -15,4 +15,4 @@ returns : tie.Need-returns
 returns c = let e = c .before .before .before .panel .ensures in (c .packed-copied .ensures ∙ ap packedCopied (e .0), e .1)
 
 pub bsr-panel-spec : {M : Type 1} → statement M
-bsr-panel-spec = tie.close (tie.spec (λ c κs. search needs) packed-handed-requires (λ c. search needs) returns)
+bsr-panel-spec = tie.close (tie.spec (λ c κs. search needs) packed-copied-requires (λ c. search needs) returns)
