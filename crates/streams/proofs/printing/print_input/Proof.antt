@@ -22,7 +22,6 @@ print-input-spec =
     slice-aggregate-write-sheet
     (λ c κs. search needs)
     (λ c. search needs)
-    (λ c. search needs)
     (λ c κs. search needs)
     (λ c. search needs)
     (λ c. search needs))

@@ -12,20 +12,20 @@ array-share-prefix-text c =
     let at-n = c .before in
     let at-print = at-n .before .before .before in
     let at-panel-room = at-print .before .before in
-    let entry = at-panel-room .before .before in
+    let entry = at-panel-room .before .before .before in
     let r = at-print .print in
-    bytes-counted (printed (lineOn (entry .args .sheet)) (now (entry .args .file))) (at-panel-room .panel-room .result) _ (r .ensures .0) (r .last .1 .0) _ (at-n .n .given .1)
-    (r .kept .1 .0) .0
+    bytes-counted (printed (lineOn (entry .args .sheet)) (now (entry .args .file))) (at-panel-room .panel-room .result) _ (r .ensures .0) (r .last .1 .1 .0) _ (at-n .n .given .1)
+    (r .kept .1 .1 .0) .0
 
 slice-aggregate-write-whole : tie.Need-slice-aggregate-write-whole
 slice-aggregate-write-whole c =
     let at-n = c .before .before in
     let at-print = at-n .before .before .before in
     let at-panel-room = at-print .before .before in
-    let entry = at-panel-room .before .before in
+    let entry = at-panel-room .before .before .before in
     let r = at-print .print in
-    bytes-counted (printed (lineOn (entry .args .sheet)) (now (entry .args .file))) (at-panel-room .panel-room .result) _ (r .ensures .0) (r .last .1 .0) _ (at-n .n .given .1)
-    (r .kept .1 .0) .1
+    bytes-counted (printed (lineOn (entry .args .sheet)) (now (entry .args .file))) (at-panel-room .panel-room .result) _ (r .ensures .0) (r .last .1 .1 .0) _ (at-n .n .given .1)
+    (r .kept .1 .1 .0) .1
 
 pub write-sheet-spec : {M : Type 1} → statement M
 write-sheet-spec =
@@ -37,7 +37,6 @@ write-sheet-spec =
     (λ c. search needs)
     array-share-prefix-text
     slice-aggregate-write-whole
-    (λ c. search needs)
     (λ c κs. search needs)
     (λ c. search needs)
     (λ c. search needs)
