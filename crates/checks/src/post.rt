@@ -25,7 +25,7 @@ pub fn measures_off(e: Site) -> Verdict
     if !e.own.measures {
         return Verdict::Refused(21);
     }
-    if e.own.cvt {
+    if e.own.device {
         return Verdict::Refused(16);
     }
     Verdict::Accepted(Said::Nothing)

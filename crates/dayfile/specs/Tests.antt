@@ -3,34 +3,34 @@ use Prim.Native.Nat.{ℕ, zero, suc, _%_}
 use mathlib.Core.Bool.{Bool, not, cond, _&&_, _||_}
 use mathlib.Core.List.{List}
 use lib.Dec.{eqb, ltb}
-use Rattle.section.specs.Bytes.{byte, pair}
+use Rattle.section.specs.Bytes.{byte, le16}
 use Rattle.section.specs.Numbers.{stepLength}
-use Rattle.section.specs.Settings.{settingsRight}
+use Rattle.section.specs.Settings.{settingsInRange}
 use Rattle.section.specs.Step.{wellFormed}
-use Rattle.layout.specs.Layout.{settingsDistance, stepsDistance, longestFile, mark, fourAt, stepCount, settingsOf, stepAt}
+use Rattle.layout.specs.Layout.{settingsDistance, stepsDistance, longestFile, mark, le32At, stepCount, settingsOf, stepAt}
 
 -- "length below 24, above 32,792 or not a multiple of 8"
 unfoldable pub lengthWrong : ℕ → Bool
 lengthWrong size = ltb size settingsDistance || (ltb longestFile size || not (eqb (size % stepLength) 0))
 
-unfoldable pub markRight : List ℕ → Bool
-markRight t =
+unfoldable pub markWellFormed : List ℕ → Bool
+markWellFormed t =
     eqb (byte t 0) (byte mark 0)
     && (eqb (byte t 1) (byte mark 1) && (eqb (byte t 2) (byte mark 2) && eqb (byte t 3) (byte mark 3)))
 
 -- the mark, both distances and the count are those of a file with so many steps
-unfoldable pub trailerRight : ℕ → List ℕ → Bool
-trailerRight count t =
-    markRight t
-    && (eqb (fourAt t 4) settingsDistance && (eqb (fourAt t 8) (stepsDistance count) && eqb (fourAt t 12) count))
+unfoldable pub trailerWellFormed : ℕ → List ℕ → Bool
+trailerWellFormed count t =
+    markWellFormed t
+    && (eqb (le32At t 4) settingsDistance && (eqb (le32At t 8) (stepsDistance count) && eqb (le32At t 12) count))
 
 -- "bytes 6–7 zero"
-unfoldable pub zerosRight : List ℕ → Bool
-zerosRight s = eqb (pair (byte s 6) (byte s 7)) 0
+unfoldable pub zerosWellFormed : List ℕ → Bool
+zerosWellFormed s = eqb (le16 (byte s 6) (byte s 7)) 0
 
 -- "settings outside the above" are refused
-unfoldable pub settingsBytesRight : List ℕ → Bool
-settingsBytesRight s = settingsRight (settingsOf s) && zerosRight s
+unfoldable pub settingsWellFormed : List ℕ → Bool
+settingsWellFormed s = settingsInRange (settingsOf s) && zerosWellFormed s
 
 unfoldable pub wellAt : ℕ → List ℕ → ℕ → Bool
 wellAt n steps i = wellFormed n (stepAt steps i)

@@ -57,11 +57,11 @@ pub fn read(file: &[u8]) -> ReadAnswer
     }
     let steps = layout::steps_in(file);
     let count = layout::step_count(steps);
-    if !tests::trailer_right(count, layout::trailer_in(file)) {
+    if !tests::trailer_well_formed(count, layout::trailer_in(file)) {
         return refused(2, 0);
     }
     let bytes = layout::settings_in(file);
-    if !tests::settings_bytes_right(bytes) {
+    if !tests::settings_well_formed(bytes) {
         return refused(3, 0);
     }
     let c = layout::settings_of(bytes);
@@ -113,7 +113,7 @@ pub fn write(c: Settings, steps: &[u8], buffer: &mut [u8]) -> Written
     ensures { λ r. ⌜ r ≡ writeVerdict c (now (steps .entry)) (length (now (buffer .entry))) ⌝ }
     ensures { λ _. ⌜ now (buffer .exit) ≡ writtenInto c (now (steps .entry)) (now (buffer .entry)) ⌝ }
 {
-    if !settings::settings_right(c) {
+    if !settings::settings_in_range(c) {
         return Written::Refused(3, 0);
     }
     let count = layout::step_count(steps);

@@ -3,7 +3,7 @@ ghost use mathlib.Core.Path.{_≡_};
 ghost use Prim.Native.Nat.{_≤_};
 ghost use lib.ListN.{length};
 ghost use Rattle.layout.specs.Layout.{mostSteps, settingsLength, trailerLength};
-ghost use Rattle.dayfile.specs.Tests.{lengthWrong, markRight, trailerRight, settingsBytesRight, firstMalformed};
+ghost use Rattle.dayfile.specs.Tests.{lengthWrong, markWellFormed, trailerWellFormed, settingsWellFormed, firstMalformed};
 use layout::LONGEST_FILE;
 use layout::MARK;
 use layout::SETTINGS_DISTANCE;
@@ -25,9 +25,9 @@ pub fn length_wrong(size: usize) -> bool
 }
 
 // Whether the trailer's first four bytes are the mark.
-fn mark_right(t: &[u8]) -> bool
+fn mark_well_formed(t: &[u8]) -> bool
     requires { ⌜ trailerLength ≤ length (now t) ⌝ }
-    ensures { λ r. ⌜ r ≡ markRight (now (t .entry)) ⌝ }
+    ensures { λ r. ⌜ r ≡ markWellFormed (now (t .entry)) ⌝ }
 {
     if t[0] != MARK[0] {
         return false;
@@ -42,31 +42,31 @@ fn mark_right(t: &[u8]) -> bool
 }
 
 // Whether the trailer is that of a file with so many steps.
-pub fn trailer_right(count: usize, t: &[u8]) -> bool
+pub fn trailer_well_formed(count: usize, t: &[u8]) -> bool
     requires { ⌜ (count ≤ mostSteps) × (trailerLength ≤ length (now t)) ⌝ }
-    ensures { λ r. ⌜ r ≡ trailerRight count (now (t .entry)) ⌝ }
+    ensures { λ r. ⌜ r ≡ trailerWellFormed count (now (t .entry)) ⌝ }
 {
-    if !mark_right(t) {
+    if !mark_well_formed(t) {
         return false;
     }
-    if layout::four_at(t, 4) as usize != SETTINGS_DISTANCE {
+    if layout::le32_at(t, 4) as usize != SETTINGS_DISTANCE {
         return false;
     }
-    if layout::four_at(t, 8) as usize != SETTINGS_DISTANCE + STEP_LENGTH * count {
+    if layout::le32_at(t, 8) as usize != SETTINGS_DISTANCE + STEP_LENGTH * count {
         return false;
     }
-    layout::four_at(t, 12) as usize == count
+    layout::le32_at(t, 12) as usize == count
 }
 
 // Whether eight bytes are settings: within their ranges, and bytes 6 and 7 zero.
-pub fn settings_bytes_right(s: &[u8]) -> bool
+pub fn settings_well_formed(s: &[u8]) -> bool
     requires { ⌜ settingsLength ≤ length (now s) ⌝ }
-    ensures { λ r. ⌜ r ≡ settingsBytesRight (now (s .entry)) ⌝ }
+    ensures { λ r. ⌜ r ≡ settingsWellFormed (now (s .entry)) ⌝ }
 {
-    if !settings::settings_right(layout::settings_of(s)) {
+    if !settings::settings_in_range(layout::settings_of(s)) {
         return false;
     }
-    section::pair_of(s[6], s[7]) == 0
+    section::le16_of(s[6], s[7]) == 0
 }
 
 // The index of the first malformed step, or the number of steps where none is. An incomplete step follows the whole ones, and is malformed.

@@ -19,7 +19,7 @@ use Rattle.section.specs.Bytes.{byte}
 use Rattle.section.specs.Numbers.{mostPosts, mostBlocks}
 use Rattle.section.specs.Post.{blank}
 use Rattle.section.proofs.Laws.{and-left}
-use Rattle.layout.specs.Layout.{pairBytes, settingsBytes}
+use Rattle.layout.specs.Layout.{le16Bytes, settingsBytes}
 use Rattle.layout.proofs.Parts.{settings-long}
 use Rattle.text.specs.Text.{written}
 use Rattle.image.proofs.Items.{Put}
@@ -31,12 +31,12 @@ use Rattle.image.proofs.Items.{put-next, items-length}
 -- ## Lengths
 
 pub post-length : (o : Post) → length (postImage o) ≡ postLength
-unfolding postImage pairBytes
+unfolding postImage le16Bytes
 post-length o = refl
 
-pub pair-length : (x : ℕ) → length (pairBytes x) ≡ numberLength
-unfolding pairBytes
-pair-length x = refl
+pub le16-length : (x : ℕ) → length (le16Bytes x) ≡ numberLength
+unfolding le16Bytes
+le16-length x = refl
 
 pub posts-length : (m : ℕ) (l : List Post) → length (postsImage m l) ≡ postLength * m
 unfolding postsImage
@@ -44,10 +44,10 @@ posts-length m l = items-length (λ (p : ℕ). postImage (getD l p blank)) postL
 
 pub numbers-length : (m : ℕ) (l : List ℕ) → length (numbersImage m l) ≡ numberLength * m
 unfolding numbersImage
-numbers-length m l = items-length (λ (i : ℕ). pairBytes (getD l i 0)) numberLength (λ i. pair-length (getD l i 0)) m
+numbers-length m l = items-length (λ (i : ℕ). le16Bytes (getD l i 0)) numberLength (λ i. le16-length (getD l i 0)) m
 
 pub image-head-length : (s : Section) → length (imageHead s) ≡ trackA
-unfolding imageHead settingsBytes pairBytes
+unfolding imageHead settingsBytes le16Bytes
 image-head-length s = refl
 
 walk-length : (w : Walk) → length (walkImage w) ≡ 2
@@ -111,14 +111,14 @@ module _ (l : List ℕ) (at : ℕ) (t : Track) {head b₁ b₂ b₃ b₄ : List 
 
 module _ (l : List ℕ) (s : Section) {number settings b₁ b₂ b₃ b₄ : List ℕ} {p₁ p₂ p₃ p₄ : ℕ} (room : imageLength ≤ length l) where
   pub image-put :
-      number ≡ pairBytes layoutNumber → settings ≡ settingsBytes (s .settings) → Puts l 0 (length number) number p₁ b₁ →
+      number ≡ le16Bytes layoutNumber → settings ≡ settingsBytes (s .settings) → Puts l 0 (length number) number p₁ b₁ →
       Puts b₁ p₁ (length settings) settings p₂ b₂ → Puts b₂ p₂ trackLength (trackImage (s .a)) p₃ b₃ →
       Puts b₃ p₃ trackLength (trackImage (s .b)) p₄ b₄ → b₄ ≡ written l 0 (imageOf s)
   unfolding imageOf imageHead
   image-put en es h₁ h₂ h₃ h₄ =
       let a = track-length (s .a) in
       let b = track-length (s .b) in
-      let n = ap length en ∙ pair-length layoutNumber in
+      let n = ap length en ∙ le16-length layoutNumber in
       let m = ap length es ∙ settings-long (s .settings) in
       let one : Put l 0 number p₁ b₁ = record { next = h₁ .0; after = h₁ .1 } in
       let two = put-next one settings (omega arith) h₂ in

@@ -14,11 +14,11 @@ use Rattle.section.specs.declared.Section.{Section}
 use Rattle.section.specs.declared.Track.{Track}
 use Rattle.section.specs.declared.Walk.{Walk}
 use Rattle.section.specs.declared.Walk.the-variants.{Settled, Turn}
-use Rattle.section.specs.Bytes.{byte, pair}
+use Rattle.section.specs.Bytes.{byte, le16}
 use Rattle.section.specs.Numbers.{mostPosts, mostBlocks}
 use Rattle.section.specs.Post.{blank}
-use Rattle.layout.specs.Layout.{settingsLength, pairBytes, settingsBytes, settingsOf}
-use Rattle.layout.proofs.Numbers.{pair-number}
+use Rattle.layout.specs.Layout.{settingsLength, le16Bytes, settingsBytes, settingsOf}
+use Rattle.layout.proofs.Numbers.{le16-number}
 use Rattle.image.specs.Image.{numberLength, postLength, postsLength, numbersLength, headLength}
 use Rattle.image.specs.Image.{settingsPlace, trackA, trackB, imageLength, layoutNumber}
 use Rattle.image.specs.Image.{flag, faultsByte, postImage, postsImage, numbersImage, actNumber, walkImage, trackHead, trackImage, imageHead, imageOf}
@@ -26,7 +26,7 @@ use Rattle.image.specs.Image.{numberAt, postAt, postsFrom, numbersFrom, 
 use Rattle.image.specs.Image.{postWellFormed, postsWellFormed, trackWellFormed, imageWellFormed}
 use Rattle.image.specs.RoundTrip.{Small, TrackHeld, SectionHeld, ReadsBack}
 use Rattle.image.proofs.Items.{each, same-items, first-items}
-use Rattle.image.proofs.Laws.{post-length, pair-length, posts-length, numbers-length, head-length, track-length, image-head-length, image-length}
+use Rattle.image.proofs.Laws.{post-length, le16-length, posts-length, numbers-length, head-length, track-length, image-head-length, image-length}
 
 -- ## Flags
 
@@ -73,9 +73,9 @@ module _ (front rest : List ℕ) {at : ℕ} (here : length front ≡ at) where
 -- ## A number and a post
 
 module _ (front : List ℕ) {at : ℕ} (here : length front ≡ at) (rest : List ℕ) where
-  number-back : (x : ℕ) → Small x → numberAt (front ++ (pairBytes x ++ rest)) at ≡ x
-  unfolding numberAt pairBytes
-  number-back x h = rw (past-none front (pairBytes x ++ rest) here, past front (pairBytes x ++ rest) here 1) (pair-number x h)
+  number-back : (x : ℕ) → Small x → numberAt (front ++ (le16Bytes x ++ rest)) at ≡ x
+  unfolding numberAt le16Bytes
+  number-back x h = rw (past-none front (le16Bytes x ++ rest) here, past front (le16Bytes x ++ rest) here 1) (le16-number x h)
 
   module _ (o : Post) where
     post-well-formed : postWellFormed (front ++ (postImage o ++ rest)) at ≡ true
@@ -88,7 +88,7 @@ module _ (front : List ℕ) {at : ℕ} (here : length front ≡ at) (rest : List
           past front l here 2,
           past front l here 3,
           past front l here 4,
-          flag-well-formed (o .cvt),
+          flag-well-formed (o .device),
           flag-well-formed (o .permission),
           flag-well-formed (o .measures),
           faults-back (o .faults .one) (o .faults .two) (o .faults .three) .all-known,
@@ -96,7 +96,7 @@ module _ (front : List ℕ) {at : ℕ} (here : length front ≡ at) (rest : List
         )
 
     post-back : Small (o .seals) → postAt (front ++ (postImage o ++ rest)) at ≡ o
-    unfolding postAt numberAt postImage faultsByte pairBytes
+    unfolding postAt numberAt postImage faultsByte le16Bytes
     post-back h =
         let l = postImage o ++ rest in
         let faults = faults-back (o .faults .one) (o .faults .two) (o .faults .three) in
@@ -110,14 +110,14 @@ module _ (front : List ℕ) {at : ℕ} (here : length front ≡ at) (rest : List
           past front l here 4,
           past front l here 6,
           past front l here 7,
-          flag-back (o .cvt),
+          flag-back (o .device),
           flag-back (o .permission),
           flag-back (o .measures),
           faults .first,
           faults .second,
           faults .third,
           flag-back (o .mark),
-          pair-number (o .seals) h,
+          le16-number (o .seals) h,
         )
 
 -- ## Numbers and posts, one after another
@@ -135,7 +135,7 @@ module _ (front : List ℕ) {at : ℕ} (here : length front ≡ at) where
   unfolding numbersFrom numbersImage
   numbers-back l small m rest h =
       let back =
-      each (λ (i : ℕ). pairBytes (getD l i 0)) numberLength (λ i. pair-length (getD l i 0)) front at here
+      each (λ (i : ℕ). le16Bytes (getD l i 0)) numberLength (λ i. le16-length (getD l i 0)) front at here
       (λ (i : ℕ) (k : List ℕ). numberAt k (at + numberLength * i) ≡ getD l i 0)
       (λ i before behind e. number-back before e behind (getD l i 0) (small i)) m rest in
       same-items _ _ m back ∙ first-items 0 l m h
@@ -262,8 +262,8 @@ module _ (front : List ℕ) {at : ℕ} (here : length front ≡ at) (rest : List
 
 module _ (s : Section) where
   settings-back : Small (s .settings .mask) → Small (s .settings .line) → settingsOf (take settingsLength (drop settingsPlace (imageOf s))) ≡ s .settings
-  unfolding settingsOf imageOf imageHead settingsBytes pairBytes
-  settings-back m l = rw (pair-number (s .settings .mask) m, pair-number (s .settings .line) l)
+  unfolding settingsOf imageOf imageHead settingsBytes le16Bytes
+  settings-back m l = rw (le16-number (s .settings .mask) m, le16-number (s .settings .line) l)
 
   b-apart : imageOf s ≡ (imageHead s ++ trackImage (s .a)) ++ (trackImage (s .b) ++ [])
   unfolding imageOf
@@ -287,7 +287,7 @@ module _ (s : Section) where
   b-well-formed = ap (λ (k : List ℕ). trackWellFormed k trackB) b-apart ∙ track-well-formed (imageHead s ++ trackImage (s .a)) at-b [] (s .b)
 
   layout-said : numberAt (imageOf s) 0 ≡ layoutNumber
-  unfolding numberAt imageOf imageHead pairBytes pair
+  unfolding numberAt imageOf imageHead le16Bytes le16
   layout-said = refl
 
   pub image-well-formed : imageWellFormed (imageOf s) ≡ true

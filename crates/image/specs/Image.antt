@@ -12,10 +12,10 @@ use Rattle.section.specs.declared.Section.{Section}
 use Rattle.section.specs.declared.Track.{Track}
 use Rattle.section.specs.declared.Walk.{Walk}
 use Rattle.section.specs.declared.Walk.the-variants.{Settled, Turn}
-use Rattle.section.specs.Bytes.{byte, pair}
+use Rattle.section.specs.Bytes.{byte, le16}
 use Rattle.section.specs.Numbers.{mostPosts, mostBlocks}
 use Rattle.section.specs.Post.{blank}
-use Rattle.layout.specs.Layout.{settingsLength, pairBytes, settingsBytes, settingsOf}
+use Rattle.layout.specs.Layout.{settingsLength, le16Bytes, settingsBytes, settingsOf}
 
 -- ## Lengths and places
 
@@ -79,7 +79,7 @@ faultsByte o = flag (o .faults .one) + flag (o .faults .two) * 2 + flag (o .faul
 
 -- device (1 at CVT), permission, measures, faults, mark, zero, seals
 unfoldable pub postImage : Post → List ℕ
-postImage o = flag (o .cvt) ∷ flag (o .permission) ∷ flag (o .measures) ∷ faultsByte o ∷ flag (o .mark) ∷ 0 ∷ pairBytes (o .seals)
+postImage o = flag (o .device) ∷ flag (o .permission) ∷ flag (o .measures) ∷ faultsByte o ∷ flag (o .mark) ∷ 0 ∷ le16Bytes (o .seals)
 
 -- the first m posts
 unfoldable pub postsImage : ℕ → List Post → List ℕ
@@ -87,7 +87,7 @@ postsImage m l = itemsImage (λ (p : ℕ). postImage (getD l p blank)) m
 
 -- the first m numbers
 unfoldable pub numbersImage : ℕ → List ℕ → List ℕ
-numbersImage m l = itemsImage (λ (i : ℕ). pairBytes (getD l i 0)) m
+numbersImage m l = itemsImage (λ (i : ℕ). le16Bytes (getD l i 0)) m
 
 unfoldable pub actNumber : Act → ℕ
 actNumber Set = 1
@@ -107,7 +107,7 @@ unfoldable pub trackImage : Track → List ℕ
 trackImage t = trackHead t ++ (postsImage mostPosts (t .posts) ++ (numbersImage mostBlocks (t .trains) ++ numbersImage mostBlocks (t .last)))
 
 unfoldable pub imageHead : Section → List ℕ
-imageHead s = pairBytes layoutNumber ++ settingsBytes (s .settings)
+imageHead s = le16Bytes layoutNumber ++ settingsBytes (s .settings)
 
 unfoldable pub imageOf : Section → List ℕ
 imageOf s = imageHead s ++ (trackImage (s .a) ++ trackImage (s .b))
@@ -115,11 +115,11 @@ imageOf s = imageHead s ++ (trackImage (s .a) ++ trackImage (s .b))
 -- ## What is read
 
 unfoldable pub numberAt : List ℕ → ℕ → ℕ
-numberAt l at = pair (byte l at) (byte l (at + 1))
+numberAt l at = le16 (byte l at) (byte l (at + 1))
 
 unfoldable pub postAt : List ℕ → ℕ → Post
 postAt l at = record {
-  cvt = eqb (byte l at) 1;
+  device = eqb (byte l at) 1;
   permission = eqb (byte l (at + 1)) 1;
   measures = eqb (byte l (at + 2)) 1;
   faults = record { one = eqb (byte l (at + 3) % 2) 1; two = eqb (byte l (at + 3) / 2 % 2) 1; three = eqb (byte l (at + 3) / 4 % 2) 1 };

@@ -29,7 +29,7 @@ pub fn number_at(bytes: &[u8], at: usize) -> u16
     requires { ⌜ at + numberLength ≤ length (now bytes) ⌝ }
     ensures { λ r. ⌜ r ≡ numberAt (now (bytes .entry)) at ⌝ }
 {
-    section::pair_of(bytes[at], bytes[at + 1])
+    section::le16_of(bytes[at], bytes[at + 1])
 }
 
 fn post_at(bytes: &[u8], at: usize) -> Post
@@ -43,7 +43,7 @@ fn post_at(bytes: &[u8], at: usize) -> Post
         three: flags / 4 % 2 == 1,
     };
     Post {
-        cvt: bytes[at] == 1,
+        device: bytes[at] == 1,
         permission: bytes[at + 1] == 1,
         measures: bytes[at + 2] == 1,
         faults: faults,

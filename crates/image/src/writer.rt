@@ -32,9 +32,9 @@ fn faults_byte(o: Post) -> u8
 fn post_bytes(o: Post) -> [u8; 8]
     ensures { λ r. ⌜ r ≡ postImage o ⌝ }
 {
-    let seals = layout::pair_bytes(o.seals);
+    let seals = layout::le16_bytes(o.seals);
     [
-        flag(o.cvt),
+        flag(o.device),
         flag(o.permission),
         flag(o.measures),
         faults_byte(o),
@@ -97,7 +97,7 @@ fn put_numbers(buffer: &mut [u8], at: usize, numbers: Trains) -> usize
     let mut next = at;
     let mut i = 0;
     while i < MOST_BLOCKS {
-        let bytes = layout::pair_bytes(numbers[i]);
+        let bytes = layout::le16_bytes(numbers[i]);
         next = text::put_text(buffer, next, &bytes);
         i += 1;
     }
@@ -124,7 +124,7 @@ pub fn put_image(buffer: &mut [u8], s: Section)
     requires { ⌜ imageLength ≤ length (now buffer) ⌝ }
     ensures { λ _. ⌜ now (buffer .exit) ≡ written (now (buffer .entry)) 0 (imageOf s) ⌝ }
 {
-    let number = layout::pair_bytes(LAYOUT_NUMBER);
+    let number = layout::le16_bytes(LAYOUT_NUMBER);
     let settings = layout::settings_bytes(s.settings);
     let settings_at = text::put_text(buffer, 0, &number);
     let a = text::put_text(buffer, settings_at, &settings);

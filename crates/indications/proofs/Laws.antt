@@ -13,7 +13,7 @@ use Rattle.section.specs.declared.Walk.{Walk}
 use Rattle.section.specs.declared.Walk.the-variants.{Turn}
 use Rattle.section.specs.declared.Section.{Section}
 use Rattle.section.specs.declared.Indications.{Indications}
-use Rattle.section.specs.Range.{walkFits, inRange}
+use Rattle.section.specs.Range.{walkInRange, inRange}
 use Rattle.section.specs.Settings.{isMaterialised}
 use Rattle.section.specs.Store.{trackOf}
 use Rattle.section.proofs.Laws.{turn-right}
@@ -40,7 +40,7 @@ next-within count (suc j) z h = rw (lt-ltb j count (omega arith)) (go (decLt (su
     go (no k) = rw (le-leb count (suc j) (omega arith), le-ltb (suc j) count (omega arith))
 
 -- a turn's post is one of the line
-pub turn-below : (n : ℕ) (up : Bool) (w : Walk) (p : ℕ) (act : Act) → walkFits n up w ≡ true → w ≡ Turn p act → p < n
+pub turn-below : (n : ℕ) (up : Bool) (w : Walk) (p : ℕ) (act : Act) → walkInRange n up w ≡ true → w ≡ Turn p act → p < n
 turn-below n up w p act fits is = turn-right n up p act (rw is at fits) .0
 
 -- the test of the form
@@ -93,7 +93,7 @@ flashing-is n k j rank r u up w a b d e = cc
 
 pub shown-parts :
     (c : Settings) (e : Site) (trains : List ℕ) (r₁ r₂ r₃ : ℕ) (flashing last occupied : Bool)
-    → r₁ ≡ cond (e .own .faults .three) 0 (cond flashing (cond (e .own .cvt) 3 4) (cond (e .own .cvt) 2 1))
+    → r₁ ≡ cond (e .own .faults .three) 0 (cond flashing (cond (e .own .device) 3 4) (cond (e .own .device) 2 1))
     → flashing ≡ (isMaterialised c && isNextToSet (setCount (c .posts) (upAt c e) (e .walk)) (rankAt c e))
     → r₂ ≡ cond (not last) (cond (e .own .faults .one || occupied) 2 1) 0 → last ≡ atReceivingEnd c e → occupied ≡ watchedOccupied c e trains
     → r₃ ≡ cond (e .own .permission) 1 0

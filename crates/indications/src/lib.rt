@@ -3,8 +3,8 @@ ghost use mathlib.Core.Bool.{true, _&&_, _||_, cond};
 ghost use mathlib.Core.Path.{_≡_};
 ghost use Prim.Native.Nat.{_≤_, _<_};
 ghost use Rattle.section.specs.Numbers.{mostPosts};
-ghost use Rattle.section.specs.Range.{walkFits, trackFits};
-ghost use Rattle.section.specs.Settings.{isMaterialised, settingsRight};
+ghost use Rattle.section.specs.Range.{walkInRange, trackInRange};
+ghost use Rattle.section.specs.Settings.{isMaterialised, settingsInRange};
 ghost use Rattle.rules.specs.Site.{siteOn, upAt, rankAt};
 ghost use Rattle.rules.specs.Indications.{setCount, isNextToSet, shown, lampsAt, dark, indications};
 ghost use Rattle.site.specs.Fit.{Fit};
@@ -40,7 +40,7 @@ const RED: u8 = 2;
 
 // How many posts, from the sending end on, have set in this reversal.
 fn set_count(n: u8, up: bool, walk: Walk) -> u8
-    requires { ⌜ (n ≤ mostPosts) × (walkFits n up walk ≡ true) ⌝ }
+    requires { ⌜ (n ≤ mostPosts) × (walkInRange n up walk ≡ true) ⌝ }
     ensures { λ r. ⌜ r ≡ setCount n up walk ⌝ }
 {
     match walk {
@@ -119,7 +119,7 @@ fn shown_at(c: Settings, e: Site, trains: &Trains) -> Indications
 {
     let own = e.own;
     Indications {
-        circulation: circulation(own.faults.three, is_flashing(c, e), own.cvt),
+        circulation: circulation(own.faults.three, is_flashing(c, e), own.device),
         troncon: troncon(
             !place::at_receiving_end(c, e),
             own.faults.one,
@@ -131,7 +131,7 @@ fn shown_at(c: Settings, e: Site, trains: &Trains) -> Indications
 
 // What a post of a track in its ranges shows.
 fn shown_on(c: Settings, track: bool, post: u8, t: Track) -> Indications
-    requires { ⌜ (settingsRight c ≡ true) × (trackFits (c .posts) track t ≡ true) × (post < c .posts) ⌝ }
+    requires { ⌜ (settingsInRange c ≡ true) × (trackInRange (c .posts) track t ≡ true) × (post < c .posts) ⌝ }
     ensures { λ r. ⌜ r ≡ shown (lampsAt c (siteOn track post t) (t .trains)) ⌝ }
 {
     let at = post as usize;

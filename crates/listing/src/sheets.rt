@@ -5,7 +5,7 @@ ghost use Prim.Native.Nat.{_+_, _*_, _≤_};
 ghost use lib.ListN.{length, replicate};
 ghost use Rattle.section.specs.Fresh.{freshSection};
 ghost use Rattle.section.specs.Numbers.{stepLength};
-ghost use Rattle.section.specs.Settings.{settingsRight};
+ghost use Rattle.section.specs.Settings.{settingsInRange};
 ghost use Rattle.layout.specs.Layout.{mostSteps};
 ghost use Rattle.dayfile.specs.declared.Reading.{Reading};
 ghost use Rattle.text.specs.Text.{written};
@@ -76,7 +76,7 @@ fn room_for_notes() -> [u8; NOTES_ROOM]
 // is not looked at.
 fn put_listing_lines(buffer: &mut [u8], at: usize, c: Settings, steps: &[u8], count: usize) -> usize
     requires { ⌜ (at + stepLineRoom * count ≤ length (now buffer)) × (count ≤ mostSteps) ⌝ }
-    requires { ⌜ (stepLength * count ≤ length (now steps)) × (settingsRight c ≡ true) ⌝ }
+    requires { ⌜ (stepLength * count ≤ length (now steps)) × (settingsInRange c ≡ true) ⌝ }
     ensures { λ r. ⌜ r ≡ at + length (lines (lineOn Sheet.Listing) (freshSection c) (now (steps .entry)) count) ⌝ }
     ensures { λ _. ⌜ now (buffer .exit) ≡ written (now (buffer .entry)) at (lines (lineOn Sheet.Listing) (freshSection c) (now (steps .entry)) count) ⌝ }
 {
@@ -88,7 +88,7 @@ fn put_listing_lines(buffer: &mut [u8], at: usize, c: Settings, steps: &[u8], co
 // Writes the panel's lines of all steps, each judged on the section that the one before left, and returns the next place.
 fn put_panel_lines(buffer: &mut [u8], at: usize, c: Settings, steps: &[u8], count: usize) -> usize
     requires { ⌜ at + panelLineRoom * count ≤ length (now buffer) ⌝ }
-    requires { ⌜ (stepLength * count ≤ length (now steps)) × (settingsRight c ≡ true) ⌝ }
+    requires { ⌜ (stepLength * count ≤ length (now steps)) × (settingsInRange c ≡ true) ⌝ }
     ensures { λ r. ⌜ r ≡ at + length (lines (lineOn Sheet.Panel) (freshSection c) (now (steps .entry)) count) ⌝ }
     ensures { λ _. ⌜ now (buffer .exit) ≡ written (now (buffer .entry)) at (lines (lineOn Sheet.Panel) (freshSection c) (now (steps .entry)) count) ⌝ }
 {
@@ -115,7 +115,7 @@ fn put_lines(
     count: usize,
 ) -> usize
     requires { ⌜ (at + lineRoom sheet * count ≤ length (now buffer)) × (count ≤ mostSteps) ⌝ }
-    requires { ⌜ (stepLength * count ≤ length (now steps)) × (settingsRight c ≡ true) ⌝ }
+    requires { ⌜ (stepLength * count ≤ length (now steps)) × (settingsInRange c ≡ true) ⌝ }
     ensures { λ r. ⌜ r ≡ at + length (lines (lineOn sheet) (freshSection c) (now (steps .entry)) count) ⌝ }
     ensures { λ _. ⌜ now (buffer .exit) ≡ written (now (buffer .entry)) at (lines (lineOn sheet) (freshSection c) (now (steps .entry)) count) ⌝ }
 {
@@ -128,7 +128,7 @@ fn put_lines(
 // Writes what is printed of a day, and returns its length.
 fn put_day(sheet: Sheet, buffer: &mut [u8], c: Settings, steps: &[u8], count: usize) -> usize
     requires { ⌜ (room sheet count ≤ length (now buffer)) × (count ≤ mostSteps) ⌝ }
-    requires { ⌜ (stepLength * count ≤ length (now steps)) × (settingsRight c ≡ true) ⌝ }
+    requires { ⌜ (stepLength * count ≤ length (now steps)) × (settingsInRange c ≡ true) ⌝ }
     ensures { λ r. ⌜ r ≡ length (printedRead (lineOn sheet) (Reading.Day count) c (now (steps .entry))) ⌝ }
     ensures { λ _. ⌜ now (buffer .exit) ≡ written (now (buffer .entry)) 0 (printedRead (lineOn sheet) (Reading.Day count) c (now (steps .entry))) ⌝ }
 {

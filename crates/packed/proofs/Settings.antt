@@ -8,9 +8,9 @@ use lib.ListN.{length}
 use borrow.Author.Tests.{eqb-true}
 use Rattle.section.proofs.Laws.{and-left}
 use Rattle.layout.specs.Layout.{settingsLength}
-use Rattle.dayfile.specs.Tests.{settingsBytesRight}
+use Rattle.dayfile.specs.Tests.{settingsWellFormed}
 use Rattle.packed.specs.Settings.{lentSettingsWellFormed}
 
 pub settings-lent : (bytes : List ℕ) → lentSettingsWellFormed bytes ≡ true → length bytes ≡ settingsLength
 unfolding lentSettingsWellFormed
-settings-lent bytes e = eqb-true (length bytes) settingsLength (and-left (eqb (length bytes) settingsLength) (settingsBytesRight bytes) e)
+settings-lent bytes e = eqb-true (length bytes) settingsLength (and-left (eqb (length bytes) settingsLength) (settingsWellFormed bytes) e)

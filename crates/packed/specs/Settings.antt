@@ -5,8 +5,8 @@ use mathlib.Core.List.{List}
 use lib.Dec.{eqb}
 use lib.ListN.{length}
 use Rattle.layout.specs.Layout.{settingsLength}
-use Rattle.dayfile.specs.Tests.{settingsBytesRight}
+use Rattle.dayfile.specs.Tests.{settingsWellFormed}
 
 -- as many bytes as a day file has for its settings, and such that its reader takes them
 unfoldable pub lentSettingsWellFormed : List ℕ → Bool
-lentSettingsWellFormed bytes = eqb (length bytes) settingsLength && settingsBytesRight bytes
+lentSettingsWellFormed bytes = eqb (length bytes) settingsLength && settingsWellFormed bytes

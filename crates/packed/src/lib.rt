@@ -17,7 +17,7 @@ pub fn lent_settings_well_formed(bytes: &[u8]) -> bool
     if bytes.len() != SETTINGS_LENGTH {
         return false;
     }
-    tests::settings_bytes_right(bytes)
+    tests::settings_well_formed(bytes)
 }
 
 // The refusal, and the count of steps or the refusal's index: every reading of a file fits.

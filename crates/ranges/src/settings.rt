@@ -2,7 +2,7 @@
 ghost use mathlib.Core.Path.{_≡_};
 ghost use Prim.Native.Nat.{_≤_};
 ghost use Rattle.section.specs.Numbers.{mostPosts};
-ghost use Rattle.section.specs.Settings.{noneFrom, settingsRight};
+ghost use Rattle.section.specs.Settings.{noneFrom, settingsInRange};
 use section::LARGEST_LINE;
 use section::LEAST_POSTS;
 use section::MOST_POSTS;
@@ -17,8 +17,8 @@ fn none_from(mask: u16, n: u8) -> bool
     (mask as u32) >> n == 0
 }
 
-pub fn settings_right(c: Settings) -> bool
-    ensures { λ r. ⌜ r ≡ settingsRight c ⌝ }
+pub fn settings_in_range(c: Settings) -> bool
+    ensures { λ r. ⌜ r ≡ settingsInRange c ⌝ }
 {
     let n = c.posts;
     if n < LEAST_POSTS {

@@ -9,7 +9,7 @@ use Rattle.section.specs.declared.Section.{Section}
 use Rattle.section.specs.declared.Answer.{Answer}
 use Rattle.section.specs.Fresh.{freshSection}
 use Rattle.section.specs.Numbers.{leastPosts, mostPosts}
-use Rattle.section.specs.Settings.{settingsRight}
+use Rattle.section.specs.Settings.{settingsInRange}
 use Rattle.section.proofs.Laws.{posts-right}
 use Rattle.rules.specs.Judge.{judge}
 use Rattle.rules.specs.Demand3.{stateAfter, AcceptedStep, acceptedOf, acceptedSteps}
@@ -25,7 +25,7 @@ use Rattle.rules.proofs.Sort.{Progress, progress, fresh-progress}
 abbrev pub acceptedAs : Settings → Section → Seen → List ℕ → AcceptedStep
 acceptedAs c s x bytes = record { bytes = bytes; said = saidIn c s x }
 
-module _ (c : Settings) (right : settingsRight c ≡ true) (P : Section → List AcceptedStep → Type 0) where
+module _ (c : Settings) (right : settingsInRange c ≡ true) (P : Section → List AcceptedStep → Type 0) where
   -- an accepted step keeps what holds of a section and the accepted steps behind it
   abbrev pub KeptByAccepted : Type 0
   KeptByAccepted =
@@ -58,7 +58,7 @@ module _ (c : Settings) (right : settingsRight c ≡ true) (P : Section → List
 
 -- ## All that is kept
 
-module _ (c : Settings) (right : settingsRight c ≡ true) where
+module _ (c : Settings) (right : settingsInRange c ≡ true) where
   pub n2 : leastPosts ≤ c .posts
   n2 = posts-right c right .0
 

@@ -23,7 +23,7 @@ use Rattle.section.specs.declared.Verdict.the-variants.{Accepted, Refused}
 use Rattle.section.proofs.Codec.{decoded-post-below}
 use Rattle.section.specs.Numbers.{mostSeals, largestTrain}
 use Rattle.section.specs.Post.{blank}
-use Rattle.section.specs.Range.{sealsFit, numbersFit, trackFits, inRange}
+use Rattle.section.specs.Range.{sealsInRange, numbersInRange, trackInRange, inRange}
 use Rattle.section.specs.Step.{decoded, postOf, numberOf}
 use Rattle.section.specs.Store.{trackOf, postOn, withTrack}
 use Rattle.section.proofs.Laws.{rank-lt, block-lt, and-right}
@@ -50,13 +50,13 @@ AlikeFirst m l k = (i : ℕ) → i < m → getD l i 0 ≡ getD k i 0
 abbrev AlikeBelow : ℕ → List ℕ → List ℕ → Type 0
 AlikeBelow n l k = (i : ℕ) → suc i < n → getD l i 0 ≡ getD k i 0
 
-seals-alike : (m : ℕ) (l k : List Post) → ((p : ℕ) → p < m → getD l p blank ≡ getD k p blank) → sealsFit m l ≡ sealsFit m k
-unfolding sealsFit
-seals-alike = first-cells sealsFit blank (λ o rest. leb (o .seals) mostSeals && rest) (λ l k. refl) (λ m l. refl)
+seals-alike : (m : ℕ) (l k : List Post) → ((p : ℕ) → p < m → getD l p blank ≡ getD k p blank) → sealsInRange m l ≡ sealsInRange m k
+unfolding sealsInRange
+seals-alike = first-cells sealsInRange blank (λ o rest. leb (o .seals) mostSeals && rest) (λ l k. refl) (λ m l. refl)
 
-numbers-alike : (m : ℕ) (l k : List ℕ) → AlikeFirst m l k → numbersFit m l ≡ numbersFit m k
-unfolding numbersFit
-numbers-alike = first-cells numbersFit 0 (λ z rest. leb z largestTrain && rest) (λ l k. refl) (λ m l. refl)
+numbers-alike : (m : ℕ) (l k : List ℕ) → AlikeFirst m l k → numbersInRange m l ≡ numbersInRange m k
+unfolding numbersInRange
+numbers-alike = first-cells numbersInRange 0 (λ z rest. leb z largestTrain && rest) (λ l k. refl) (λ m l. refl)
 
 any-alike : (test : ℕ → Bool) (m : ℕ) (l k : List ℕ) → AlikeFirst m l k → anyOf test m l ≡ anyOf test m k
 unfolding anyOf
@@ -137,8 +137,8 @@ module _ (c : Settings) (v : Bool) (e : Site) (below : e .post < c .posts) (numb
 
 -- ## The ranges
 
-track-alike : (n : ℕ) (b : Bool) (t u : Track) → SameBelow n t u → trackFits n b t ≡ trackFits n b u
-unfolding trackFits
+track-alike : (n : ℕ) (b : Bool) (t u : Track) → SameBelow n t u → trackInRange n b t ≡ trackInRange n b u
+unfolding trackInRange
 track-alike n b t u a =
     rw (
       seals-alike n (t .posts) (u .posts) (a .cells .posts),

@@ -15,14 +15,14 @@ use Rattle.section.specs.declared.Step.the-variants.{Order, Set, Announce, Ackn
 use Rattle.section.specs.declared.TrackStep.{TrackStep}
 use Rattle.section.specs.declared.Verdict.{Verdict}
 use Rattle.section.specs.declared.Verdict.the-variants.{Accepted, Refused}
-use Rattle.section.specs.Bytes.{pair, within}
+use Rattle.section.specs.Bytes.{le16, within}
 use Rattle.section.specs.Fresh.{freshTrack, freshSection}
 use Rattle.section.specs.Geometry.{upward, rank, block, isFirst, isLast}
 use Rattle.section.specs.Numbers.{mostBlocks}
 use Rattle.section.specs.Post.{sealed}
-use Rattle.section.specs.Range.{sealsFit, numbersFit, actFits, walkFits, trackFits, inRange}
-use Rattle.section.specs.Settings.{bit, noneFrom, isMaterialised, settingsRight}
-use Rattle.section.specs.Step.{faultRight, numberRight, placeRight, fieldsRight, wellFormed, faultOf, stepOf, stepSaid, decoded}
+use Rattle.section.specs.Range.{sealsInRange, numbersInRange, actInRange, walkInRange, trackInRange, inRange}
+use Rattle.section.specs.Settings.{isSignalled, noneFrom, isMaterialised, settingsInRange}
+use Rattle.section.specs.Step.{faultWellFormed, numberWellFormed, placeWellFormed, fieldsWellFormed, wellFormed, faultOf, stepOf, stepSaid, decoded}
 use Rattle.section.specs.Step.{postOf, faultNumber, numberOf, trackNumber, bytesOf, encoded}
 use Rattle.section.specs.Store.{trackOf, withTrack, postOn, withPost}
 use Rattle.section.specs.Words.{refusalOf}
@@ -124,8 +124,8 @@ offeredAs steps = map encoded steps
 unfoldable pub refusals : Section → List (List ℕ) → List ℕ
 unfolding judge judgeInRange judgeDecoded judgeStep sectionAfter verdictOn answerOf verdictOf refusalOf
     checks effect cellsAfter trackAfter reach anyOf stretchEnds watchedOccupied trainBefore lastEntered occupancyAt
-    inRange trackFits walkFits actFits numbersFit sealsFit settingsRight noneFrom bit isMaterialised upward rank block isFirst isLast
-    decoded stepSaid stepOf faultOf wellFormed fieldsRight placeRight numberRight faultRight pair within postOf numberOf
+    inRange trackInRange walkInRange actInRange numbersInRange sealsInRange settingsInRange noneFrom isSignalled isMaterialised upward rank block isFirst isLast
+    decoded stepSaid stepOf faultOf wellFormed fieldsWellFormed placeWellFormed numberWellFormed faultWellFormed le16 within postOf numberOf
 refusals s [] = []
 refusals s (bytes ∷ offered) = refusalOf (judge s bytes .verdict) ∷ refusals (judge s bytes .section) offered
 

@@ -72,7 +72,7 @@ module _ (c : Settings) (e : Site) (g : Occupancy) where
 
   pub record MeasuresOffHeld : Type 0 where
     pub in-place : T (e .own .measures)
-    pub device-vns : T (not (e .own .cvt))
+    pub device-vns : T (not (e .own .device))
 
   pub record FaultOnHeld (f : Fault) : Type 0 where
     pub absent : T (not (hasFault f (e .own)))

@@ -11,7 +11,7 @@ use Rattle.section.specs.declared.Verdict.the-variants.{Accepted}
 use Rattle.section.specs.declared.Walk.{Walk}
 use Rattle.section.specs.declared.Walk.the-variants.{Settled}
 use Rattle.section.specs.declared.Section.{Section}
-use Rattle.section.specs.Settings.{settingsRight}
+use Rattle.section.specs.Settings.{settingsInRange}
 use Rattle.section.specs.Store.{trackOf}
 use Rattle.section.proofs.Laws.{posts-right}
 use Rattle.rules.specs.Site.{isSettled, otherSettledOnVns}
@@ -78,7 +78,7 @@ module _ (c : Settings) where
   performed-one s b i ok said w = step b i ok said (no-reversal (sectionAfterStep c s (stepOf b i)) w) done
 
   -- judged as the claim says
-  pub performed-performs : (right : settingsRight c ≡ true) (behind : List AcceptedStep) {s end : Section} {ds : List AcceptedStep} → Reached c s
+  pub performed-performs : (right : settingsInRange c ≡ true) (behind : List AcceptedStep) {s end : Section} {ds : List AcceptedStep} → Reached c s
       → Agrees c s behind
       → Performed s ds end → Performs c s behind ds end
   unfolding Performs

@@ -4,7 +4,7 @@ use mathlib.Core.Bool.{Bool, true, not}
 use mathlib.Core.Path.{_≡_, refl}
 use Rattle.section.specs.declared.Section.{Section}
 use Rattle.section.specs.Range.{inRange}
-use Rattle.section.specs.Settings.{settingsRight}
+use Rattle.section.specs.Settings.{settingsInRange}
 use Rattle.section.specs.Store.{trackOf}
 use Rattle.section.proofs.Laws.{settings-in-range, track-in-range, section-in-range}
 use Rattle.rules.specs.Judge.{judge}
@@ -19,7 +19,7 @@ use Rattle.rules.proofs.Exchange.{here-after, there-after, settings-aft
 -- ## The ranges of a section, track by track
 
 pub record SectionInRange (s : Section) : Type 0 where
-  pub settings : settingsRight (s .settings) ≡ true
+  pub settings : settingsInRange (s .settings) ≡ true
   pub tracks : (b : Bool) → InRange (s .settings) b (trackOf s b)
 
 pub section-in : (s : Section) → inRange s ≡ true → SectionInRange s

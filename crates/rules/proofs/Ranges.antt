@@ -16,7 +16,7 @@ use Rattle.section.specs.declared.Track.{Track}
 use Rattle.section.specs.Geometry.{upward, rank, isFirst, isLast}
 use Rattle.section.specs.Numbers.{mostSeals, largestTrain}
 use Rattle.section.specs.Post.{blank}
-use Rattle.section.specs.Range.{actFits, walkFits, trackFits}
+use Rattle.section.specs.Range.{actInRange, walkInRange, trackInRange}
 use Rattle.section.specs.Store.{postOn}
 use Rattle.section.proofs.Laws.{track-ranges, ranges-hold, set-keeps}
 use Rattle.rules.specs.declared.Site.{Site}
@@ -44,8 +44,8 @@ module _ (c : Settings) (b : Bool) where
   TurnFits cvt (Turn p act.Announce) = (p < c .posts) × (suc (rankOn cvt p) < c .posts)
   TurnFits cvt (Turn p act.Acknowledge) = (p < c .posts) × (0 < rankOn cvt p)
 
-  turn-in : (cvt : Bool) (w : Walk) → T (walkFits (c .posts) (upward b cvt) w) → TurnFits cvt w
-  unfolding walkFits actFits
+  turn-in : (cvt : Bool) (w : Walk) → T (walkInRange (c .posts) (upward b cvt) w) → TurnFits cvt w
+  unfolding walkInRange actInRange
   turn-in cvt Settled h = tt
   turn-in cvt (Turn p act.Set) h = ltb→lt p (c .posts) (and-l (ltb p (c .posts)) true h)
   turn-in cvt (Turn p act.Announce) h =
@@ -56,8 +56,8 @@ module _ (c : Settings) (b : Bool) where
     omega (arith, not-first-rank (c .posts) (upward b cvt) p (and-r (ltb p (c .posts)) (not (isFirst (c .posts) (upward b cvt) p)) h)),
   )
 
-  turn-out : (cvt : Bool) (w : Walk) → TurnFits cvt w → T (walkFits (c .posts) (upward b cvt) w)
-  unfolding walkFits actFits
+  turn-out : (cvt : Bool) (w : Walk) → TurnFits cvt w → T (walkInRange (c .posts) (upward b cvt) w)
+  unfolding walkInRange actInRange
   turn-out cvt Settled h = tt
   turn-out cvt (Turn p act.Set) h = and-i (ltb p (c .posts)) true (lt→ltb p (c .posts) h) tt
   turn-out cvt (Turn p act.Announce) h =
@@ -74,12 +74,12 @@ module _ (c : Settings) (b : Bool) where
     pub last : (i : ℕ) → i < c .posts - 1 → getD (t .last) i 0 ≤ largestTrain
     pub turn : TurnFits (t .cvt) (t .walk)
 
-  pub track-in : (t : Track) → trackFits (c .posts) b t ≡ true → InRange t
+  pub track-in : (t : Track) → trackInRange (c .posts) b t ≡ true → InRange t
   track-in t h =
       let r = track-ranges (c .posts) b t h in
       record { seals = r .seals; trains = r .trains; last = r .last; turn = turn-in (t .cvt) (t .walk) (true-T _ (r .walk)) }
 
-  pub track-out : (t : Track) → InRange t → trackFits (c .posts) b t ≡ true
+  pub track-out : (t : Track) → InRange t → trackInRange (c .posts) b t ≡ true
   track-out t r =
       ranges-hold (c .posts) b t
       (record { seals = r .seals; trains = r .trains; last = r .last; walk = T-true _ (turn-out (t .cvt) (t .walk) (r .turn)) })
@@ -104,12 +104,12 @@ module _ (c : Settings) (b : Bool) where
   vacated-fits true e l f = set-fits l _ _ (omega arith) f
   vacated-fits false e l f = f
 
-  cells-fit : (clears : Bool) (m : Movement) (e : Site) (l : List ℕ) → MovementFits m → AllFit l → AllFit (cellsAfter c clears m e l)
+  cells-in-range : (clears : Bool) (m : Movement) (e : Site) (l : List ℕ) → MovementFits m → AllFit l → AllFit (cellsAfter c clears m e l)
   unfolding cellsAfter MovementFits
-  cells-fit clears Stays e l h f = f
-  cells-fit clears (Enters z) e l h f = set-fits l _ _ h f
-  cells-fit clears (Moves z) e l h f = set-fits _ _ _ h (vacated-fits clears e l f)
-  cells-fit clears Leaves e l h f = vacated-fits clears e l f
+  cells-in-range clears Stays e l h f = f
+  cells-in-range clears (Enters z) e l h f = set-fits l _ _ h f
+  cells-in-range clears (Moves z) e l h f = set-fits _ _ _ h (vacated-fits clears e l f)
+  cells-in-range clears Leaves e l h f = vacated-fits clears e l f
 
   module _ (v : Bool) (t : Track) (p : ℕ) where
     abbrev e : Site
@@ -164,7 +164,7 @@ module _ (c : Settings) (b : Bool) where
     in-range-kept k h r = record {
       seals = λ q q<n. set-keeps (λ (o : Post). o .seals ≤ mostSeals) (t .posts) p q (effect c (flat p k) e .own) blank (r .seals q q<n)
           (seals-fit k h (r .seals p (h .fits .below)));
-      trains = cells-fit true (effect c (flat p k) e .train) e (t .trains) (movement-fits k h) (r .trains);
-      last = cells-fit false (effect c (flat p k) e .train) e (t .last) (movement-fits k h) (r .last);
+      trains = cells-in-range true (effect c (flat p k) e .train) e (t .trains) (movement-fits k h) (r .trains);
+      last = cells-in-range false (effect c (flat p k) e .train) e (t .last) (movement-fits k h) (r .last);
       turn = turn-kept k h (r .turn);
     }

@@ -20,7 +20,7 @@ use Rattle.section.specs.Geometry.{upward, rank}
 use Rattle.section.specs.Numbers.{leastPosts, mostPosts, mostBlocks, mostSeals, largestTrain}
 use Rattle.section.specs.Post.{blank, permitted}
 use Rattle.section.specs.Range.{inRange}
-use Rattle.section.specs.Settings.{settingsRight}
+use Rattle.section.specs.Settings.{settingsInRange}
 use Rattle.section.specs.Store.{trackOf}
 use Rattle.section.proofs.Laws.{posts-right, set-keeps}
 use Rattle.rules.specs.Site.{settledOnVns, otherSettledOnVns, occupancyAt}
@@ -150,11 +150,11 @@ module _ (c : Settings) where
 
   -- ## Judging
 
-  pub reached-in-range : settingsRight c ≡ true → (s : Section) → Reached s → inRange s ≡ true
+  pub reached-in-range : settingsInRange c ≡ true → (s : Section) → Reached s → inRange s ≡ true
   reached-in-range w s r =
       section-out s (record { settings = rw (r .settings) w; tracks = rw (r .settings) (λ b. r .sound b .ranges) })
 
-  pub reached-judge : settingsRight c ≡ true → (s : Section) (bytes : List ℕ) → Reached s → Reached (judge s bytes .section)
+  pub reached-judge : settingsInRange c ≡ true → (s : Section) (bytes : List ℕ) → Reached s → Reached (judge s bytes .section)
   reached-judge w s bytes r = go (judged c s (r .settings) (reached-in-range w s r) bytes)
     where
       go : Judged c s (r .settings) (reached-in-range w s r) bytes → Reached (judge s bytes .section)

@@ -8,10 +8,10 @@ use lib.Dec.{T, eqb, leb→le}
 use Rattle.section.specs.declared.Step.{Step}
 use Rattle.section.specs.declared.TrackStep.{TrackStep}
 use Rattle.section.specs.declared.Decoded.the-variants.{Well}
-use Rattle.section.specs.Bytes.{byte, pair, within}
+use Rattle.section.specs.Bytes.{byte, le16, within}
 use Rattle.section.specs.Numbers.{largestTrain}
-use Rattle.section.specs.Step.{decoded, numberRight, kindOf, postOf, numberOf}
-use Rattle.section.proofs.Codec.{decoded-track, decoded-kind, decoded-post, decoded-number, decoded-post-below, decoded-number-right}
+use Rattle.section.specs.Step.{decoded, numberWellFormed, kindOf, postOf, numberOf}
+use Rattle.section.proofs.Codec.{decoded-track, decoded-kind, decoded-post, decoded-number, decoded-post-below, decoded-number-well-formed}
 use Rattle.rules.proofs.Facts.{true-T, within→}
 use Rattle.rules.proofs.View.{start, pass, leave, View, walks, runs, notes, releases, flat, view, flat-view}
 
@@ -27,8 +27,8 @@ pub record Fits (n p : ℕ) (k : View) : Type 0 where
   pub below : p < n
   pub number : NumberFits k
 
-number-fits : (p : ℕ) (k : View) → T (numberRight (kindOf (flat p k)) (numberOf (flat p k))) → NumberFits k
-unfolding numberRight within kindOf numberOf flat
+number-fits : (p : ℕ) (k : View) → T (numberWellFormed (kindOf (flat p k)) (numberOf (flat p k))) → NumberFits k
+unfolding numberWellFormed within kindOf numberOf flat
 number-fits p (walks r) h = tt
 number-fits p (runs start z) h = within→ 1 largestTrain z h
 number-fits p (runs pass z) h = within→ 1 largestTrain z h
@@ -48,7 +48,7 @@ pub record HasFields (n kind post number : ℕ) (x : Step) : Type 0 where
 pub record Says (n : ℕ) (bytes : List ℕ) (x : TrackStep) : Type 0 where
   pub decodes : decoded n bytes ≡ Well x
   pub track-is : x .track ≡ eqb (byte bytes 1) 1
-  pub fields : HasFields n (byte bytes 0) (byte bytes 2) (pair (byte bytes 4) (byte bytes 5)) (x .step)
+  pub fields : HasFields n (byte bytes 0) (byte bytes 2) (le16 (byte bytes 4) (byte bytes 5)) (x .step)
 
 pub decoded-says : (n : ℕ) (bytes : List ℕ) (x : TrackStep) → decoded n bytes ≡ Well x → Says n bytes x
 decoded-says n bytes x e = record {
@@ -57,7 +57,7 @@ decoded-says n bytes x e = record {
   fields = record {
     fits = record {
       below = decoded-post-below n bytes x e;
-      number = number-fits (postOf (x .step)) (view (x .step)) (rw (flat-view (x .step)) (true-T _ (decoded-number-right n bytes x e)));
+      number = number-fits (postOf (x .step)) (view (x .step)) (rw (flat-view (x .step)) (true-T _ (decoded-number-well-formed n bytes x e)));
     };
     post-is = decoded-post n bytes x e;
     kind-is = decoded-kind n bytes x e;

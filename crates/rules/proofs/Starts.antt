@@ -5,6 +5,7 @@ use mathlib.Core.Bool.{Bool, true, false, not}
 use mathlib.Core.Path.{_≡_, refl, sym, ap, _∙_, subst}
 use native.Mathlib.Omega.{arith}
 use lib.Dec.{T}
+use Rattle.section.specs.Numbers.{startKind}
 use Rattle.section.specs.declared.Settings.{Settings}
 use Rattle.section.specs.declared.Said.{Said}
 use Rattle.section.specs.declared.Verdict.{Verdict}
@@ -14,7 +15,7 @@ use Rattle.section.specs.declared.Walk.the-variants.{Settled, Turn}
 use Rattle.section.specs.declared.Track.{Track}
 use Rattle.section.specs.declared.Section.{Section}
 use Rattle.section.specs.Geometry.{upward, rank}
-use Rattle.section.specs.Settings.{settingsRight}
+use Rattle.section.specs.Settings.{settingsInRange}
 use Rattle.section.specs.Step.{kindOf}
 use Rattle.section.specs.Store.{trackOf}
 use Rattle.section.proofs.Laws.{rank-rank, rank-inj}
@@ -35,7 +36,7 @@ use Rattle.rules.proofs.Reached.{Reached, reached-in-range}
 
 module _ (c : Settings) where
   -- a step of kind 5 is a start
-  start-first : (v b : Bool) (p : ℕ) (k : View) (t : Track) → kindOf (flat p k) ≡ 5 → AcceptedOn c v b p k t
+  start-first : (v b : Bool) (p : ℕ) (k : View) (t : Track) → kindOf (flat p k) ≡ startKind → AcceptedOn c v b p k t
       → (rankOn c b (t .cvt) p ≡ 0) × T (isSettled (t .walk))
   unfolding checks flat kindOf
   start-first v b p (walks order) t e h = absurd (omega arith)
@@ -58,13 +59,13 @@ module _ (c : Settings) where
   not-refused : (v : Verdict) (w : Said) (k : ℕ) → v ≡ Accepted w → v ≡ Refused k → ⊥
   not-refused v w k e f = let z : _≡_ {A = ℕ} 0 1 = cc in omega arith
 
-  start-sends : (s : Section) (d : AcceptedStep) (x : Seen) → kind d ≡ 5 → Says (c .posts) (d .bytes) (shown x) → AcceptedIn c s x → Sends s (track d) (post d)
+  start-sends : (s : Section) (d : AcceptedStep) (x : Seen) → kind d ≡ startKind → Says (c .posts) (d .bytes) (shown x) → AcceptedIn c s x → Sends s (track d) (post d)
   unfolding AcceptedIn
   start-sends s d x e h ok =
       subst (λ b. Sends s b (post d)) (h .track-is) (subst (Sends s (x .track)) (sym (post-flat (x .post) (x .kind)) ∙ h .fields .post-is)
       (ok .fits .below, start-first (otherSettledOnVns s (x .track)) (x .track) (x .post) (x .kind) (trackOf s (x .track)) (h .fields .kind-is ∙ e) ok))
 
-  may-start-sends : settingsRight c ≡ true → (s : Section) (b : Bool) (p : ℕ) → Reached c s → MayStart c s b p → Sends s b p
+  may-start-sends : settingsInRange c ≡ true → (s : Section) (b : Bool) (p : ℕ) → Reached c s → MayStart c s b p → Sends s b p
   may-start-sends right s b p r (permission p<n h) = (p<n, go (trackOf s b .walk) (r .sound b .permits p p<n h))
     where
       go : (w : Walk) → MayHold c b w (rankOn c b (trackOf s b .cvt) p) → (rankOn c b (trackOf s b .cvt) p ≡ 0) × T (isSettled w)
@@ -77,14 +78,14 @@ module _ (c : Settings) where
       go (refused k e) = absurd (not-refused (judge s (d .bytes) .verdict) (d .said) k ev (ap (λ a. a .verdict) e))
       go (accepted x q ok e) = start-sends s d x ek (decoded-says (c .posts) (d .bytes) (shown x) q) ok
 
-  pub one-starter : settingsRight c ≡ true → (s : Section) (b : Bool) → Reached c s → (p q : ℕ) → MayStart c s b p → MayStart c s b q → p ≡ q
+  pub one-starter : settingsInRange c ≡ true → (s : Section) (b : Bool) → Reached c s → (p q : ℕ) → MayStart c s b p → MayStart c s b q → p ≡ q
   one-starter right s b r p q f g =
       let a = may-start-sends right s b p r f in
       let d = may-start-sends right s b q r g in
       rank-inj (c .posts) (upward b (trackOf s b .cvt)) p q (a .0) (d .0) (a .1 .0 ∙ sym (d .1 .0))
 
   -- the sending end, on a settled track
-  pub starter : settingsRight c ≡ true → (s : Section) (b : Bool) → Reached c s → (p : ℕ) → MayStart c s b p
+  pub starter : settingsInRange c ≡ true → (s : Section) (b : Bool) → Reached c s → (p : ℕ) → MayStart c s b p
       → {under : Bool} → under ≡ not (isSettled (trackOf s b .walk)) → (p ≡ sendingEnd c b (trackOf s b)) × (under ≡ false)
   starter right s b r p f agrees =
       let a = may-start-sends right s b p r f in (

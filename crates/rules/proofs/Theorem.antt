@@ -7,7 +7,7 @@ use mathlib.Core.List.{List, []}
 use Rattle.section.specs.declared.Settings.{Settings}
 use Rattle.section.specs.declared.Section.{Section}
 use Rattle.section.specs.Fresh.{freshSection}
-use Rattle.section.specs.Settings.{settingsRight}
+use Rattle.section.specs.Settings.{settingsInRange}
 use Rattle.section.specs.Store.{trackOf}
 use Rattle.rules.specs.Judge.{judge}
 use Rattle.rules.specs.Site.{isSettled}
@@ -24,7 +24,7 @@ use Rattle.rules.proofs.Perform.{performed-performs}
 use Rattle.rules.proofs.Sort.{progress, Sorted, sorted}
 use Rattle.rules.proofs.Starts.{one-starter, starter}
 
-module _ (c : Settings) (right : settingsRight c ≡ true) where
+module _ (c : Settings) (right : settingsInRange c ≡ true) where
   pub reached-throughout : (offered : List (List ℕ)) → Reached c (stateAfter (freshSection c) offered)
   reached-throughout offered = all-kept c right offered .reached
 
@@ -71,7 +71,7 @@ module _ (c : Settings) (right : settingsRight c ≡ true) where
         go false e = sym e
 
 -- For well-formed settings and every list of byte strings offered singly from fresh, refused and malformed ones included.
-pub demand3 : (c : Settings) → settingsRight c ≡ true → (offered : List (List ℕ)) → Demand3 c offered
+pub demand3 : (c : Settings) → settingsInRange c ≡ true → (offered : List (List ℕ)) → Demand3 c offered
 unfolding Demand3
 demand3 c right offered = record {
   tracks = on-track c right offered;
@@ -79,7 +79,7 @@ demand3 c right offered = record {
 }
 
 -- The new order that `demand3` gives. Unfolded, it computes on a day, where judging is unfolded too.
-unfoldable pub newOrder : (c : Settings) → settingsRight c ≡ true → (offered : List (List ℕ))
+unfoldable pub newOrder : (c : Settings) → settingsInRange c ≡ true → (offered : List (List ℕ))
     → ((b : Bool) → underWay (c .posts) b (acceptedSteps (freshSection c) offered) ≡ false) → List AcceptedStep
 unfolding Demand3 demand3 new-order all-kept sorted view flat saidIn sectionAfterStep
 newOrder c right offered ended = demand3 c right offered .reordered ended .order

@@ -7,6 +7,7 @@ use mathlib.Core.List.{List, [], _∷_, _++_}
 use mathlib.Core.Option.{Option, none, some}
 use native.Mathlib.Omega.{arith}
 use lib.Dec.{T, eqb}
+use Rattle.section.specs.Numbers.{orderKind, setKind, keyKind}
 use Rattle.section.specs.declared.Settings.{Settings}
 use Rattle.section.specs.declared.Act.{Act}
 use Rattle.section.specs.declared.Act.the-variants as act
@@ -60,7 +61,7 @@ reversal-append n r (d ∷ a) b = reversal-append n (noteReversal n d r) a b
 
 -- a step's kind and post, noted
 abbrev noteAt : ℕ → ℕ → ℕ → Option ℕ → Option ℕ
-noteAt n k p r = cond (eqb k 1) (some (otherEnd n p)) (cond (eqb k 2 || eqb k 13) (endsAt p r) r)
+noteAt n k p r = cond (eqb k orderKind) (some (otherEnd n p)) (cond (eqb k setKind || eqb k keyKind) (endsAt p r) r)
 
 module _ (c : Settings) where
   -- the last post of the reversal that runs by the walk

@@ -11,7 +11,7 @@ use Rattle.section.specs.declared.Walk.the-variants.{Turn}
 use Rattle.section.specs.declared.Track.{Track}
 use Rattle.section.specs.Fresh.{freshSection}
 use Rattle.section.specs.Geometry.{upward}
-use Rattle.section.specs.Settings.{settingsRight}
+use Rattle.section.specs.Settings.{settingsInRange}
 use Rattle.section.specs.Store.{trackOf}
 use Rattle.section.proofs.Laws.{rank-lt}
 use Rattle.rules.specs.Demand3.{stateAfter}
@@ -34,6 +34,6 @@ free-to-announce c b t s = record {
       (omega (arith, fits .1, rank-lt (c .posts) (upward b (t .cvt)) p (fits .0)));
 }
 
-pub voie-occupee-never-said : (c : Settings) → settingsRight c ≡ true → (offered : List (List ℕ)) → VoieOccupeeNeverSaid c offered
+pub voie-occupee-never-said : (c : Settings) → settingsInRange c ≡ true → (offered : List (List ℕ)) → VoieOccupeeNeverSaid c offered
 voie-occupee-never-said c right offered b =
     free-to-announce c b (trackOf (stateAfter (freshSection c) offered) b) (reached-throughout c right offered .sound b)

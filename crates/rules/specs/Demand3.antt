@@ -15,7 +15,7 @@ use Rattle.section.specs.declared.Verdict.{Verdict}
 use Rattle.section.specs.declared.Verdict.the-variants.{Accepted, Refused}
 use Rattle.section.specs.declared.Track.{Track}
 use Rattle.section.specs.declared.Section.{Section}
-use Rattle.section.specs.Bytes.{byte, pair}
+use Rattle.section.specs.Bytes.{byte, le16}
 use Rattle.section.specs.Fresh.{freshSection}
 use Rattle.section.specs.Geometry.{upward, rank}
 use Rattle.section.specs.Numbers.{orderKind, setKind, startKind, passKind, keyKind}
@@ -57,7 +57,7 @@ abbrev pub post : AcceptedStep → ℕ
 post d = byte (d .bytes) 2
 
 abbrev pub number : AcceptedStep → ℕ
-number d = pair (byte (d .bytes) 4) (byte (d .bytes) 5)
+number d = le16 (byte (d .bytes) 4) (byte (d .bytes) 5)
 
 -- on one track
 abbrev pub isOnTrack : Bool → AcceptedStep → Bool

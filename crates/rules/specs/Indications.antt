@@ -55,7 +55,7 @@ shown l = record { circulation = circulation l; troncon = troncon l; permission 
 unfoldable pub lampsAt : Settings → Site → List ℕ → Lamps
 lampsAt c e trains = record {
   materialised = isMaterialised c;
-  cvt = e .own .cvt;
+  cvt = e .own .device;
   nextToSet = isNextToSet (setCount (c .posts) (upAt c e) (e .walk)) (rankAt c e);
   fault1 = e .own .faults .one;
   fault3 = e .own .faults .three;

@@ -14,7 +14,7 @@ use Rattle.section.specs.declared.Track.{Track}
 use Rattle.section.specs.declared.Section.{Section}
 use Rattle.rules.specs.declared.Site.{Site}
 use Rattle.section.specs.Geometry.{upward, rank, block, isFirst, isLast}
-use Rattle.section.specs.Settings.{bit}
+use Rattle.section.specs.Settings.{isSignalled}
 use Rattle.section.specs.Store.{trackOf, postOn}
 
 -- ## The walk of a reversal
@@ -117,7 +117,7 @@ module _ (c : Settings) where
   -- a stretch ends, and the next begins, at the post of rank j: "for VNS, one block section. For CVT it reaches from one signalled post
   -- to the next (art. 903)."
   unfoldable pub stretchEnds : Bool → Bool → ℕ → Bool
-  stretchEnds track cvt j = not cvt || bit (c .mask) (rank (c .posts) (upward track cvt) j)
+  stretchEnds track cvt j = not cvt || isSignalled (c .mask) (rank (c .posts) (upward track cvt) j)
 
   -- the train in the block section that follows the post of rank j
   abbrev pub trainAt : Bool → Bool → List ℕ → ℕ → ℕ

@@ -87,7 +87,7 @@ module _ (c : Settings) where
       (not (atSendingEnd c e || atReceivingEnd c e) else 12) ∷ (eqb (g .trainBefore) number else 17) ∷ (not (passOccupied e g) else 13) ∷ []
   checks (Leave p number) e g = (atReceivingEnd c e else 12) ∷ (eqb (g .trainBefore) number else 17) ∷ []
   checks (MeasuresOn p) e g = (not (e .own .measures) else 21) ∷ []
-  checks (MeasuresOff p) e g = (e .own .measures else 21) ∷ (not (e .own .cvt) else 16) ∷ []
+  checks (MeasuresOff p) e g = (e .own .measures else 21) ∷ (not (e .own .device) else 16) ∷ []
   checks (FaultOn p f) e g = (not (hasFault f (e .own)) else 21) ∷ []
   checks (FaultOff p f) e g = (hasFault f (e .own) else 21) ∷ []
   checks (Release p number) e g =

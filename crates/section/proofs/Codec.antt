@@ -12,41 +12,42 @@ use borrow.Author.Tests.{lt-ltb, ltb-true}
 use Rattle.section.specs.declared.Step.{Step}
 use Rattle.section.specs.declared.TrackStep.{TrackStep}
 use Rattle.section.specs.declared.Decoded.the-variants.{Well, Malformed}
-use Rattle.section.specs.Bytes.{byte, pair, AllBytes}
+use Rattle.section.specs.Bytes.{byte, le16, AllBytes}
 use Rattle.section.specs.Numbers.{stepLength}
 use Rattle.section.specs.RoundTrip.{DecodesWhatIsEncoded, EncodesInEightBytes, EncodesWhatIsDecoded, DecodesOnlyWhatFits}
-use Rattle.section.specs.Step.{Fields, fieldsIn, numberRight, placeRight, fieldsRight, wellFormed, stepSaid, decoded}
-use Rattle.section.specs.Step.{fieldsOf, kindOf, postOf, numberOf, trackNumber, bytesOf, encoded, stepFits}
+use Rattle.section.specs.Step.{Fields, fieldsIn, numberWellFormed, placeWellFormed, fieldsWellFormed, wellFormed, stepSaid, decoded}
+use Rattle.section.specs.Step.{fieldsOf, kindOf, postOf, numberOf, trackNumber, bytesOf, encoded, stepInRange}
 use Rattle.section.proofs.Laws.{and-left, and-right}
-use Rattle.section.proofs.StepLaws.{malformed, well-said, well-length, well-fields, WellFormed, well-formed-fields, below, fields-back, own, track-within, track-same}
-use Rattle.section.proofs.StepLaws.{track-back, low-back, high-back, zero-low, zero-high, pair-back, kind-small, fault-small, number-small, all-bytes}
+use Rattle.section.proofs.StepLaws.{malformed, well-said, well-length, well-fields, WellFormed, well-formed-fields, below, fields-back, own}
+use Rattle.section.proofs.StepLaws.{track-within, track-same}
+use Rattle.section.proofs.StepLaws.{track-back, low-back, high-back, zero-low, zero-high, le16-back, kind-small, fault-small, number-small, all-bytes}
 
 -- ## From a step to its bytes and back
 
-module _ (n : ℕ) (x : Step) (h : stepFits n x ≡ true) where
+module _ (n : ℕ) (x : Step) (h : stepInRange n x ≡ true) where
   own-post : ltb (fieldsOf x .post) n ≡ true
-  unfolding stepFits postOf
-  own-post = and-left (ltb (postOf x) n) (numberRight (kindOf x) (numberOf x)) h
+  unfolding stepInRange postOf
+  own-post = and-left (ltb (postOf x) n) (numberWellFormed (kindOf x) (numberOf x)) h
 
-  own-number : numberRight (fieldsOf x .kind) (fieldsOf x .number) ≡ true
-  unfolding stepFits kindOf numberOf
-  own-number = and-right (ltb (postOf x) n) (numberRight (kindOf x) (numberOf x)) h
+  own-number : numberWellFormed (fieldsOf x .kind) (fieldsOf x .number) ≡ true
+  unfolding stepInRange kindOf numberOf
+  own-number = and-right (ltb (postOf x) n) (numberWellFormed (kindOf x) (numberOf x)) h
 
-  own-fit : (b : Bool) → fieldsRight n (trackNumber b) (fieldsOf x) 0 ≡ true
-  unfolding fieldsRight placeRight
-  own-fit b = rw (own x .kind-well-formed, track-within b, own-post, own x .fault-right, own-number)
+  own-fit : (b : Bool) → fieldsWellFormed n (trackNumber b) (fieldsOf x) 0 ≡ true
+  unfolding fieldsWellFormed placeWellFormed
+  own-fit b = rw (own x .kind-well-formed, track-within b, own-post, own x .fault-well-formed, own-number)
 
-no-pair : pair 0 0 ≡ 0
-unfolding pair
-no-pair = refl
+le16-zero : le16 0 0 ≡ 0
+unfolding le16
+le16-zero = refl
 
 same-step : (x : TrackStep) → stepSaid (encoded x) ≡ x
 unfolding stepSaid encoded bytesOf
-same-step x = rw (track-same (x .track), pair-back (fieldsOf (x .step) .number), own (x .step) .same)
+same-step x = rw (track-same (x .track), le16-back (fieldsOf (x .step) .number), own (x .step) .same)
 
-encoded-well : (n : ℕ) (x : TrackStep) → stepFits n (x .step) ≡ true → wellFormed n (encoded x) ≡ true
+encoded-well : (n : ℕ) (x : TrackStep) → stepInRange n (x .step) ≡ true → wellFormed n (encoded x) ≡ true
 unfolding wellFormed encoded bytesOf
-encoded-well n x h = rw (pair-back (fieldsOf (x .step) .number), no-pair) (own-fit n (x .step) h (x .track))
+encoded-well n x h = rw (le16-back (fieldsOf (x .step) .number), le16-zero) (own-fit n (x .step) h (x .track))
 
 pub decodes-what-is-encoded : DecodesWhatIsEncoded
 decodes-what-is-encoded n x h = well-said n (encoded x) (encoded-well n x h) ∙ ap Well (same-step x)
@@ -58,7 +59,7 @@ encodes-in-eight-bytes n x m h =
     let kind = kind-small (f .kind) (own (x .step) .kind-well-formed) in
     let track = ltb-true (trackNumber (x .track)) 2 (track-within (x .track)) in
     let post = ltb-true (f .post) n (own-post n (x .step) h) in
-    let fault = fault-small (f .kind) (f .fault) (own (x .step) .fault-right) in
+    let fault = fault-small (f .kind) (f .fault) (own (x .step) .fault-well-formed) in
     let number = number-small (f .kind) (f .number) (own-number n (x .step) h) in (
       refl,
       all-bytes (encoded x)
@@ -78,8 +79,8 @@ module _ (n : ℕ) (s : List ℕ) (x : TrackStep) (d : decoded n s ≡ Well x) w
   is-said : x ≡ stepSaid s
   is-said = cc (d, well-said n s well)
 
-  tests : WellFormed n (byte s 1) (fieldsIn s) (pair (byte s 6) (byte s 7))
-  tests = well-formed-fields n (byte s 1) (fieldsIn s) (pair (byte s 6) (byte s 7)) (well-fields n s well)
+  tests : WellFormed n (byte s 1) (fieldsIn s) (le16 (byte s 6) (byte s 7))
+  tests = well-formed-fields n (byte s 1) (fieldsIn s) (le16 (byte s 6) (byte s 7)) (well-fields n s well)
 
   pub decoded-length : length s ≡ stepLength
   decoded-length = well-length n s well
@@ -91,7 +92,7 @@ module _ (n : ℕ) (s : List ℕ) (x : TrackStep) (d : decoded n s ≡ Well x) w
   -- the fields, read off the bytes
   pub decoded-fields : fieldsOf (x .step) ≡ fieldsIn s
   unfolding stepSaid
-  decoded-fields = rw is-said (fields-back (fieldsIn s) (tests .kind-well-formed) (tests .fault-right) (tests .number-right))
+  decoded-fields = rw is-said (fields-back (fieldsIn s) (tests .kind-well-formed) (tests .fault-well-formed) (tests .number-well-formed))
 
   pub decoded-kind : kindOf (x .step) ≡ byte s 0
   unfolding kindOf
@@ -101,7 +102,7 @@ module _ (n : ℕ) (s : List ℕ) (x : TrackStep) (d : decoded n s ≡ Well x) w
   unfolding postOf
   decoded-post = ap (λ (f : Fields). f .post) decoded-fields
 
-  pub decoded-number : numberOf (x .step) ≡ pair (byte s 4) (byte s 5)
+  pub decoded-number : numberOf (x .step) ≡ le16 (byte s 4) (byte s 5)
   unfolding numberOf
   decoded-number = ap (λ (f : Fields). f .number) decoded-fields
 
@@ -109,12 +110,12 @@ module _ (n : ℕ) (s : List ℕ) (x : TrackStep) (d : decoded n s ≡ Well x) w
   pub decoded-post-below : postOf (x .step) < n
   decoded-post-below = rw decoded-post (tests .post-below)
 
-  pub decoded-number-right : numberRight (kindOf (x .step)) (numberOf (x .step)) ≡ true
-  decoded-number-right = rw (decoded-kind, decoded-number) (tests .number-right)
+  pub decoded-number-well-formed : numberWellFormed (kindOf (x .step)) (numberOf (x .step)) ≡ true
+  decoded-number-well-formed = rw (decoded-kind, decoded-number) (tests .number-well-formed)
 
-  decoded-fits : stepFits n (x .step) ≡ true
-  unfolding stepFits
-  decoded-fits = rw (lt-ltb _ _ decoded-post-below) decoded-number-right
+  decoded-fits : stepInRange n (x .step) ≡ true
+  unfolding stepInRange
+  decoded-fits = rw (lt-ltb _ _ decoded-post-below) decoded-number-well-formed
 
   encoded-decoded : AllBytes s → encoded x ≡ s
   unfolding encoded bytesOf

@@ -14,10 +14,10 @@ use Rattle.section.specs.declared.Step.{Step}
 use Rattle.section.specs.declared.Step.the-variants.{Order, Set, Announce, Acknowledge, Start, Pass, Leave}
 use Rattle.section.specs.declared.Step.the-variants.{MeasuresOn, MeasuresOff, FaultOn, FaultOff, Release, Key}
 use Rattle.section.specs.declared.Decoded.the-variants.{Well, Malformed}
-use Rattle.section.specs.Bytes.{byte, pair, within, AllBytes}
+use Rattle.section.specs.Bytes.{byte, le16, within, AllBytes}
 use Rattle.section.specs.Numbers.{largestTrain, stepLength, lastFault, lastKind, releaseKind}
 use Rattle.section.specs.Step.{isKind, isTrainKind, isFaultKind, isFault, isTrain}
-use Rattle.section.specs.Step.{Fields, fields, fieldsIn, faultRight, numberRight, placeRight, fieldsRight, wellFormed}
+use Rattle.section.specs.Step.{Fields, fields, fieldsIn, faultWellFormed, numberWellFormed, placeWellFormed, fieldsWellFormed, wellFormed}
 use Rattle.section.specs.Step.{faultOf, stepOf, stepSaid, decoded, faultNumber, fieldsOf, trackNumber}
 use Rattle.section.proofs.Laws.{and-left, and-right}
 
@@ -36,28 +36,28 @@ module _ (n : ℕ) (s : List ℕ) (e : wellFormed n s ≡ true) where
   unfolding wellFormed
   well-length =
       eqb-true (length s) stepLength
-      (and-left (eqb (length s) stepLength) (fieldsRight n (byte s 1) (fieldsIn s) (pair (byte s 6) (byte s 7))) e)
+      (and-left (eqb (length s) stepLength) (fieldsWellFormed n (byte s 1) (fieldsIn s) (le16 (byte s 6) (byte s 7))) e)
 
-  pub well-fields : fieldsRight n (byte s 1) (fieldsIn s) (pair (byte s 6) (byte s 7)) ≡ true
+  pub well-fields : fieldsWellFormed n (byte s 1) (fieldsIn s) (le16 (byte s 6) (byte s 7)) ≡ true
   unfolding wellFormed
-  well-fields = and-right (eqb (length s) stepLength) (fieldsRight n (byte s 1) (fieldsIn s) (pair (byte s 6) (byte s 7))) e
+  well-fields = and-right (eqb (length s) stepLength) (fieldsWellFormed n (byte s 1) (fieldsIn s) (le16 (byte s 6) (byte s 7))) e
 
 -- what the tests of the fields ask
 pub record WellFormed (n track : ℕ) (f : Fields) (zeros : ℕ) : Type 0 where
   pub kind-well-formed : isKind (f .kind) ≡ true
   pub track-below : track < 2
   pub post-below : f .post < n
-  pub fault-right : faultRight (f .kind) (f .fault) ≡ true
-  pub number-right : numberRight (f .kind) (f .number) ≡ true
+  pub fault-well-formed : faultWellFormed (f .kind) (f .fault) ≡ true
+  pub number-well-formed : numberWellFormed (f .kind) (f .number) ≡ true
   pub zeros-none : zeros ≡ 0
 
-pub well-formed-fields : (n track : ℕ) (f : Fields) (zeros : ℕ) → fieldsRight n track f zeros ≡ true → WellFormed n track f zeros
-unfolding fieldsRight placeRight
+pub well-formed-fields : (n track : ℕ) (f : Fields) (zeros : ℕ) → fieldsWellFormed n track f zeros ≡ true → WellFormed n track f zeros
+unfolding fieldsWellFormed placeWellFormed
 well-formed-fields n track f zeros e =
     let kind = isKind (f .kind) in
     let spot = ltb track 2 && ltb (f .post) n in
-    let fault = faultRight (f .kind) (f .fault) in
-    let number = numberRight (f .kind) (f .number) in
+    let fault = faultWellFormed (f .kind) (f .fault) in
+    let number = numberWellFormed (f .kind) (f .number) in
     let place = and-left (kind && spot) (fault && (number && eqb zeros 0)) e in
     let rest = and-right (kind && spot) (fault && (number && eqb zeros 0)) e in
     let last = and-right fault (number && eqb zeros 0) rest in
@@ -65,8 +65,8 @@ well-formed-fields n track f zeros e =
       kind-well-formed = and-left kind spot place;
       track-below = ltb-true track 2 (and-left (ltb track 2) (ltb (f .post) n) (and-right kind spot place));
       post-below = ltb-true (f .post) n (and-right (ltb track 2) (ltb (f .post) n) (and-right kind spot place));
-      fault-right = and-left fault (number && eqb zeros 0) rest;
-      number-right = and-left number (eqb zeros 0) last;
+      fault-well-formed = and-left fault (number && eqb zeros 0) rest;
+      number-well-formed = and-left number (eqb zeros 0) last;
       zeros-none = eqb-true zeros 0 (and-right number (eqb zeros 0) last);
     }
 
@@ -107,14 +107,14 @@ module _ (p f z : ℕ) where
   faulted : {k : ℕ} → isFault f ≡ true → eqb z 0 ≡ true → fields k p (faultNumber (faultOf f)) 0 ≡ fields k p f z
   faulted h no-number = rw (fault-back f h, eqb-true z 0 no-number)
 
-  fields-again : (k : ℕ) → isKind k ≡ true → faultRight k f ≡ true → numberRight k z ≡ true → fieldsOf (stepOf (fields k p f z)) ≡ fields k p f z
-  unfolding stepOf faultRight numberRight within
+  fields-again : (k : ℕ) → isKind k ≡ true → faultWellFormed k f ≡ true → numberWellFormed k z ≡ true → fieldsOf (stepOf (fields k p f z)) ≡ fields k p f z
+  unfolding stepOf faultWellFormed numberWellFormed within
   fields-again k w =
-      from-one (λ (k : ℕ). faultRight k f ≡ true → numberRight k z ≡ true → fieldsOf (stepOf (fields k p f z)) ≡ fields k p f z) lastKind
+      from-one (λ (k : ℕ). faultWellFormed k f ≡ true → numberWellFormed k z ≡ true → fieldsOf (stepOf (fields k p f z)) ≡ fields k p f z) lastKind
       (plain, (plain, (plain, (plain, (numbered, (numbered, (numbered, (plain, (plain, (faulted, (faulted, (numbered, (plain, tt))))))))))))) k w
 
 pub fields-back :
-    (f : Fields) → isKind (f .kind) ≡ true → faultRight (f .kind) (f .fault) ≡ true → numberRight (f .kind) (f .number) ≡ true →
+    (f : Fields) → isKind (f .kind) ≡ true → faultWellFormed (f .kind) (f .fault) ≡ true → numberWellFormed (f .kind) (f .number) ≡ true →
     fieldsOf (stepOf f) ≡ f
 fields-back f w = fields-again (f .post) (f .fault) (f .number) (f .kind) w
 
@@ -136,23 +136,23 @@ fault-same Three = refl
 pub record Own (x : Step) : Type 0 where
   pub same : stepOf (fieldsOf x) ≡ x
   pub kind-well-formed : isKind (fieldsOf x .kind) ≡ true
-  pub fault-right : faultRight (fieldsOf x .kind) (fieldsOf x .fault) ≡ true
+  pub fault-well-formed : faultWellFormed (fieldsOf x .kind) (fieldsOf x .fault) ≡ true
 
 pub own : (x : Step) → Own x
-unfolding stepOf faultRight within
-own (Order p) = record { same = refl; kind-well-formed = refl; fault-right = refl }
-own (Set p) = record { same = refl; kind-well-formed = refl; fault-right = refl }
-own (Announce p) = record { same = refl; kind-well-formed = refl; fault-right = refl }
-own (Acknowledge p) = record { same = refl; kind-well-formed = refl; fault-right = refl }
-own (Start p z) = record { same = refl; kind-well-formed = refl; fault-right = refl }
-own (Pass p z) = record { same = refl; kind-well-formed = refl; fault-right = refl }
-own (Leave p z) = record { same = refl; kind-well-formed = refl; fault-right = refl }
-own (MeasuresOn p) = record { same = refl; kind-well-formed = refl; fault-right = refl }
-own (MeasuresOff p) = record { same = refl; kind-well-formed = refl; fault-right = refl }
-own (FaultOn p f) = record { same = ap (FaultOn p) (fault-same f); kind-well-formed = refl; fault-right = fault-within f }
-own (FaultOff p f) = record { same = ap (FaultOff p) (fault-same f); kind-well-formed = refl; fault-right = fault-within f }
-own (Release p z) = record { same = refl; kind-well-formed = refl; fault-right = refl }
-own (Key p) = record { same = refl; kind-well-formed = refl; fault-right = refl }
+unfolding stepOf faultWellFormed within
+own (Order p) = record { same = refl; kind-well-formed = refl; fault-well-formed = refl }
+own (Set p) = record { same = refl; kind-well-formed = refl; fault-well-formed = refl }
+own (Announce p) = record { same = refl; kind-well-formed = refl; fault-well-formed = refl }
+own (Acknowledge p) = record { same = refl; kind-well-formed = refl; fault-well-formed = refl }
+own (Start p z) = record { same = refl; kind-well-formed = refl; fault-well-formed = refl }
+own (Pass p z) = record { same = refl; kind-well-formed = refl; fault-well-formed = refl }
+own (Leave p z) = record { same = refl; kind-well-formed = refl; fault-well-formed = refl }
+own (MeasuresOn p) = record { same = refl; kind-well-formed = refl; fault-well-formed = refl }
+own (MeasuresOff p) = record { same = refl; kind-well-formed = refl; fault-well-formed = refl }
+own (FaultOn p f) = record { same = ap (FaultOn p) (fault-same f); kind-well-formed = refl; fault-well-formed = fault-within f }
+own (FaultOff p f) = record { same = ap (FaultOff p) (fault-same f); kind-well-formed = refl; fault-well-formed = fault-within f }
+own (Release p z) = record { same = refl; kind-well-formed = refl; fault-well-formed = refl }
+own (Key p) = record { same = refl; kind-well-formed = refl; fault-well-formed = refl }
 
 pub track-within : (b : Bool) → ltb (trackNumber b) 2 ≡ true
 unfolding trackNumber
@@ -167,8 +167,8 @@ track-same false = refl
 -- ## Well-formed fields are small
 
 -- a well-formed number is none or a train's
-pub number-small : (kind number : ℕ) → numberRight kind number ≡ true → number ≤ largestTrain
-unfolding numberRight within
+pub number-small : (kind number : ℕ) → numberWellFormed kind number ≡ true → number ≤ largestTrain
+unfolding numberWellFormed within
 number-small kind number e = small (isTrainKind kind) (eqb kind releaseKind) e
   where
     small : (moves releases : Bool) →
@@ -182,8 +182,8 @@ pub kind-small : (kind : ℕ) → isKind kind ≡ true → kind ≤ lastKind
 unfolding within
 kind-small kind e = leb-true kind lastKind (and-right (leb 1 kind) (leb kind lastKind) e)
 
-pub fault-small : (kind fault : ℕ) → faultRight kind fault ≡ true → fault ≤ lastFault
-unfolding faultRight within
+pub fault-small : (kind fault : ℕ) → faultWellFormed kind fault ≡ true → fault ≤ lastFault
+unfolding faultWellFormed within
 fault-small kind fault e = small (isFaultKind kind) e
   where
     small : (faults : Bool) → cond faults (isFault fault) (eqb fault 0) ≡ true → fault ≤ lastFault
@@ -192,24 +192,24 @@ fault-small kind fault e = small (isFaultKind kind) e
 
 -- ## Two bytes and their number
 
-pub pair-back : (z : ℕ) → pair (z % 256) (z / 256) ≡ z
-unfolding pair
-pair-back z = omega arith
+pub le16-back : (z : ℕ) → le16 (z % 256) (z / 256) ≡ z
+unfolding le16
+le16-back z = omega arith
 
-pub low-back : (low high : ℕ) → low < 256 → pair low high % 256 ≡ low
-unfolding pair
+pub low-back : (low high : ℕ) → low < 256 → le16 low high % 256 ≡ low
+unfolding le16
 low-back low high h = omega arith
 
-pub high-back : (low high : ℕ) → low < 256 → pair low high / 256 ≡ high
-unfolding pair
+pub high-back : (low high : ℕ) → low < 256 → le16 low high / 256 ≡ high
+unfolding le16
 high-back low high h = omega arith
 
-pub zero-low : (low high : ℕ) → pair low high ≡ 0 → 0 ≡ low
-unfolding pair
+pub zero-low : (low high : ℕ) → le16 low high ≡ 0 → 0 ≡ low
+unfolding le16
 zero-low low high h = omega arith
 
-pub zero-high : (low high : ℕ) → pair low high ≡ 0 → 0 ≡ high
-unfolding pair
+pub zero-high : (low high : ℕ) → le16 low high ≡ 0 → 0 ≡ high
+unfolding le16
 zero-high low high h = omega arith
 
 -- ## Lists of bytes

@@ -12,7 +12,7 @@ noFaults = record { one = false; two = false; three = false }
 -- no permission, no measures, no fault, no mark, count 0, the device at VNS
 abbrev pub blank : Post
 blank = record {
-  cvt = false;
+  device = false;
   permission = false;
   measures = false;
   faults = noFaults;
@@ -23,7 +23,7 @@ blank = record {
 -- the device turned to a direction
 abbrev pub turned : Bool → Post → Post
 turned x o = record {
-  cvt = x;
+  device = x;
   permission = o .permission;
   measures = o .measures;
   faults = o .faults;
@@ -34,7 +34,7 @@ turned x o = record {
 -- start permission given or taken
 abbrev pub permitted : Bool → Post → Post
 permitted x o = record {
-  cvt = o .cvt;
+  device = o .device;
   permission = x;
   measures = o .measures;
   faults = o .faults;
@@ -45,7 +45,7 @@ permitted x o = record {
 -- measures in place or lifted
 abbrev pub measured : Bool → Post → Post
 measured x o = record {
-  cvt = o .cvt;
+  device = o .device;
   permission = o .permission;
   measures = x;
   faults = o .faults;
@@ -61,7 +61,7 @@ withFault Three x l = record { one = l .one; two = l .two; three = x }
 
 abbrev pub faulty : Fault → Bool → Post → Post
 faulty f x o = record {
-  cvt = o .cvt;
+  device = o .device;
   permission = o .permission;
   measures = o .measures;
   faults = withFault f x (o .faults);
@@ -72,7 +72,7 @@ faulty f x o = record {
 -- the release mark made or dropped
 abbrev pub marked : Bool → Post → Post
 marked x o = record {
-  cvt = o .cvt;
+  device = o .device;
   permission = o .permission;
   measures = o .measures;
   faults = o .faults;
@@ -83,7 +83,7 @@ marked x o = record {
 -- the seal count one more
 abbrev pub sealed : Post → Post
 sealed o = record {
-  cvt = o .cvt;
+  device = o .device;
   permission = o .permission;
   measures = o .measures;
   faults = o .faults;

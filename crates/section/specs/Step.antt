@@ -12,7 +12,7 @@ use Rattle.section.specs.declared.Step.the-variants.{MeasuresOn, Measure
 use Rattle.section.specs.declared.TrackStep.{TrackStep}
 use Rattle.section.specs.declared.Decoded.{Decoded}
 use Rattle.section.specs.declared.Decoded.the-variants.{Well, Malformed}
-use Rattle.section.specs.Bytes.{byte, pair, within}
+use Rattle.section.specs.Bytes.{byte, le16, within}
 use Rattle.section.specs.Numbers.{largestTrain, stepLength, lastFault, lastKind}
 use Rattle.section.specs.Numbers.{orderKind, setKind, announceKind, acknowledgeKind, startKind, passKind, leaveKind}
 use Rattle.section.specs.Numbers.{measuresOnKind, measuresOffKind, faultOnKind, faultOffKind, releaseKind, keyKind}
@@ -31,7 +31,7 @@ fields kind post fault number = record { kind = kind; post = post; fault = fault
 
 -- "byte 0 kind; byte 2 post; byte 3 fault; bytes 4–5 number"
 abbrev pub fieldsIn : List ℕ → Fields
-fieldsIn s = fields (byte s 0) (byte s 2) (byte s 3) (pair (byte s 4) (byte s 5))
+fieldsIn s = fields (byte s 0) (byte s 2) (byte s 3) (le16 (byte s 4) (byte s 5))
 
 -- ## The kinds
 
@@ -56,27 +56,27 @@ isTrain number = within 1 largestTrain number
 -- ## The tests
 
 -- "The fault is 1 to 3 in kinds 10 and 11, else zero."
-unfoldable pub faultRight : ℕ → ℕ → Bool
-faultRight kind fault = cond (isFaultKind kind) (isFault fault) (eqb fault 0)
+unfoldable pub faultWellFormed : ℕ → ℕ → Bool
+faultWellFormed kind fault = cond (isFaultKind kind) (isFault fault) (eqb fault 0)
 
 -- "The number is 1 to 9,999 in kinds 5 to 7, 0 to 9,999 in kind 12, else zero."
-unfoldable pub numberRight : ℕ → ℕ → Bool
-numberRight kind number =
+unfoldable pub numberWellFormed : ℕ → ℕ → Bool
+numberWellFormed kind number =
     cond (isTrainKind kind) (isTrain number)
     (cond (eqb kind releaseKind) (leb number largestTrain) (eqb number 0))
 
 -- "byte 0 kind, 1 to 13; byte 1 track, 0 or 1; byte 2 post, below n"
-unfoldable pub placeRight : ℕ → ℕ → ℕ → ℕ → Bool
-placeRight n kind track post = isKind kind && (ltb track 2 && ltb post n)
+unfoldable pub placeWellFormed : ℕ → ℕ → ℕ → ℕ → Bool
+placeWellFormed n kind track post = isKind kind && (ltb track 2 && ltb post n)
 
 -- all of it, of the track, the fields and bytes 6–7
-unfoldable pub fieldsRight : ℕ → ℕ → Fields → ℕ → Bool
-fieldsRight n track f zeros =
-    placeRight n (f .kind) track (f .post) && (faultRight (f .kind) (f .fault) && (numberRight (f .kind) (f .number) && eqb zeros 0))
+unfoldable pub fieldsWellFormed : ℕ → ℕ → Fields → ℕ → Bool
+fieldsWellFormed n track f zeros =
+    placeWellFormed n (f .kind) track (f .post) && (faultWellFormed (f .kind) (f .fault) && (numberWellFormed (f .kind) (f .number) && eqb zeros 0))
 
 -- the bytes s say a step on a line of n posts; a step is eight bytes long
 unfoldable pub wellFormed : ℕ → List ℕ → Bool
-wellFormed n s = eqb (length s) stepLength && fieldsRight n (byte s 1) (fieldsIn s) (pair (byte s 6) (byte s 7))
+wellFormed n s = eqb (length s) stepLength && fieldsWellFormed n (byte s 1) (fieldsIn s) (le16 (byte s 6) (byte s 7))
 
 -- ## The step that the fields give
 
@@ -149,5 +149,5 @@ unfoldable pub encoded : TrackStep → List ℕ
 encoded x = bytesOf (trackNumber (x .track)) (fieldsOf (x .step))
 
 -- a step whose post and number are in their ranges: one that some bytes say
-unfoldable pub stepFits : ℕ → Step → Bool
-stepFits n x = ltb (postOf x) n && numberRight (kindOf x) (numberOf x)
+unfoldable pub stepInRange : ℕ → Step → Bool
+stepInRange n x = ltb (postOf x) n && numberWellFormed (kindOf x) (numberOf x)

@@ -8,7 +8,7 @@ mod post_record;
 pub mod words;
 
 pub use fresh_section::fresh;
-pub use little_endian::pair_of;
+pub use little_endian::le16_of;
 pub use post_record::blank;
 
 pub const LEAST_POSTS: u8 = 2;
@@ -80,9 +80,9 @@ pub struct Faults {
     pub three: bool,
 }
 
-// What a post keeps on one track. `cvt`: its device stands at CVT.
+// What a post keeps on one track. `device`: its device stands at CVT.
 pub struct Post {
-    pub cvt: bool,
+    pub device: bool,
     pub permission: bool,
     pub measures: bool,
     pub faults: Faults,

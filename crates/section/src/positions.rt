@@ -3,7 +3,7 @@ ghost use mathlib.Core.Path.{_≡_};
 ghost use Prim.Native.Nat.{_+_, _<_};
 ghost use Rattle.section.specs.Numbers.{mostPosts};
 ghost use Rattle.section.specs.Geometry.{upward, rank, block, isFirst, isLast};
-ghost use Rattle.section.specs.Settings.{bit};
+ghost use Rattle.section.specs.Settings.{isSignalled};
 
 // Whether trains run upward: on A in VNS, on B in CVT.
 pub fn is_upward(track: bool, cvt: bool) -> bool
@@ -47,7 +47,7 @@ pub fn is_last(n: u8, up: bool, p: u8) -> bool
 // Whether post p is signalled: bit p of the mask.
 pub fn is_signalled(mask: u16, p: u8) -> bool
     requires { ⌜ p < mostPosts ⌝ }
-    ensures { λ r. ⌜ r ≡ bit mask p ⌝ }
+    ensures { λ r. ⌜ r ≡ isSignalled mask p ⌝ }
 {
     (mask >> p) & 1 == 1
 }

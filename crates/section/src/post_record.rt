@@ -36,7 +36,7 @@ pub fn blank() -> Post
         three: false,
     };
     Post {
-        cvt: false,
+        device: false,
         permission: false,
         measures: false,
         faults: faults,
@@ -50,7 +50,7 @@ impl Post {
     pub fn turned(mut self, cvt: bool) -> Post
         ensures { λ r. ⌜ r ≡ turned cvt self ⌝ }
     {
-        self.cvt = cvt;
+        self.device = cvt;
         self
     }
 

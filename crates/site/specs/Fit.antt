@@ -4,7 +4,7 @@ use mathlib.Core.Bool.{true}
 use mathlib.Core.Path.{_≡_}
 use Rattle.section.specs.declared.Settings.{Settings}
 use Rattle.section.specs.Numbers.{mostSeals}
-use Rattle.section.specs.Range.{walkFits}
+use Rattle.section.specs.Range.{walkInRange}
 use Rattle.rules.specs.declared.Site.{Site}
 use Rattle.rules.specs.Site.{upAt}
 use Rattle.site.specs.Placed.{Placed}
@@ -12,4 +12,4 @@ use Rattle.site.specs.Placed.{Placed}
 pub record Fit (c : Settings) (e : Site) : Type 0 where
   pub placed : Placed c e
   pub seals : e .own .seals ≤ mostSeals
-  pub walk : walkFits (c .posts) (upAt c e) (e .walk) ≡ true
+  pub walk : walkInRange (c .posts) (upAt c e) (e .walk) ≡ true

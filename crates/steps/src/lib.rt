@@ -12,7 +12,7 @@ use section::Fault;
 use section::Step;
 use section::TrackStep;
 use section::kinds;
-use section::pair_of;
+use section::le16_of;
 
 fn fault_of(fault: u8) -> Fault
     ensures { λ r. ⌜ r ≡ faultOf fault ⌝ }
@@ -66,7 +66,7 @@ fn step_said(s: &[u8]) -> TrackStep
     requires { ⌜ length (now s) ≡ stepLength ⌝ }
     ensures { λ r. ⌜ r ≡ stepSaid (now (s .entry)) ⌝ }
 {
-    let step = step_of(s[0], s[2], s[3], pair_of(s[4], s[5]));
+    let step = step_of(s[0], s[2], s[3], le16_of(s[4], s[5]));
     TrackStep {
         track: s[1] == 1,
         step: step,

@@ -1,12 +1,12 @@
 // Whether eight bytes say a step: every test of document 01's steps.
 ghost use mathlib.Core.Path.{_≡_};
 ghost use Rattle.section.specs.Bytes.{within};
-ghost use Rattle.section.specs.Step.{isTrain, fields, faultRight, numberRight, placeRight, fieldsRight, wellFormed};
+ghost use Rattle.section.specs.Step.{isTrain, fields, faultWellFormed, numberWellFormed, placeWellFormed, fieldsWellFormed, wellFormed};
 use section::LARGEST_TRAIN;
 use section::LAST_FAULT;
 use section::STEP_LENGTH;
 use section::kinds;
-use section::pair_of;
+use section::le16_of;
 
 fn is_within(lo: u8, hi: u8, x: u8) -> bool
     ensures { λ r. ⌜ r ≡ within lo hi x ⌝ }
@@ -25,8 +25,8 @@ fn is_train(number: u16) -> bool
     }
 }
 
-fn fault_right(kind: u8, fault: u8) -> bool
-    ensures { λ r. ⌜ r ≡ faultRight kind fault ⌝ }
+fn fault_well_formed(kind: u8, fault: u8) -> bool
+    ensures { λ r. ⌜ r ≡ faultWellFormed kind fault ⌝ }
 {
     if is_within(kinds::FAULT_ON, kinds::FAULT_OFF, kind) {
         return is_within(1, LAST_FAULT, fault);
@@ -34,8 +34,8 @@ fn fault_right(kind: u8, fault: u8) -> bool
     fault == 0
 }
 
-fn number_right(kind: u8, number: u16) -> bool
-    ensures { λ r. ⌜ r ≡ numberRight kind number ⌝ }
+fn number_well_formed(kind: u8, number: u16) -> bool
+    ensures { λ r. ⌜ r ≡ numberWellFormed kind number ⌝ }
 {
     if is_within(kinds::START, kinds::LEAVE, kind) {
         return is_train(number);
@@ -46,8 +46,8 @@ fn number_right(kind: u8, number: u16) -> bool
     number == 0
 }
 
-fn place_right(n: u8, kind: u8, track: u8, post: u8) -> bool
-    ensures { λ r. ⌜ r ≡ placeRight n kind track post ⌝ }
+fn place_well_formed(n: u8, kind: u8, track: u8, post: u8) -> bool
+    ensures { λ r. ⌜ r ≡ placeWellFormed n kind track post ⌝ }
 {
     if !is_within(1, kinds::LAST, kind) {
         return false;
@@ -58,16 +58,24 @@ fn place_right(n: u8, kind: u8, track: u8, post: u8) -> bool
     post < n
 }
 
-fn fields_right(n: u8, kind: u8, track: u8, post: u8, fault: u8, number: u16, zeros: u16) -> bool
-    ensures { λ r. ⌜ r ≡ fieldsRight n track (fields kind post fault number) zeros ⌝ }
+fn fields_well_formed(
+    n: u8,
+    kind: u8,
+    track: u8,
+    post: u8,
+    fault: u8,
+    number: u16,
+    zeros: u16,
+) -> bool
+    ensures { λ r. ⌜ r ≡ fieldsWellFormed n track (fields kind post fault number) zeros ⌝ }
 {
-    if !place_right(n, kind, track, post) {
+    if !place_well_formed(n, kind, track, post) {
         return false;
     }
-    if !fault_right(kind, fault) {
+    if !fault_well_formed(kind, fault) {
         return false;
     }
-    if !number_right(kind, number) {
+    if !number_well_formed(kind, number) {
         return false;
     }
     zeros == 0
@@ -80,7 +88,7 @@ pub fn is_well_formed(n: u8, s: &[u8]) -> bool
     if s.len() != STEP_LENGTH {
         return false;
     }
-    let number = pair_of(s[4], s[5]);
-    let zeros = pair_of(s[6], s[7]);
-    fields_right(n, s[0], s[1], s[2], s[3], number, zeros)
+    let number = le16_of(s[4], s[5]);
+    let zeros = le16_of(s[6], s[7]);
+    fields_well_formed(n, s[0], s[1], s[2], s[3], number, zeros)
 }

@@ -15,7 +15,7 @@ use Rattle.section.specs.declared.Settings.{Settings}
 use Rattle.section.specs.Fresh.{freshSection}
 use Rattle.section.specs.Numbers.{stepLength}
 use Rattle.section.specs.Range.{inRange}
-use Rattle.section.specs.Settings.{settingsRight}
+use Rattle.section.specs.Settings.{settingsInRange}
 use Rattle.section.proofs.Laws.{and-left, and-right}
 use Rattle.rules.specs.Demand3.{stateAfter}
 use Rattle.rules.specs.Judge.{judgeInRange, judge}
@@ -126,7 +126,7 @@ module _ (c : Settings) (steps : List ℕ) (i : ℕ) where
 -- ## A day that can be noted, and the buffer afterwards
 
 pub record DayFits (c : Settings) (steps : List ℕ) (count room : ℕ) : Type 0 where
-  pub settings-well : settingsRight c ≡ true
+  pub settings-well : settingsInRange c ≡ true
   pub steps-there : stepLength * count ≤ length steps
   pub notes-fit : noteLength * count ≤ room
 
@@ -135,11 +135,11 @@ unfolding canBeNoted
 day-fits c steps count room e =
     let there = leb (stepLength * count) (length steps) in
     let fit = leb (noteLength * count) room in
-    let rest = and-right there (fit && settingsRight c) e in
+    let rest = and-right there (fit && settingsInRange c) e in
     record {
-      settings-well = and-right fit (settingsRight c) rest;
-      steps-there = leb-true _ _ (and-left there (fit && settingsRight c) e);
-      notes-fit = leb-true _ _ (and-left fit (settingsRight c) rest);
+      settings-well = and-right fit (settingsInRange c) rest;
+      steps-there = leb-true _ _ (and-left there (fit && settingsInRange c) e);
+      notes-fit = leb-true _ _ (and-left fit (settingsInRange c) rest);
     }
 
 pub can-be-noted : (c : Settings) (steps : List ℕ) (count room : ℕ) → DayFits c steps count room → canBeNoted c steps count room ≡ true

@@ -14,7 +14,7 @@ use Rattle.section.specs.declared.Decoded.the-variants.{Malformed}
 use Rattle.section.specs.Fresh.{freshTrack, freshSection}
 use Rattle.section.specs.Numbers.{mostBlocks}
 use Rattle.section.specs.Range.{inRange}
-use Rattle.section.specs.Settings.{settingsRight}
+use Rattle.section.specs.Settings.{settingsInRange}
 use Rattle.section.specs.Step.{decoded}
 use Rattle.section.proofs.Laws.{fresh-in-range}
 use Rattle.rules.specs.Judge.{judgeInRange}
@@ -58,7 +58,7 @@ module _ (c : Settings) (steps : List ℕ) where
   fresh-rows posts e = rw e refl
 
   pub begins :
-      (posts : List (List Post)) (count : ℕ) (lent : List ℕ) → settingsRight c ≡ true → posts ≡ freshPosts c → noteLength * count ≤ length lent
+      (posts : List (List Post)) (count : ℕ) (lent : List ℕ) → settingsInRange c ≡ true → posts ≡ freshPosts c → noteLength * count ≤ length lent
       → Walked c steps count lent posts (replicate 2 (replicate mostBlocks 0)) (replicate 2 (replicate mostBlocks 0)) (replicate 2 settled)
       lent 0
   unfolding sectionBefore

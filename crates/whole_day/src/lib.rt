@@ -5,7 +5,7 @@ ghost use mathlib.Core.Path.{_≡_};
 ghost use Prim.Native.Nat.{_+_, _*_, _<_, _≤_};
 ghost use lib.ListN.{length, replicate};
 ghost use Rattle.section.specs.Numbers.{stepLength};
-ghost use Rattle.section.specs.Settings.{settingsRight};
+ghost use Rattle.section.specs.Settings.{settingsInRange};
 ghost use Rattle.text.specs.Text.{written};
 ghost use Rattle.section.specs.Words.{letter};
 ghost use Rattle.notes.specs.Note.{noteLength, noteWith};
@@ -15,7 +15,7 @@ use judging::at_post::judge_step;
 use layout::step_at;
 use notes::NOTE_LENGTH;
 use notes::put_note;
-use ranges::settings::settings_right;
+use ranges::settings::settings_in_range;
 use section::Decoded;
 use section::MOST_BLOCKS;
 use section::Posts;
@@ -77,7 +77,7 @@ fn note_verdict(notes: &mut [u8], i: usize, verdict: Verdict, running: [Running;
 
 // Notes the steps of a day, which begins with those records, free block sections and both tracks settled on VNS.
 fn note_from(c: Settings, fresh: [Posts; 2], steps: &[u8], count: usize, notes: &mut [u8])
-    requires { ⌜ (settingsRight c ≡ true) × (fresh ≡ freshPosts c) ⌝ }
+    requires { ⌜ (settingsInRange c ≡ true) × (fresh ≡ freshPosts c) ⌝ }
     requires { ⌜ (stepLength * count ≤ length (now steps)) × (noteLength * count ≤ length (now notes)) ⌝ }
     ensures { λ _. ⌜ now (notes .exit) ≡ written (now (notes .entry)) 0 (notesOf c (now (steps .entry)) count) ⌝ }
 {
@@ -124,7 +124,7 @@ pub fn can_be_noted(c: Settings, steps: &[u8], count: usize, room: usize) -> boo
     if room / NOTE_LENGTH < count {
         return false;
     }
-    settings_right(c)
+    settings_in_range(c)
 }
 
 // Judges the steps of a day, offered one after another from fresh, and writes the note of each; answers whether the day could be noted.

@@ -8,7 +8,7 @@ use lib.ListN.{length}
 use lib.Dec.{ltb}
 use borrow.Author.Tests.{ltb-true}
 use Rattle.layout.specs.Layout.{stepCount, stepsIn, trailerIn, settingsIn, settingsOf}
-use Rattle.dayfile.specs.Tests.{lengthWrong, trailerRight, settingsBytesRight, firstMalformed, someMalformed}
+use Rattle.dayfile.specs.Tests.{lengthWrong, trailerWellFormed, settingsWellFormed, firstMalformed, someMalformed}
 use Rattle.dayfile.specs.Answers.{readVerdict, readOf}
 use Rattle.dayfile.specs.declared.Reading.the-variants.{Day, Refused}
 use Rattle.dayfile.proofs.Reader.{length-right, few-steps}
@@ -17,7 +17,7 @@ use Rattle.packed.specs.Packed.{packedReading}
 pub reading-fits : (file : List ℕ) → packedReading (readOf file .reading) < 2 ^ 32
 unfolding packedReading readOf readVerdict someMalformed
 reading-fits file =
-    go (lengthWrong (length file)) refl (not (trailerRight count (trailerIn file))) (not (settingsBytesRight (settingsIn file))) (ltb first count) refl
+    go (lengthWrong (length file)) refl (not (trailerWellFormed count (trailerIn file))) (not (settingsWellFormed (settingsIn file))) (ltb first count) refl
   where
     count : ℕ
     count = stepCount (stepsIn file)

@@ -7,24 +7,24 @@ use Rattle.dayfile.proofs.write.Statement.{statement}
 use Rattle.dayfile.proofs.write.Tie as tie
 
 returns : tie.Need-returns
-returns c = answer-3 _ _ _ (told-false (c .before .settings-right .ensures) (c .if1 .taken))
+returns c = answer-3 _ _ _ (told-false (c .before .settings-in-range .ensures) (c .if1 .taken))
 
 returns-2 : tie.Need-returns-2
 returns-2 c = let g = c .before in
     let b = g .before .before in
-    let e₃ = told-true (b .before .settings-right .ensures) (b .if1 .left) in
+    let e₃ = told-true (b .before .settings-in-range .ensures) (b .if1 .left) in
     answer-4 _ _ _ _ _ (g .before .step-count .ensures) (g .first-malformed .ensures) e₃ (c .if2 .taken)
 
 returns-3 : tie.Need-returns-3
 returns-3 c = let g = c .before .before in
     let b = g .before .before in
-    let e₃ = told-true (b .before .settings-right .ensures) (b .if1 .left) in
+    let e₃ = told-true (b .before .settings-in-range .ensures) (b .if1 .left) in
     answer-5-many _ _ _ _ _ (g .before .step-count .ensures) (g .first-malformed .ensures) e₃ (c .before .if2 .left) (c .if3 .taken)
 
 returns-4 : tie.Need-returns-4
 returns-4 c = let g = c .before .before .before in
     let b = g .before .before in
-    let e₃ = told-true (b .before .settings-right .ensures) (b .if1 .left) in
+    let e₃ = told-true (b .before .settings-in-range .ensures) (b .if1 .left) in
     answer-5-short _ _ _ _ _ (g .before .step-count .ensures) (g .first-malformed .ensures) e₃ (c .before .before .if2 .left) (c .before .if3 .left)
     (c .if4 .taken)
 
@@ -37,7 +37,7 @@ returns-5 c = let h = c .before .before .before .before in
     let g = h .before .before .before in
     let b = g .before .before in
     let r =
-    answer-bytes _ _ _ _ _ (g .before .step-count .ensures) (g .first-malformed .ensures) (told-true (b .before .settings-right .ensures) (b .if1 .left))
+    answer-bytes _ _ _ _ _ (g .before .step-count .ensures) (g .first-malformed .ensures) (told-true (b .before .settings-in-range .ensures) (b .if1 .left))
     (h .before .before .if2 .left) (h .before .if3 .left) (h .if4 .left) in
     (r .0, c .before .before .put .ensures ∙ r .1)
 

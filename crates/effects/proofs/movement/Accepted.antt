@@ -17,7 +17,7 @@ use Rattle.section.specs.declared.Step.the-variants.{FaultOff, Release, Key}
 use Rattle.section.specs.declared.Verdict.the-variants.{Accepted}
 use Rattle.section.specs.Geometry.{rank, isFirst, isLast}
 use Rattle.section.specs.Numbers.{leastPosts, mostSeals}
-use Rattle.section.specs.Range.{walkFits}
+use Rattle.section.specs.Range.{walkInRange}
 use Rattle.section.proofs.Laws.{rank-lt, and-left, and-right, turn-right, announce-right}
 use Rattle.rules.specs.declared.Site.{Site}
 use Rattle.rules.specs.Site.{isTurn, upAt, Occupancy}
@@ -61,7 +61,7 @@ module _ (n : ℕ) (up : Bool) (p : ℕ) (h : p < n) where
       (not-first-before (parts .0), not-last-ahead (parts .1))
 
   -- the turn to announce is at a post with a block section ahead
-  announce-ahead : (w : Walk) → walkFits n up w ≡ true → isTurn w p act.Announce ≡ true → suc (rank n up p) < n
+  announce-ahead : (w : Walk) → walkInRange n up w ≡ true → isTurn w p act.Announce ≡ true → suc (rank n up p) < n
   announce-ahead Settled fits e = let z : _≡_ {A = ℕ} 0 1 = cc in omega arith
   announce-ahead (Turn q act.Set) fits e = let x = and-right (eqb q p) false e in let z : _≡_ {A = ℕ} 0 1 = cc in omega arith
   announce-ahead (Turn q act.Acknowledge) fits e = let x = and-right (eqb q p) false e in let z : _≡_ {A = ℕ} 0 1 = cc in omega arith
@@ -76,7 +76,7 @@ module _
     (e : Site)
     (g : Occupancy)
     (placed : Placed c e)
-    (fits : walkFits (c .posts) (upAt c e) (e .walk) ≡ true)
+    (fits : walkInRange (c .posts) (upAt c e) (e .walk) ≡ true)
     (seals : e .own .seals ≤ mostSeals)
     (said w : Said) where
   pub fitting : (x : Step) → verdictOf (checks c x e g) said ≡ Accepted w → Fitting c x e

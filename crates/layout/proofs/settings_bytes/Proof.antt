@@ -5,7 +5,7 @@ use Rattle.layout.proofs.settings_bytes.Statement.{statement}
 use Rattle.layout.proofs.settings_bytes.Tie as tie
 
 returns : tie.Need-returns
-returns c = settings-are _ _ _ (c .before .pair-bytes .ensures) (c .pair-bytes2 .ensures)
+returns c = settings-are _ _ _ (c .before .le16-bytes .ensures) (c .le16-bytes2 .ensures)
 
 pub settings-bytes-spec : {M : Type 1} → statement M
 settings-bytes-spec =

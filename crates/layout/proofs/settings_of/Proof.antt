@@ -6,7 +6,7 @@ use Rattle.layout.proofs.settings_of.Tie as tie
 
 returns : tie.Need-returns
 unfolding settingsOf
-returns c = rw (← c .pair-of2 .ensures, ← c .before .before .before .pair-of .ensures)
+returns c = rw (← c .le16-of2 .ensures, ← c .before .before .before .le16-of .ensures)
 
 pub settings-of-spec : {M : Type 1} → statement M
 settings-of-spec =

@@ -5,7 +5,7 @@ use Rattle.layout.proofs.trailer.Statement.{statement}
 use Rattle.layout.proofs.trailer.Tie as tie
 
 returns : tie.Need-returns
-returns c = trailer-is _ _ _ _ (c .before .before .four-bytes .ensures) (c .before .four-bytes2 .ensures) (c .four-bytes3 .ensures)
+returns c = trailer-is _ _ _ _ (c .before .before .le32-bytes .ensures) (c .before .le32-bytes2 .ensures) (c .le32-bytes3 .ensures)
 
 pub trailer-spec : {M : Type 1} → statement M
 trailer-spec =

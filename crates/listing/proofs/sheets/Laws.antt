@@ -16,12 +16,12 @@ use Rattle.section.specs.Bytes.{byte, within}
 use Rattle.section.specs.Fresh.{freshSection}
 use Rattle.section.specs.Numbers.{leastPosts, mostPosts, stepLength}
 use Rattle.section.specs.Range.{inRange}
-use Rattle.section.specs.Settings.{settingsRight}
+use Rattle.section.specs.Settings.{settingsInRange}
 use Rattle.section.proofs.Laws.{and-left, and-right, fresh-in-range}
 use Rattle.rules.specs.Judge.{judge}
 use Rattle.rules.proofs.RangeLaw.{ranges-kept}
 use Rattle.layout.specs.Layout.{mostSteps, settingsOf, settingsIn, stepAt, stepsIn, stepsPart}
-use Rattle.dayfile.specs.Tests.{settingsBytesRight}
+use Rattle.dayfile.specs.Tests.{settingsWellFormed}
 use Rattle.dayfile.specs.Answers.{readOf, refusalNumber}
 use Rattle.dayfile.specs.declared.Reading.{Reading}
 use Rattle.dayfile.specs.declared.Reading.the-variants.{Day, Refused}
@@ -48,10 +48,10 @@ use Rattle.listing.specs.Sheet.{lineOn, lineRoom, room}
 
 -- a section in its ranges has few enough posts
 pub few-posts : (s : Section) → inRange s ≡ true → s .settings .posts ≤ mostPosts
-unfolding inRange settingsRight within
+unfolding inRange settingsInRange within
 few-posts s e =
     let n = s .settings .posts in
-    let within-limits = and-left (leb leastPosts n && leb n mostPosts) _ (and-left (settingsRight (s .settings)) _ e) in
+    let within-limits = and-left (leb leastPosts n && leb n mostPosts) _ (and-left (settingsInRange (s .settings)) _ e) in
     leb-true n mostPosts (and-right (leb leastPosts n) (leb n mostPosts) within-limits)
 
 -- ## How long a line and a sheet are
@@ -122,7 +122,7 @@ pub step-length : (steps : List ℕ) (i count : ℕ) → i < count → stepLengt
 unfolding stepAt
 step-length steps i count h l = length-take-le 8 (drop (i * 8) steps) (simp length-drop (omega arith))
 
-pub started : (s : Section) (c : Settings) → s ≡ freshSection c → settingsRight c ≡ true → inRange s ≡ true
+pub started : (s : Section) (c : Settings) → s ≡ freshSection c → settingsInRange c ≡ true → inRange s ≡ true
 started s c e h = ap inRange e ∙ fresh-in-range c h
 
 -- ## A file that is read
@@ -138,11 +138,11 @@ module _ (file : List ℕ) (count : ℕ) (e : readOf file .reading ≡ Day count
       let d = day-read file count e in
       rw (gives-its-steps file count e) (omega (arith, all-whole (settingsOf (settingsIn file) .posts) (stepsIn file) (d .steps-well), d .counted))
 
-  pub settings-read-right : settingsRight (readOf file .settings) ≡ true
-  unfolding readOf refusalNumber settingsBytesRight
+  pub settings-read-right : settingsInRange (readOf file .settings) ≡ true
+  unfolding readOf refusalNumber settingsWellFormed
   settings-read-right =
       let d = day-read file count e in
-      rw e (and-left (settingsRight (settingsOf (settingsIn file))) _ (d .settings-well))
+      rw e (and-left (settingsInRange (settingsOf (settingsIn file))) _ (d .settings-well))
 
 -- ## How long what is printed of a file is
 

@@ -10,7 +10,7 @@ returns c = rw (ne-eqb _ _ (c .if1 .taken))
 
 returns-2 : tie.Need-returns-2
 unfolding lentSettingsWellFormed
-returns-2 c = rw (eq-eqb _ _ (c .before .if1 .left)) (c .settings-bytes-right .ensures)
+returns-2 c = rw (eq-eqb _ _ (c .before .if1 .left)) (c .settings-well-formed .ensures)
 
 pub lent-settings-well-formed-spec : {M : Type 1} → statement M
 lent-settings-well-formed-spec = tie.close (tie.spec returns (λ c κs. search needs) returns-2)

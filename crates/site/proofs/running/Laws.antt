@@ -4,14 +4,14 @@ use mathlib.Core.Bool.{Bool, true}
 use mathlib.Core.Path.{_≡_}
 use Rattle.section.specs.declared.Settings.{Settings}
 use Rattle.section.specs.declared.Track.{Track}
-use Rattle.section.specs.Range.{trackFits}
-use Rattle.section.specs.Settings.{settingsRight}
+use Rattle.section.specs.Range.{trackInRange}
+use Rattle.section.specs.Settings.{settingsInRange}
 use Rattle.section.proofs.Laws.{posts-right, track-ranges}
 use Rattle.rules.specs.Site.{siteOn}
 use Rattle.site.specs.Fit.{Fit}
 
 pub fit-on :
-    (c : Settings) (track : Bool) (t : Track) (p : ℕ) → settingsRight c ≡ true → trackFits (c .posts) track t ≡ true → p < c .posts
+    (c : Settings) (track : Bool) (t : Track) (p : ℕ) → settingsInRange c ≡ true → trackInRange (c .posts) track t ≡ true → p < c .posts
     → Fit c (siteOn track p t)
 fit-on c track t p right fits below =
     let n = posts-right c right in

@@ -5,7 +5,7 @@ use Rattle.steps.proofs.step_said.Tie as tie
 
 returns : tie.Need-returns
 unfolding stepSaid
-returns c = rw (c .before .step-of .ensures, c .before .before .pair-of .ensures)
+returns c = rw (c .before .step-of .ensures, c .before .before .le16-of .ensures)
 
 pub step-said-spec : {M : Type 1} → statement M
 step-said-spec =

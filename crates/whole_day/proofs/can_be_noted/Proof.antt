@@ -28,7 +28,7 @@ unfolding canBeNoted
 returns-3 c =
     let a = c .before .before .before .before .args in
     rw (le-leb (stepLength * a .count) (length (now (a .steps))) (omega arith), le-leb (noteLength * a .count) (a .room) (omega arith))
-    (c .settings-right .ensures)
+    (c .settings-in-range .ensures)
 
 pub can-be-noted-spec : {M : Type 1} → statement M
 can-be-noted-spec = tie.close (tie.spec returns returns-2 (λ c κs. search needs) returns-3)

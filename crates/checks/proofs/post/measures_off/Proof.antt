@@ -24,7 +24,7 @@ in-place : (s : Settings) (c : tie.After-struct-known) → AskedAt 1 21 (row s (
 unfolding checks
 in-place s c = unless none refl
 
-on-vns : (s : Settings) (c : tie.Else1) → AskedAt 2 16 (row s (from-vns c)) (from-vns c .args .e .own .cvt)
+on-vns : (s : Settings) (c : tie.Else1) → AskedAt 2 16 (row s (from-vns c)) (from-vns c .args .e .own .device)
 unfolding checks
 on-vns s c = when (in-place s (c .before) .left (c .if1 .left)) refl
 

@@ -5,7 +5,7 @@ use Rattle.image.proofs.reader.number_at.Tie as tie
 
 returns : tie.Need-returns
 unfolding numberAt
-returns c = c .pair-of .ensures
+returns c = c .le16-of .ensures
 
 pub number-at-spec : {M : Type 1} → statement M
 number-at-spec =

@@ -1,14 +1,14 @@
-use Rattle.layout.specs.Layout.{pairBytes}
+use Rattle.layout.specs.Layout.{le16Bytes}
 use Rattle.image.specs.Image.{postImage}
 use borrow.Author.Needs.{needs}
 use Rattle.image.proofs.writer.post_bytes.Statement.{statement}
 use Rattle.image.proofs.writer.post_bytes.Tie as tie
 
 returns : tie.Need-returns
-unfolding postImage pairBytes
+unfolding postImage le16Bytes
 returns c =
     rw (
-      c .before .before .before .before .before .pair-bytes .ensures,
+      c .before .before .before .before .before .le16-bytes .ensures,
       c .before .before .before .before .flag .ensures,
       c .before .before .before .flag2 .ensures,
       c .before .before .flag3 .ensures,

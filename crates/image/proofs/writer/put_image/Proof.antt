@@ -14,7 +14,7 @@ returns c =
     let number = settings .before in
     let x = number .before .before in
     image-put (now (x .args .buffer)) (x .args .s) (x .pre)
-    (number .pair-bytes .ensures) (settings .settings-bytes .ensures)
+    (number .le16-bytes .ensures) (settings .settings-bytes .ensures)
     (number-put .put-text .ensures) (settings-put .put-text2 .ensures) (a .put-track .ensures) (b .put-track2 .ensures)
 
 pub put-image-spec : {M : Type 1} → statement M

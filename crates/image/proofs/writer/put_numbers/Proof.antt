@@ -6,20 +6,20 @@ use mathlib.Core.Path.{_≡_}
 use native.Mathlib.Omega.{arith}
 use denote.Ref.{now}
 use lib.ListN.{length, getD}
-use Rattle.layout.specs.Layout.{pairBytes}
+use Rattle.layout.specs.Layout.{le16Bytes}
 use Rattle.image.proofs.Items.{Put}
 use Rattle.image.specs.Image.{numberLength, itemsImage, numbersImage}
 use Rattle.image.proofs.Items.{nothing-put, items-kept, next-fits, next-put}
-use Rattle.image.proofs.Laws.{pair-length, numbers-length}
+use Rattle.image.proofs.Laws.{le16-length, numbers-length}
 use Rattle.image.proofs.writer.put_numbers.Statement.{statement}
 use Rattle.image.proofs.writer.put_numbers.Tie as tie
 
 module _ (l : List ℕ) where
   abbrev item : ℕ → List ℕ
-  item i = pairBytes (getD l i 0)
+  item i = le16Bytes (getD l i 0)
 
   sized : (i : ℕ) → length (item i) ≡ numberLength
-  sized i = pair-length (getD l i 0)
+  sized i = le16-length (getD l i 0)
 
 abbrev Inv-loop : tie.InvT-loop
 Inv-loop buffer₀ at numbers next₀ i₀ buffer next i = (i ≤ 15) × Put buffer₀ at (itemsImage (item numbers) i) next buffer
@@ -31,18 +31,18 @@ loop-holds : tie.Need-loop-holds Inv-loop μ-loop
 unfolding itemsImage
 loop-holds c = let x = c .before .args in (omega arith, nothing-put (now (x .buffer)) (x .at))
 
-mul-pair-bytes : tie.Need-mul-pair-bytes Inv-loop μ-loop
-mul-pair-bytes c = omega arith
+mul-le16-bytes : tie.Need-mul-le16-bytes Inv-loop μ-loop
+mul-le16-bytes c = omega arith
 
-array-read-pair-bytes : tie.Need-array-read-pair-bytes Inv-loop μ-loop
-array-read-pair-bytes c = omega arith
+array-read-le16-bytes : tie.Need-array-read-le16-bytes Inv-loop μ-loop
+array-read-le16-bytes c = omega arith
 
-pair-bytes-requires : tie.Need-pair-bytes-requires Inv-loop μ-loop
-pair-bytes-requires c κs = tt
+le16-bytes-requires : tie.Need-le16-bytes-requires Inv-loop μ-loop
+le16-bytes-requires c κs = tt
 
 put-text-requires : tie.Need-put-text-requires Inv-loop μ-loop
 put-text-requires c κs =
-    let p = c .before .before .pair-bytes in
+    let p = c .before .before .le16-bytes in
     let a = c .before .before .before .before in
     let l = a .before .before .args .t3 in
     next-fits (item l) numberLength (sized l) (a .loop .i) (a .loop .inv .1) (p .result) (p .ensures) (omega arith)
@@ -59,7 +59,7 @@ loop-again c =
     let a = p .before .before in
     let l = a .before .before .args .t3 in
     let put = c .before .before .put-text .ensures in
-    let one = p .pair-bytes in
+    let one = p .le16-bytes in
     (omega arith, next-put (item l) numberLength (sized l) (a .loop .i) (a .loop .inv .1) (one .result) (one .ensures) (omega arith) put)
 
 same-length : tie.Need-same-length Inv-loop μ-loop
@@ -83,9 +83,9 @@ put-numbers-spec =
     Inv-loop
     μ-loop
     loop-holds
-    mul-pair-bytes
-    array-read-pair-bytes
-    pair-bytes-requires
+    mul-le16-bytes
+    array-read-le16-bytes
+    le16-bytes-requires
     (λ c. search needs)
     put-text-requires
     add-i

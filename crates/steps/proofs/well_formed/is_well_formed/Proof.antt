@@ -14,7 +14,7 @@ unfolding wellFormed
 returns-2 c = let second = c .before .before .before .before .before in
     let first = second .before .before .before in
     let whole = first .before .before .before in
-    rw (eq-eqb _ _ (whole .if1 .left), c .fields-right .ensures, second .pair-of2 .ensures, first .pair-of .ensures)
+    rw (eq-eqb _ _ (whole .if1 .left), c .fields-well-formed .ensures, second .le16-of2 .ensures, first .le16-of .ensures)
 
 pub is-well-formed-spec : {M : Type 1} → statement M
 is-well-formed-spec =
