@@ -59,7 +59,8 @@ module _ (c : Settings) where
   not-refused : (v : Verdict) (w : Said) (k : ℕ) → v ≡ Accepted w → v ≡ Refused k → ⊥
   not-refused v w k e f = let z : _≡_ {A = ℕ} 0 1 = cc in omega arith
 
-  start-sends : (s : Section) (d : AcceptedStep) (x : Seen) → kind d ≡ startKind → Says (c .posts) (d .bytes) (shown x) → AcceptedIn c s x → Sends s (track d) (post d)
+  start-sends : (s : Section) (d : AcceptedStep) (x : Seen) → kind d ≡ startKind → Says (c .posts) (d .bytes) (shown x) → AcceptedIn c s x
+      → Sends s (track d) (post d)
   unfolding AcceptedIn
   start-sends s d x e h ok =
       subst (λ b. Sends s b (post d)) (h .track-is) (subst (Sends s (x .track)) (sym (post-flat (x .post) (x .kind)) ∙ h .fields .post-is)

@@ -58,4 +58,13 @@ returns-2 c =
 pub judge-at-spec : {M : Type 1} → statement M
 judge-at-spec =
     tie.close
-    (tie.spec verdict-requires (λ c. search needs) effect-of-requires move-cells-requires move-cells-requires-2 (λ c. search needs) (λ c κs. search needs) returns returns-2)
+    (tie.spec
+    verdict-requires
+    (λ c. search needs)
+    effect-of-requires
+    move-cells-requires
+    move-cells-requires-2
+    (λ c. search needs)
+    (λ c κs. search needs)
+    returns
+    returns-2)

@@ -29,14 +29,18 @@ is-sought-requires c κs = tt
 
 returns : tie.Need-returns Inv-loop μ-loop
 returns c = let b = c .before .before .before in
-    sym (b .before .loop .inv .1 ∙ any-here _ _ _ (omega arith) (told (rw (c .before .before .train-in .ensures) at (c .before .is-sought .ensures)) (c .if1 .taken)))
+    sym (b .before .loop .inv .1 ∙ any-here _ _ _ (omega arith)
+    (told (rw (c .before .before .train-in .ensures) at (c .before .is-sought .ensures)) (c .if1 .taken)))
 
 loop-less : tie.Need-loop-less Inv-loop μ-loop
 loop-less c = omega arith
 
 loop-again : tie.Need-loop-again Inv-loop μ-loop
-loop-again c = let b = c .before .before .before in
-    (omega arith, b .before .loop .inv .1 ∙ any-below _ _ _ (omega arith) (told (rw (c .before .before .train-in .ensures) at (c .before .is-sought .ensures)) (c .if1 .left)))
+loop-again c = let b = c .before .before .before in (
+  omega arith,
+  b .before .loop .inv .1 ∙ any-below _ _ _ (omega arith)
+      (told (rw (c .before .before .train-in .ensures) at (c .before .is-sought .ensures)) (c .if1 .left)),
+)
 
 returns-2 : tie.Need-returns-2 Inv-loop μ-loop
 unfolding anyOf

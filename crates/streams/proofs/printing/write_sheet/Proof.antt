@@ -14,7 +14,8 @@ array-share-prefix-text c =
     let at-panel-room = at-print .before .before in
     let entry = at-panel-room .before .before .before in
     let r = at-print .print in
-    bytes-counted (printed (lineOn (entry .args .sheet)) (now (entry .args .file))) (at-panel-room .panel-room .result) _ (r .ensures .0) (r .last .1 .1 .0) _ (at-n .n .given .1)
+    bytes-counted (printed (lineOn (entry .args .sheet)) (now (entry .args .file))) (at-panel-room .panel-room .result) _ (r .ensures .0)
+    (r .last .1 .1 .0) _ (at-n .n .given .1)
     (r .kept .1 .1 .0) .0
 
 slice-aggregate-write-whole : tie.Need-slice-aggregate-write-whole
@@ -24,7 +25,8 @@ slice-aggregate-write-whole c =
     let at-panel-room = at-print .before .before in
     let entry = at-panel-room .before .before .before in
     let r = at-print .print in
-    bytes-counted (printed (lineOn (entry .args .sheet)) (now (entry .args .file))) (at-panel-room .panel-room .result) _ (r .ensures .0) (r .last .1 .1 .0) _ (at-n .n .given .1)
+    bytes-counted (printed (lineOn (entry .args .sheet)) (now (entry .args .file))) (at-panel-room .panel-room .result) _ (r .ensures .0)
+    (r .last .1 .1 .0) _ (at-n .n .given .1)
     (r .kept .1 .1 .0) .1
 
 pub write-sheet-spec : {M : Type 1} → statement M
