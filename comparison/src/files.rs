@@ -5,6 +5,7 @@ pub mod reader;
 pub mod writer;
 
 use crate::report::{fail_if_any, Outcome};
+use reference::dayfile::SETTINGS_LENGTH;
 use reference::generate::{random_settings, Rng};
 use reference::settings::Settings;
 use reference::step::STEP_LENGTH;
@@ -45,6 +46,25 @@ impl Refusals {
         fail_if_any("NEVER SEEN", &missing.map(named).collect::<Vec<_>>())?;
         fail_if_any("NOT EXPECTED", &strange.map(named).collect::<Vec<_>>())
     }
+}
+
+/// The settings that lent bytes say; `None` for another length and for bytes that a reader refuses.
+pub fn settings_lent(bytes: &[u8]) -> Option<Settings> {
+    <[u8; SETTINGS_LENGTH]>::try_from(bytes)
+        .ok()
+        .and_then(Settings::decode)
+}
+
+/// Settings cut off or with bytes added, which are no settings.
+pub fn settings_of_other_lengths(rng: &mut Rng) -> Vec<Vec<u8>> {
+    let lengths = (0..=2 * SETTINGS_LENGTH).filter(|&length| length != SETTINGS_LENGTH);
+    lengths
+        .map(|length| {
+            let mut bytes = random_settings(rng).encode().to_vec();
+            bytes.resize(length, 0);
+            bytes
+        })
+        .collect()
 }
 
 /// Steps, settings and the trailer for their length, whatever they hold.

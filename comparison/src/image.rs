@@ -1,28 +1,49 @@
-//! The image of a section, 392 bytes, in which the proved engine takes and gives a state.
+//! The image of a section, 394 bytes, in which the proved engine takes and gives a state.
 
 use reference::generate::Rng;
 use reference::section::{Post, Section, Track, NO_REVERSAL};
 use reference::settings::Settings;
 
-pub const IMAGE_LENGTH: usize = 392;
-const TRACKS: [usize; 2] = [8, 200];
+pub const IMAGE_LENGTH: usize = 394;
+/// The layout's number, in the first two bytes.
+const LAYOUT: u16 = 1;
+const SETTINGS: usize = 2;
+const TRACKS: [usize; 2] = [10, 202];
 const TURN: usize = 2;
 const POSTS: usize = 4;
 const TRAINS: usize = 132;
 const LAST: usize = 162;
 const POST_LENGTH: usize = 8;
-/// The start permission of post 0 on track B.
-pub const PERMISSION_B_0: usize = TRACKS[1] + POSTS + 1;
 const ALL_FAULTS: u8 = 7;
 const GREATEST_ACT: u8 = 3;
 
 pub fn image_of(section: &Section) -> [u8; IMAGE_LENGTH] {
     let mut image = [0; IMAGE_LENGTH];
-    image[..8].copy_from_slice(&section.settings.encode());
+    put_layout(LAYOUT, &mut image);
+    image[SETTINGS..TRACKS[0]].copy_from_slice(&section.settings.encode());
     for (track, start) in section.tracks.iter().zip(TRACKS) {
         put_track(track, &mut image[start..]);
     }
     image
+}
+
+/// Makes an image one of another layout.
+pub fn put_other_layout(rng: &mut Rng, image: &mut [u8; IMAGE_LENGTH]) {
+    let number = match rng.below(3) {
+        0 => rng.pick(&[0, LAYOUT + 1, 1 << 8, LAYOUT | 1 << 8, u16::MAX]),
+        1 => LAYOUT ^ 1 << rng.below(16),
+        _ => LAYOUT.wrapping_add(1 + rng.below(u64::from(u16::MAX)) as u16),
+    };
+    put_layout(number, image);
+}
+
+fn put_layout(number: u16, image: &mut [u8; IMAGE_LENGTH]) {
+    image[..SETTINGS].copy_from_slice(&number.to_le_bytes());
+}
+
+/// n, as the image's settings say it; 0 for an image that is too short.
+pub fn posts_said(image: &[u8]) -> u8 {
+    image.get(SETTINGS).copied().unwrap_or(0)
 }
 
 fn put_track(track: &Track, image: &mut [u8]) {
@@ -60,17 +81,17 @@ fn put_trains(trains: &[u16], image: &mut [u8]) {
     }
 }
 
-/// `None` for a wrong length or a byte that stands for no value.
+/// `None` for a wrong length, another layout or a byte that stands for no value.
 pub fn section_of(image: &[u8]) -> Option<Section> {
-    if image.len() != IMAGE_LENGTH {
+    if image.len() != IMAGE_LENGTH || word(image) != LAYOUT {
         return None;
     }
     let tracks = TRACKS.map(|start| track_of(&image[start..]));
     let settings = Settings {
-        n: image[0],
-        form: image[1],
-        mask: word(&image[2..]),
-        line: word(&image[4..]),
+        n: image[SETTINGS],
+        form: image[SETTINGS + 1],
+        mask: word(&image[SETTINGS + 2..]),
+        line: word(&image[SETTINGS + 4..]),
     };
     tracks
         .iter()
@@ -148,7 +169,7 @@ pub fn make_representable(section: &mut Section) {
 
 /// Puts anything into the bytes that aren't looked at.
 pub fn fill_unread_bytes(rng: &mut Rng, image: &mut [u8; IMAGE_LENGTH]) {
-    let mut unread = vec![6, 7];
+    let mut unread = vec![SETTINGS + 6, SETTINGS + 7];
     for start in TRACKS {
         unread.push(start + 3);
         if image[start + 1] == NO_REVERSAL {
@@ -168,7 +189,10 @@ pub fn cell_name(place: usize) -> String {
         .zip(TRACKS)
         .rfind(|&(_, start)| place >= start)
     else {
-        return format!("settings byte {place}");
+        return match place.checked_sub(SETTINGS) {
+            Some(at) => format!("settings byte {at}"),
+            None => "layout's number".to_string(),
+        };
     };
     let cell = match place - start {
         at @ 0..POSTS => ["direction", "act", "turn", "zero byte"][at].to_string(),
@@ -211,14 +235,27 @@ mod tests {
     }
 
     #[test]
+    fn other_layouts_are_no_sections() {
+        let mut rng = Rng::new(2);
+        for _ in 0..2_000 {
+            let mut section = random_in_range_section(&mut rng);
+            make_representable(&mut section);
+            let mut image = image_of(&section);
+            put_other_layout(&mut rng, &mut image);
+            assert_eq!(section_of(&image), None);
+        }
+    }
+
+    #[test]
     fn names_of_cells() {
         for (place, name) in [
-            (4, "settings byte 4"),
-            (8, "track A direction"),
-            (202, "track B turn"),
-            (12 + 8 * 15 + 7, "track A post 15 seals"),
-            (200 + 132, "track B train of block section 0"),
-            (391, "track B last train of block section 14"),
+            (1, "layout's number"),
+            (6, "settings byte 4"),
+            (10, "track A direction"),
+            (204, "track B turn"),
+            (14 + 8 * 15 + 7, "track A post 15 seals"),
+            (202 + 132, "track B train of block section 0"),
+            (393, "track B last train of block section 14"),
         ] {
             assert_eq!(cell_name(place), name);
         }

@@ -31,6 +31,17 @@ impl Lent {
         &mut self.bytes[GUARD..end]
     }
 
+    /// The text at the front, where there is room; 1 + its length, or 0.
+    pub fn take_text(&mut self, text: &[u8]) -> u64 {
+        match self.part().get_mut(..text.len()) {
+            Some(front) => {
+                front.copy_from_slice(text);
+                1 + text.len() as u64
+            }
+            None => 0,
+        }
+    }
+
     pub fn content(&self) -> &[u8] {
         &self.bytes[GUARD..self.bytes.len() - GUARD]
     }

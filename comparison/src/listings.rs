@@ -86,13 +86,7 @@ impl Kind {
     fn compare(&self, file: &[u8], text: &[u8], room: usize) -> Outcome {
         let mut buffer = Lent::patterned(room);
         let mut expected = buffer.clone();
-        let answer = match expected.part().get_mut(..text.len()) {
-            Some(front) => {
-                front.copy_from_slice(text);
-                1 + text.len() as u64
-            }
-            None => 0,
-        };
+        let answer = expected.take_text(text);
         let input = || format!("file: {}\nbuffer: {room} bytes", hex(file));
         let proved = (self.proved)(file, buffer.part());
         same(

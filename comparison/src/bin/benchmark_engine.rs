@@ -38,10 +38,11 @@ fn time_day(run: &Run, settings: &Settings) -> Outcome {
     let steps = busy_day(&mut run.rng(6), settings);
     let mut notes = vec![0; room_for(&steps)];
     let mut expected = notes.clone();
-    second_notes(settings, &steps, &mut expected, judge_in_place);
+    let bytes = settings.encode();
+    second_notes(&bytes, &steps, &mut expected, judge_in_place);
     let input = || format!("{settings:?}, a busy day");
     for way in [Way::Singly, Way::InPlace] {
-        day(way, settings, &steps, &mut notes);
+        day(way, &bytes, &steps, &mut notes);
         same_bytes("the notes of a day", &notes, &expected, &input)?;
     }
     println!("{}", kinds_accepted(settings, &steps));
@@ -78,6 +79,7 @@ fn time_ways(
     way: Way,
     judge: impl Fn(&mut Section, &[u8]) -> (u8, u8) + Copy,
 ) -> Times {
+    let settings = &settings.encode();
     let mut notes = vec![0; room_for(steps)];
     let mut of_second = notes.clone();
     alternate(

@@ -41,7 +41,7 @@ fn longest_steps(rng: &mut Rng) -> Vec<u8> {
 /// Both write that file, and both read it.
 fn same_file(steps: &[u8], file: &[u8]) -> Outcome {
     let mut proved_file = vec![0; GREATEST_LENGTH];
-    proved::files::write(&SETTINGS, steps, &mut proved_file);
+    proved::files::write(&SETTINGS.encode(), steps, &mut proved_file);
     let input = || format!("{SETTINGS:?}, {MOST_STEPS} steps");
     same_bytes("the longest file", &proved_file, file, &input)?;
     let count = dayfile::read(file).map_or(0, |day| day.count as u32);
@@ -64,13 +64,14 @@ fn time_reading(run: &Run, file: &[u8]) -> Times {
 
 fn time_writing(run: &Run, steps: &[u8]) -> Times {
     let settings = black_box(SETTINGS);
+    let bytes = settings.encode();
     let mut proved_file = vec![0; GREATEST_LENGTH];
     let mut second_file = vec![0; GREATEST_LENGTH];
     alternate(
         run.times,
         CALLS,
         || {
-            proved::files::write(&settings, black_box(steps), &mut proved_file);
+            proved::files::write(&bytes, black_box(steps), &mut proved_file);
             black_box(&proved_file);
         },
         || {

@@ -4,8 +4,9 @@ use super::judging::Both;
 use super::notes::{room_for, second_notes};
 use super::offers::offer;
 use super::tally::Tally;
-use crate::files::bounds::settings_at_bounds;
-use crate::image::{image_of, IMAGE_LENGTH, PERMISSION_B_0};
+use crate::files::bounds::settings_bytes_at_bounds;
+use crate::files::{settings_lent, settings_of_other_lengths, sound_step};
+use crate::image::{image_of, IMAGE_LENGTH};
 use crate::lent::{same_buffers, Lent};
 use crate::proved::{self, engine::Way};
 use crate::report::{hex, same, Comparison, Failure, Outcome};
@@ -18,6 +19,7 @@ use reference::step::{encode, Step, STEP_LENGTH};
 const DAYS: u32 = 800;
 const MOST_STEPS_OF_DAY: u64 = 500;
 const BUFFER_TOO_SHORT: u8 = 5;
+const OUT_OF_RANGE: u8 = 6;
 
 pub struct DayComparison {
     rng: Rng,
@@ -53,17 +55,24 @@ impl Comparison for DayComparison {
 }
 
 impl DayComparison {
-    /// Settings in and out of range, and a step on each, which is refused 6 for the latter.
+    /// Settings in and out of range, and of other lengths.
     fn fresh_at_bounds(&mut self) -> Outcome {
-        for settings in settings_at_bounds() {
-            for room in [0, IMAGE_LENGTH - 1, IMAGE_LENGTH + 1, IMAGE_LENGTH + 40] {
-                self.fresh(&settings, room)?;
-            }
-            let mut day = self.begin(settings)?;
-            self.take_any_step(&mut day)?;
-            self.same_notes(&day)?;
+        for settings in settings_bytes_at_bounds() {
+            self.fresh_and_noted(&settings)?;
+        }
+        for settings in settings_of_other_lengths(&mut self.rng) {
+            self.fresh_and_noted(&settings)?;
         }
         Ok(())
+    }
+
+    /// The fresh section in buffers of several lengths, and the notes of a day of one step.
+    fn fresh_and_noted(&mut self, settings: &[u8]) -> Outcome {
+        for room in [0, IMAGE_LENGTH - 1, IMAGE_LENGTH, IMAGE_LENGTH + 40] {
+            self.fresh(settings, room)?;
+        }
+        let step = sound_step(&mut self.rng, 2);
+        self.same_notes(settings, &step)
     }
 
     fn random_day(&mut self) -> Outcome {
@@ -74,7 +83,7 @@ impl DayComparison {
         }
         let rest = self.rng.below(STEP_LENGTH as u64) as usize;
         day.steps.extend(vec![0; rest]);
-        self.same_notes(&day)
+        self.same_notes(&settings.encode(), &day.steps)
     }
 
     /// Reversals there and back by the emergency button, until its seals are used up.
@@ -97,12 +106,11 @@ impl DayComparison {
                 self.take(&mut day, &encode(track, &step))?;
             }
         }
-        self.same_notes(&day)
+        self.same_notes(&settings.encode(), &day.steps)
     }
 
     /// The proved notes of the whole day, both ways, against the steps judged one by one, in a buffer as long, longer and too short.
-    fn same_notes(&mut self, day: &Day) -> Outcome {
-        let (settings, steps) = (&day.settings, &day.steps);
+    fn same_notes(&mut self, settings: &[u8], steps: &[u8]) -> Outcome {
         let exact = room_for(steps);
         for room in [exact, exact + 9, exact.saturating_sub(1)] {
             let lent = Lent::patterned(room);
@@ -110,7 +118,10 @@ impl DayComparison {
             let second = second_notes(settings, steps, expected.part(), judge_in_place);
             for way in [Way::Singly, Way::InPlace] {
                 let mut notes = lent.clone();
-                let input = || format!("{settings:?}, {way:?}, room {room}\nsteps: {}", hex(steps));
+                let input = || {
+                    let (settings, steps) = (hex(settings), hex(steps));
+                    format!("settings: {settings}, {way:?}, room {room}\nsteps: {steps}")
+                };
                 let proved = proved::engine::day(way, settings, steps, notes.part());
                 same("the answer to a day's steps", proved, second, &input)?;
                 same_buffers("the notes of a day", &notes, &expected, &input)?;
@@ -121,23 +132,20 @@ impl DayComparison {
     }
 
     /// The fresh section in a buffer, compared.
-    fn fresh(&mut self, settings: &Settings, room: usize) -> Result<Lent, Failure> {
+    fn fresh(&mut self, settings: &[u8], room: usize) -> Result<Lent, Failure> {
         let mut image = Lent::patterned(room);
         let mut expected = image.clone();
-        let input = || format!("{settings:?}\nbuffer: {room} bytes");
+        let input = || format!("settings: {}\nbuffer: {room} bytes", hex(settings));
         let proved = proved::engine::fresh(settings, image.part());
         let second = second_fresh(settings, expected.part());
         same("the answer to fresh", proved, second, &input)?;
-        if settings.n == 0 && second == 0 {
-            leave_open_without_posts(&mut image, &mut expected);
-        }
         same_buffers("the fresh section's image", &image, &expected, &input)?;
         self.fresh_sections += 1;
         Ok(image)
     }
 
     fn begin(&mut self, settings: Settings) -> Result<Day, Failure> {
-        let image = self.fresh(&settings, IMAGE_LENGTH)?;
+        let image = self.fresh(&settings.encode(), IMAGE_LENGTH)?;
         Ok(Day {
             settings,
             both: Both {
@@ -163,23 +171,16 @@ impl DayComparison {
     }
 }
 
-fn second_fresh(settings: &Settings, buffer: &mut [u8]) -> u8 {
+fn second_fresh(settings: &[u8], buffer: &mut [u8]) -> u8 {
+    let Some(settings) = settings_lent(settings) else {
+        return OUT_OF_RANGE;
+    };
     match buffer.get_mut(..IMAGE_LENGTH) {
         Some(front) => {
-            front.copy_from_slice(&image_of(&Section::fresh(*settings)));
+            front.copy_from_slice(&image_of(&Section::fresh(settings)));
             0
         }
         None => BUFFER_TOO_SHORT,
-    }
-}
-
-/// With no posts, which one is the sending end of B is left open, and so is the permission of its post 0.
-fn leave_open_without_posts(proved: &mut Lent, second: &mut Lent) {
-    for image in [proved, second] {
-        let permission = &mut image.part()[PERMISSION_B_0];
-        if *permission == 1 {
-            *permission = 0;
-        }
     }
 }
 

@@ -1,7 +1,7 @@
 //! One step judged by both engines, and what all posts show after it.
 
 use crate::engine::tally::Tally;
-use crate::image::{cell_name, image_of};
+use crate::image::{cell_name, image_of, posts_said};
 use crate::lent::{same_buffers, Lent};
 use crate::proved;
 use crate::report::{hex, same, Failure, Outcome};
@@ -62,7 +62,7 @@ impl Both {
 
     /// Every post and one past, on each track and one past, and any other pair.
     fn compare_indications(&self, rng: &mut Rng, input: &dyn Fn() -> String) -> Outcome {
-        let n = self.image.content().first().copied().unwrap_or(0);
+        let n = posts_said(self.image.content());
         for track in 0..=2 {
             for post in 0..=n {
                 self.same_indications(track, post, input)?;

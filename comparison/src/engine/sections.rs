@@ -3,7 +3,8 @@
 use super::judging::Both;
 use super::offers::offer;
 use super::tally::Tally;
-use crate::image::{fill_unread_bytes, image_of, make_representable, section_of, IMAGE_LENGTH};
+use crate::image::{fill_unread_bytes, image_of, make_representable, put_other_layout};
+use crate::image::{section_of, IMAGE_LENGTH};
 use crate::lent::Lent;
 use crate::report::{Comparison, Outcome};
 use reference::generate::{put_out_of_range, random_in_range_section, Rng};
@@ -13,6 +14,7 @@ const IN_RANGE: u32 = 150_000;
 const OUT_OF_RANGE: u32 = 10_000;
 const CHANGED: u32 = 20_000;
 const OTHER_LENGTHS: u32 = 500;
+const OTHER_LAYOUTS: u32 = 5_000;
 
 pub struct SectionComparison {
     rng: Rng,
@@ -42,6 +44,9 @@ impl Comparison for SectionComparison {
         }
         for _ in 0..OTHER_LENGTHS {
             self.image_of_other_length()?;
+        }
+        for _ in 0..OTHER_LAYOUTS {
+            self.image_of_other_layout()?;
         }
         Ok(())
     }
@@ -95,6 +100,14 @@ impl SectionComparison {
             _ => IMAGE_LENGTH + 1 + self.rng.below(20) as usize,
         };
         image.resize(length, 0);
+        self.compare(&image, &section)
+    }
+
+    /// In range but for the layout's number.
+    fn image_of_other_layout(&mut self) -> Outcome {
+        let section = self.section_in_range();
+        let mut image = image_of(&section);
+        put_other_layout(&mut self.rng, &mut image);
         self.compare(&image, &section)
     }
 

@@ -22,7 +22,6 @@ const KINDS: [&str; 14] = [
 ];
 
 const SAID: [&str; 5] = ["nothing", "CVT", "CVTz", "VNS", "VNSz"];
-const FROM_INPUT: [u8; 2] = [4, 6];
 const ANSWERS: [u8; 14] = [0, 4, 6, 11, 12, 13, 14, 15, 16, 17, 18, 19, 20, 21];
 
 #[derive(Default)]
@@ -71,15 +70,16 @@ impl Tally {
         println!();
     }
 
-    /// Every answer of the table came up, and for each kind none that isn't in its row.
-    pub fn fits_table(&self, part: &str) -> Outcome {
+    /// Every answer of the table and each of these refusals from the input came up, and for each kind none that is neither in its row nor one of
+    /// these.
+    pub fn fits_table(&self, part: &str, from_input: &[u8]) -> Outcome {
         let missing = [
-            self.all_kinds(Tally::missing_answers),
-            self.missing_refusals(),
+            self.all_kinds(|tally, kind| tally.missing_answers(kind)),
+            self.missing_refusals(from_input),
             self.missing_words(),
         ];
         fail_if_any(&format!("NEVER SEEN, {part}"), &missing.concat())?;
-        let strange = self.all_kinds(Tally::strange_answers);
+        let strange = self.all_kinds(|tally, kind| tally.strange_answers(kind, from_input));
         fail_if_any(&format!("NOT IN THE TABLE, {part}"), &strange)
     }
 
@@ -95,19 +95,19 @@ impl Tally {
             .collect()
     }
 
-    fn strange_answers(&self, kind: usize) -> Vec<String> {
+    fn strange_answers(&self, kind: usize, from_input: &[u8]) -> Vec<String> {
         (0..=21)
             .filter(|answer| !ANSWERS_BY_KIND[kind].contains(answer))
-            .filter(|answer| !FROM_INPUT.contains(answer))
+            .filter(|answer| !from_input.contains(answer))
             .filter(|&answer| self.answers[kind][usize::from(answer)] > 0)
             .map(|answer| format!("{} answered {answer}", KINDS[kind]))
             .collect()
     }
 
-    fn missing_refusals(&self) -> Vec<String> {
-        FROM_INPUT
-            .into_iter()
-            .filter(|&refusal| self.given(refusal) == 0)
+    fn missing_refusals(&self, from_input: &[u8]) -> Vec<String> {
+        from_input
+            .iter()
+            .filter(|&&refusal| self.given(refusal) == 0)
             .map(|refusal| format!("refusal {refusal}"))
             .collect()
     }

@@ -13,7 +13,7 @@ const FAULTS: [u8; 6] = [0, 1, 2, 3, 4, 255];
 const NUMBERS: [u16; 6] = [0, 1, 256, 9_999, 10_000, 65_535];
 
 /// All combinations.
-pub fn settings_at_bounds() -> Vec<Settings> {
+fn settings_at_bounds() -> Vec<Settings> {
     let mut all = Vec::new();
     for n in COUNTS_OF_POSTS {
         for mask in masks_for(n) {

@@ -4,22 +4,24 @@ use super::bounds::{settings_bytes_at_bounds, steps_at_bounds};
 use super::{
     any_steps, day_around, day_file, random_bytes, right_numbers, sound_steps, trailer, Refusals,
 };
+use crate::lent::{same_buffers, Lent};
 use crate::proved;
 use crate::report::{hex, same, Comparison, Outcome};
-use reference::dayfile::{self, MOST_STEPS, TAIL_LENGTH, TRAILER_LENGTH};
+use reference::dayfile::{self, MOST_STEPS, SETTINGS_LENGTH, TAIL_LENGTH, TRAILER_LENGTH};
 use reference::generate::{damage, random_day, random_settings, Rng};
-use reference::settings::Settings;
 use reference::step::STEP_LENGTH;
 
 /// Counts of steps whose part of the file is asked for, whatever the file holds.
 const COUNTS_ASKED: [u64; 12] = [0, 1, 2, 3, 4, 5, 6, 4_096, 4_099, 4_100, 1 << 61, u64::MAX];
+
+/// Lengths of buffers for the settings.
+const ROOMS: [usize; 6] = [8, 8, 9, 20, 7, 0];
 
 /// What a reader answers and hands back.
 #[derive(Debug, PartialEq)]
 struct Reading {
     refusal: u32,
     count_or_index: u32,
-    packed_settings: u64,
     steps_length: u64,
 }
 
@@ -57,6 +59,7 @@ impl ReaderComparison {
         let input = || format!("file: {}", hex(file));
         same("the reader's answer", proved, second, &input)?;
         self.seen.count(refusal);
+        same_settings(file, self.rng.pick(&ROOMS), &input)?;
         let count = self.rng.pick(&COUNTS_ASKED);
         same(
             "the length of the steps' part",
@@ -241,7 +244,6 @@ fn proved_reading(file: &[u8]) -> Reading {
     Reading {
         refusal,
         count_or_index,
-        packed_settings: proved::files::settings(file),
         steps_length: proved::files::steps_length(file, u64::from(count)),
     }
 }
@@ -251,23 +253,26 @@ fn second_reading(file: &[u8]) -> Reading {
         Ok(day) => Reading {
             refusal: 0,
             count_or_index: day.count as u32,
-            packed_settings: packed(&day.settings),
             steps_length: day.steps.len() as u64,
         },
         Err(refusal) => Reading {
             refusal: u32::from(refusal.number),
             count_or_index: refusal.index,
-            packed_settings: 0,
             steps_length: 0,
         },
     }
 }
 
-fn packed(settings: &Settings) -> u64 {
-    u64::from(settings.n)
-        | u64::from(settings.form) << 8
-        | u64::from(settings.mask) << 16
-        | u64::from(settings.line) << 32
+/// The settings' bytes, zeros for a refused file, in a buffer of so many bytes.
+fn same_settings(file: &[u8], room: usize, input: &dyn Fn() -> String) -> Outcome {
+    let settings = dayfile::read(file).map_or([0; SETTINGS_LENGTH], |day| day.settings.encode());
+    let mut buffer = Lent::patterned(room);
+    let mut expected = buffer.clone();
+    let answer = expected.take_text(&settings);
+    let proved = proved::files::settings(file, buffer.part());
+    let input = || format!("{}\nbuffer: {room} bytes", input());
+    same("the answer to settings", proved, answer, &input)?;
+    same_buffers("the buffer of settings", &buffer, &expected, &input)
 }
 
 /// The empty part where the file is shorter.

@@ -1,14 +1,16 @@
 //! Settings, steps and buffers offered to both writers.
 
-use super::bounds::{settings_at_bounds, steps_at_bounds};
-use super::{any_steps, day_around, random_bytes, sound_step, sound_steps, Refusals};
+use super::bounds::{settings_bytes_at_bounds, steps_at_bounds};
+use super::{any_steps, day_around, random_bytes, sound_step, sound_steps};
+use super::{settings_lent, settings_of_other_lengths, Refusals};
 use crate::lent::{same_buffers, Lent};
 use crate::proved;
 use crate::report::{hex, same, Comparison, Outcome};
 use reference::dayfile::{self, MOST_STEPS, TAIL_LENGTH};
 use reference::generate::{random_settings, Rng};
-use reference::settings::Settings;
 use reference::step::STEP_LENGTH;
+
+const SETTINGS_REFUSED: u64 = 3;
 
 pub struct WriterComparison {
     rng: Rng,
@@ -35,12 +37,15 @@ impl Comparison for WriterComparison {
 
 impl WriterComparison {
     /// With the answer, the whole buffer is compared, refused calls included.
-    fn compare(&mut self, settings: &Settings, steps: &[u8], room: usize) -> Outcome {
+    fn compare(&mut self, settings: &[u8], steps: &[u8], room: usize) -> Outcome {
         let mut proved_buffer = Lent::patterned(room);
         let mut second_buffer = proved_buffer.clone();
         let proved = proved::files::write(settings, steps, proved_buffer.part());
         let second = second_writing(settings, steps, second_buffer.part());
-        let input = || format!("{settings:?}\nsteps: {}\nbuffer: {room} bytes", hex(steps));
+        let input = || {
+            let (settings, steps) = (hex(settings), hex(steps));
+            format!("settings: {settings}\nsteps: {steps}\nbuffer: {room} bytes")
+        };
         same("the writer's answer", proved, second, &input)?;
         same_buffers(
             "the writer's buffer",
@@ -53,7 +58,7 @@ impl WriterComparison {
     }
 
     /// With room for the file, more or less.
-    fn compare_in_some_room(&mut self, settings: &Settings, steps: &[u8]) -> Outcome {
+    fn compare_in_some_room(&mut self, settings: &[u8], steps: &[u8]) -> Outcome {
         let length = steps.len() + TAIL_LENGTH;
         let room = match self.rng.below(8) {
             0 => length - 1,
@@ -67,9 +72,13 @@ impl WriterComparison {
 
     /// With steps that may be malformed and buffers that may be short, so that 3 comes before 4 and 5.
     fn settings_at_bounds(&mut self) -> Outcome {
-        for settings in settings_at_bounds() {
-            for _ in 0..4 {
-                let steps = any_steps(&mut self.rng, settings.n.max(1));
+        for settings in settings_bytes_at_bounds() {
+            let steps = any_steps(&mut self.rng, settings[0].max(1));
+            self.compare_in_some_room(&settings, &steps)?;
+        }
+        for _ in 0..100 {
+            for settings in settings_of_other_lengths(&mut self.rng) {
+                let steps = any_steps(&mut self.rng, 2);
                 self.compare_in_some_room(&settings, &steps)?;
             }
         }
@@ -80,7 +89,7 @@ impl WriterComparison {
     fn steps_at_bounds(&mut self) -> Outcome {
         for (n, step) in steps_at_bounds() {
             let (settings, steps) = day_around(&mut self.rng, n, step);
-            self.compare_in_some_room(&settings, &steps)?;
+            self.compare_in_some_room(&settings.encode(), &steps)?;
         }
         Ok(())
     }
@@ -92,7 +101,7 @@ impl WriterComparison {
                 let settings = random_settings(&mut self.rng);
                 let steps = sound_steps(&mut self.rng, settings.n, count, count);
                 for room in 0..=steps.len() + TAIL_LENGTH + 9 {
-                    self.compare(&settings, &steps, room)?;
+                    self.compare(&settings.encode(), &steps, room)?;
                 }
             }
         }
@@ -112,7 +121,7 @@ impl WriterComparison {
                     };
                     steps.extend(&last[..rest]);
                     for room in [0, whole * STEP_LENGTH + TAIL_LENGTH, 100] {
-                        self.compare(&settings, &steps, room)?;
+                        self.compare(&settings.encode(), &steps, room)?;
                     }
                 }
             }
@@ -124,9 +133,9 @@ impl WriterComparison {
         for _ in 0..20_000 {
             let settings = random_settings(&mut self.rng);
             let steps = any_steps(&mut self.rng, settings.n);
-            self.compare_in_some_room(&settings, &steps)?;
+            self.compare_in_some_room(&settings.encode(), &steps)?;
             let steps = random_bytes(&mut self.rng, 40);
-            self.compare_in_some_room(&settings, &steps)?;
+            self.compare_in_some_room(&settings.encode(), &steps)?;
         }
         Ok(())
     }
@@ -138,20 +147,20 @@ impl WriterComparison {
             let steps = sound_steps(&mut self.rng, settings.n, count + 1, count + 1);
             for rest in [0, 1, 7] {
                 let given = &steps[..count * STEP_LENGTH + rest];
-                self.long_file(&settings, given)?;
+                self.long_file(&settings.encode(), given)?;
                 for index in [0, MOST_STEPS - 2, MOST_STEPS, count - 1] {
                     let mut spoiled = given.to_vec();
                     if let Some(kind) = spoiled.get_mut(index * STEP_LENGTH) {
                         *kind = 0;
                     }
-                    self.long_file(&settings, &spoiled)?;
+                    self.long_file(&settings.encode(), &spoiled)?;
                 }
             }
         }
         Ok(())
     }
 
-    fn long_file(&mut self, settings: &Settings, steps: &[u8]) -> Outcome {
+    fn long_file(&mut self, settings: &[u8], steps: &[u8]) -> Outcome {
         let length = steps.len() + TAIL_LENGTH;
         for room in [0, length - 1, length, length + 1, length + 9, 40_000] {
             self.compare(settings, steps, room)?;
@@ -160,8 +169,12 @@ impl WriterComparison {
     }
 }
 
-fn second_writing(settings: &Settings, steps: &[u8], buffer: &mut [u8]) -> (u64, u64) {
-    match dayfile::write(settings, steps, buffer) {
+/// Bytes that are no settings are refused as settings out of range.
+fn second_writing(settings: &[u8], steps: &[u8], buffer: &mut [u8]) -> (u64, u64) {
+    let Some(settings) = settings_lent(settings) else {
+        return (SETTINGS_REFUSED, 0);
+    };
+    match dayfile::write(&settings, steps, buffer) {
         Ok(length) => (0, length as u64),
         Err(refusal) => (u64::from(refusal.number), u64::from(refusal.index)),
     }

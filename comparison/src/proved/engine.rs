@@ -1,27 +1,25 @@
 //! The engine, over images of sections.
 
-use super::arguments;
-use reference::settings::Settings;
-
 extern "C" {
-    fn bsr_fresh(n: u8, form: u8, mask: u16, line: u16, image: *mut u8, image_length: usize) -> u8;
+    fn bsr_fresh(
+        settings: *const u8,
+        settings_length: usize,
+        image: *mut u8,
+        image_length: usize,
+    ) -> u8;
     fn bsr_judge(image: *mut u8, image_length: usize, step: *const u8, step_length: usize) -> u16;
     fn bsr_indications(image: *const u8, image_length: usize, track: u8, post: u8) -> u16;
     fn bsr_day(
-        n: u8,
-        form: u8,
-        mask: u16,
-        line: u16,
+        settings: *const u8,
+        settings_length: usize,
         steps: *const u8,
         steps_length: usize,
         notes: *mut u8,
         notes_length: usize,
     ) -> u8;
     fn bsr_day_singly(
-        n: u8,
-        form: u8,
-        mask: u16,
-        line: u16,
+        settings: *const u8,
+        settings_length: usize,
         steps: *const u8,
         steps_length: usize,
         notes: *mut u8,
@@ -29,10 +27,16 @@ extern "C" {
     ) -> u8;
 }
 
-/// 0, or 5 for a buffer too short.
-pub fn fresh(settings: &Settings, image: &mut [u8]) -> u8 {
-    let (n, form, mask, line) = arguments(settings);
-    unsafe { bsr_fresh(n, form, mask, line, image.as_mut_ptr(), image.len()) }
+/// 0, or 6 for bytes that are no settings, or 5 for a buffer too short.
+pub fn fresh(settings: &[u8], image: &mut [u8]) -> u8 {
+    unsafe {
+        bsr_fresh(
+            settings.as_ptr(),
+            settings.len(),
+            image.as_mut_ptr(),
+            image.len(),
+        )
+    }
 }
 
 /// The refusal (0 for none) and what is said.
@@ -57,18 +61,15 @@ pub enum Way {
 }
 
 /// Notes the whole steps, offered one after another from fresh; 0 or a refusal.
-pub fn day(way: Way, settings: &Settings, steps: &[u8], notes: &mut [u8]) -> u8 {
-    let (n, form, mask, line) = arguments(settings);
+pub fn day(way: Way, settings: &[u8], steps: &[u8], notes: &mut [u8]) -> u8 {
     let noting = match way {
         Way::Singly => bsr_day_singly,
         Way::InPlace => bsr_day,
     };
     unsafe {
         noting(
-            n,
-            form,
-            mask,
-            line,
+            settings.as_ptr(),
+            settings.len(),
             steps.as_ptr(),
             steps.len(),
             notes.as_mut_ptr(),

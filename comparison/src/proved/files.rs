@@ -1,17 +1,17 @@
 //! Reader and writer of day files.
 
-use super::arguments;
-use reference::settings::Settings;
-
 extern "C" {
     fn bsr_read(file: *const u8, file_length: usize) -> u32;
-    fn bsr_settings(file: *const u8, file_length: usize) -> u64;
+    fn bsr_settings(
+        file: *const u8,
+        file_length: usize,
+        buffer: *mut u8,
+        buffer_length: usize,
+    ) -> u64;
     fn bsr_steps_length(file: *const u8, file_length: usize, count: u64) -> u64;
     fn bsr_write(
-        n: u8,
-        form: u8,
-        mask: u16,
-        line: u16,
+        settings: *const u8,
+        settings_length: usize,
         steps: *const u8,
         steps_length: usize,
         buffer: *mut u8,
@@ -25,9 +25,9 @@ pub fn read(file: &[u8]) -> (u32, u32) {
     (answer >> 16, answer & 0xffff)
 }
 
-/// n + form × 2^8 + mask × 2^16 + line × 2^32; 0 for a refused file.
-pub fn settings(file: &[u8]) -> u64 {
-    unsafe { bsr_settings(file.as_ptr(), file.len()) }
+/// 1 + the length of the settings, which are zeros for a refused file; 0 for a buffer too short.
+pub fn settings(file: &[u8], buffer: &mut [u8]) -> u64 {
+    unsafe { bsr_settings(file.as_ptr(), file.len(), buffer.as_mut_ptr(), buffer.len()) }
 }
 
 /// The length of the part that holds so many steps.
@@ -36,14 +36,11 @@ pub fn steps_length(file: &[u8], count: u64) -> u64 {
 }
 
 /// The refusal, and the length written (refusal 0) or the index.
-pub fn write(settings: &Settings, steps: &[u8], buffer: &mut [u8]) -> (u64, u64) {
-    let (n, form, mask, line) = arguments(settings);
+pub fn write(settings: &[u8], steps: &[u8], buffer: &mut [u8]) -> (u64, u64) {
     let answer = unsafe {
         bsr_write(
-            n,
-            form,
-            mask,
-            line,
+            settings.as_ptr(),
+            settings.len(),
             steps.as_ptr(),
             steps.len(),
             buffer.as_mut_ptr(),

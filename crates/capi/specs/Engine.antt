@@ -4,7 +4,6 @@ use mathlib.Core.Bool.{cond}
 use mathlib.Core.List.{List}
 use lib.ListN.{length}
 use lib.Dec.{ltb}
-use Rattle.section.specs.declared.Settings.{Settings}
 use Rattle.section.specs.declared.Verdict.{Verdict}
 use Rattle.section.specs.declared.Verdict.the-variants.{Accepted, Refused}
 use Rattle.section.specs.Fresh.{freshSection}
@@ -12,18 +11,23 @@ use Rattle.section.specs.Words.{refusalOf, saidBy, saidNumber}
 use Rattle.rules.specs.Indications.{indications}
 use Rattle.rules.specs.Judge.{judge}
 use Rattle.text.specs.Text.{written}
+use Rattle.layout.specs.Layout.{settingsOf}
 use Rattle.packed.specs.Packed.{packedIndications}
-use Rattle.image.specs.Image.{imageLength, imageOf, imageRight, sectionOf}
+use Rattle.packed.specs.Settings.{lentSettingsWellFormed}
+use Rattle.image.specs.Image.{imageLength, imageOf, imageWellFormed, sectionOf}
 
 -- ## The fresh section
 
--- 5: "buffer is too short", by its length
-unfoldable pub freshAnswer : ℕ → ℕ
-freshAnswer room = cond (ltb room imageLength) 5 0
+-- 6 for bytes that are no settings, as for a state with settings out of range; then 5: "buffer is too short"
+unfoldable pub freshAnswer : List ℕ → ℕ → ℕ
+freshAnswer settings room = cond (lentSettingsWellFormed settings) (cond (ltb room imageLength) 5 0) 6
 
--- the fresh section's image at the buffer's front; a buffer too short is untouched
-unfoldable pub freshImage : Settings → List ℕ → List ℕ
-freshImage c buffer = cond (ltb (length buffer) imageLength) buffer (written buffer 0 (imageOf (freshSection c)))
+-- the fresh section's image at the buffer's front; a refused call leaves it untouched
+unfoldable pub freshImage : List ℕ → List ℕ → List ℕ
+freshImage settings buffer =
+    cond (lentSettingsWellFormed settings)
+    (cond (ltb (length buffer) imageLength) buffer (written buffer 0 (imageOf (freshSection (settingsOf settings)))))
+    buffer
 
 -- ## A step judged
 
@@ -33,7 +37,7 @@ packedVerdict v = refusalOf v + saidNumber (saidBy v) * 256
 
 -- bytes that are no section's image give 6
 unfoldable pub judgeAnswer : List ℕ → List ℕ → ℕ
-judgeAnswer image step = cond (imageRight image) (packedVerdict (judge (sectionOf image) step .verdict)) 6
+judgeAnswer image step = cond (imageWellFormed image) (packedVerdict (judge (sectionOf image) step .verdict)) 6
 
 -- the old bytes or the new: "written back only when accepted"
 unfoldable pub writtenBack : Verdict → List ℕ → List ℕ → List ℕ
@@ -42,10 +46,10 @@ writtenBack (Refused k) old new = old
 
 unfoldable pub judgeImage : List ℕ → List ℕ → List ℕ
 judgeImage image step =
-    cond (imageRight image) (writtenBack (judge (sectionOf image) step .verdict) image (imageOf (judge (sectionOf image) step .section))) image
+    cond (imageWellFormed image) (writtenBack (judge (sectionOf image) step .verdict) image (imageOf (judge (sectionOf image) step .section))) image
 
 -- ## What a post shows
 
 -- bytes that are no section's image give 0
 unfoldable pub shownOf : List ℕ → ℕ → ℕ → ℕ
-shownOf image track post = cond (imageRight image) (packedIndications (indications (sectionOf image) track post)) 0
+shownOf image track post = cond (imageWellFormed image) (packedIndications (indications (sectionOf image) track post)) 0

@@ -1,1 +1,2 @@
+pub mod DayFiles
 pub mod Engine

@@ -1,59 +1,6 @@
-// The C interface to the engine, over a section's image: for the comparison with a second implementation.
-// It is not stable: names, packed numbers and the image's layout may change with any delivery.
-ghost use mathlib.Core.Path.{_≡_};
-ghost use lib.ListN.{length};
-ghost use Rattle.capi.specs.Engine.{freshAnswer, freshImage, judgeAnswer, judgeImage, shownOf};
-ghost use Rattle.packed.specs.Settings.{settingsGiven};
-use image::IMAGE_LENGTH;
-use notes::said_number;
-use packed::packed_indications;
-use packed::settings_given;
-use section::Verdict;
+// The C interface, over lent bytes: day files, the engine over a section's image, listing and panel. For the comparison with a second
+// implementation and for test rigs. It is not stable: names, packed numbers and the image's layout may change with any delivery.
 
-// What bytes that are no section's image give, as a state out of range does.
-const NO_IMAGE: u16 = 6;
-
-// The fresh section's image, at the front of the buffer.
-#[no_mangle]
-pub extern "C" fn bsr_fresh(n: u8, form: u8, mask: u16, line: u16, buffer: &mut [u8]) -> u8
-    ensures { λ r. ⌜ r ≡ freshAnswer (length (now (buffer .entry))) ⌝ }
-    ensures { λ _. ⌜ now (buffer .exit) ≡ freshImage (settingsGiven n form mask line) (now (buffer .entry)) ⌝ }
-{
-    if buffer.len() < IMAGE_LENGTH {
-        return 5;
-    }
-    image_writer::put_image(buffer, section::fresh(settings_given(n, form, mask, line)));
-    0
-}
-
-// Judges a step. The image is written back only when the step is accepted.
-#[no_mangle]
-pub extern "C" fn bsr_judge(bytes: &mut [u8], step: &[u8]) -> u16
-    ensures { λ r. ⌜ r ≡ judgeAnswer (now (bytes .entry)) (now (step .entry)) ⌝ }
-    ensures { λ _. ⌜ now (bytes .exit) ≡ judgeImage (now (bytes .entry)) (now (step .entry)) ⌝ }
-{
-    if !image::image_right(bytes) {
-        return NO_IMAGE;
-    }
-    let answer = engine::judge(image_reader::section_of(bytes), step);
-    let verdict = answer.verdict;
-    match verdict {
-        Verdict::Accepted(said) => {
-            let after = answer.section;
-            image_writer::put_image(bytes, after);
-            (said_number(said) as u16) * 256
-        }
-        Verdict::Refused(number) => number as u16,
-    }
-}
-
-// What a post shows on a track.
-#[no_mangle]
-pub extern "C" fn bsr_indications(bytes: &[u8], track: u8, post: u8) -> u16
-    ensures { λ r. ⌜ r ≡ shownOf (now (bytes .entry)) track post ⌝ }
-{
-    if !image::image_right(bytes) {
-        return 0;
-    }
-    packed_indications(engine::indications(image_reader::section_of(bytes), track, post))
-}
+pub mod day_files;
+pub mod listings;
+pub mod section_images;

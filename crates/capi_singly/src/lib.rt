@@ -8,15 +8,16 @@ ghost use Rattle.text.specs.Text.{written};
 ghost use Rattle.notes.specs.Note.{noteLength, note};
 ghost use Rattle.whole_day.specs.Notes.{notesOf};
 ghost use Rattle.capi_day.specs.Day.{dayAnswer, dayNotes};
-ghost use Rattle.packed.specs.Settings.{settingsGiven};
-use capi_day::day_refusal;
+use capi_day::NO_SETTINGS;
+use capi_day::TOO_SHORT;
+use layout::step_at;
 use notes::NOTE_LENGTH;
-use notes::letter;
 use notes::put_note;
-use packed::settings_given;
+use packed::lent_settings_well_formed;
 use section::Answer;
 use section::STEP_LENGTH;
 use section::Settings;
+use section::words::letter;
 use whole_day::can_be_noted;
 
 // Writes the note of an answer.
@@ -47,8 +48,7 @@ fn note_singly(c: Settings, steps: &[u8], count: usize, notes: &mut [u8])
     let mut state = section::fresh(c);
     let mut i: usize = 0;
     while i < count {
-        let start = i * STEP_LENGTH;
-        let answer = engine::judge(state, &steps[start..start + STEP_LENGTH]);
+        let answer = engine::judge(state, step_at(steps, i));
         state = answer.section;
         put_answer(notes, i * NOTE_LENGTH, answer);
         i += 1;
@@ -57,21 +57,17 @@ fn note_singly(c: Settings, steps: &[u8], count: usize, notes: &mut [u8])
 
 // What `bsr_day` does, the ranges tested at each step.
 #[no_mangle]
-pub extern "C" fn bsr_day_singly(
-    n: u8,
-    form: u8,
-    mask: u16,
-    line: u16,
-    steps: &[u8],
-    buffer: &mut [u8],
-) -> u8
-    ensures { λ r. ⌜ r ≡ dayAnswer (settingsGiven n form mask line) (now (steps .entry)) (length (now (buffer .entry))) ⌝ }
-    ensures { λ _. ⌜ now (buffer .exit) ≡ dayNotes (settingsGiven n form mask line) (now (steps .entry)) (now (buffer .entry)) ⌝ }
+pub extern "C" fn bsr_day_singly(settings: &[u8], steps: &[u8], buffer: &mut [u8]) -> u8
+    ensures { λ r. ⌜ r ≡ dayAnswer (now (settings .entry)) (now (steps .entry)) (length (now (buffer .entry))) ⌝ }
+    ensures { λ _. ⌜ now (buffer .exit) ≡ dayNotes (now (settings .entry)) (now (steps .entry)) (now (buffer .entry)) ⌝ }
 {
-    let c = settings_given(n, form, mask, line);
+    if !lent_settings_well_formed(settings) {
+        return NO_SETTINGS;
+    }
+    let c = layout::settings_of(settings);
     let count = steps.len() / STEP_LENGTH;
     if !can_be_noted(c, steps, count, buffer.len()) {
-        return day_refusal(c);
+        return TOO_SHORT;
     }
     note_singly(c, steps, count, buffer);
     0

@@ -1,33 +1,44 @@
 // The code that decides a step: for each kind the checks of the table, in its order.
+
+pub mod emergency;
+pub mod reversal;
+
 ghost use mathlib.Core.Path.{_≡_};
-ghost use Rattle.site_positions.specs.Placed.{Placed};
-ghost use Rattle.conditions.specs.VerdictAt.{verdictAt};
+ghost use Rattle.site.specs.Placed.{Placed};
+ghost use Rattle.site.specs.VerdictAt.{verdictAt};
 use rules::Site;
 use section::Settings;
 use section::Step;
 use section::Trains;
 
-mod post_steps;
-mod train_steps;
+mod post;
+mod trains;
 
-// The verdict of the table on a step at a site.
-pub fn verdict(c: Settings, x: Step, e: Site, trains: &Trains, last: &Trains) -> section::Verdict
+// The verdict of the table on a step at a site, beside a track that is or is not settled on VNS.
+pub fn verdict(
+    c: Settings,
+    x: Step,
+    e: Site,
+    other_on_vns: bool,
+    trains: &Trains,
+    last: &Trains,
+) -> section::Verdict
     requires { ⌜ Placed c e ⌝ }
-    ensures { λ r. ⌜ r ≡ verdictAt c x e (now (trains .entry)) (now (last .entry)) ⌝ }
+    ensures { λ r. ⌜ r ≡ verdictAt c «other_on_vns» x e (now (trains .entry)) (now (last .entry)) ⌝ }
 {
     match x {
-        Step::Order { post: _ } => reversal_checks::order(c, e, trains),
-        Step::Set { post: _ } => reversal_checks::set(c, e, trains),
-        Step::Announce { post: _ } => reversal_checks::announce(e),
-        Step::Acknowledge { post: _ } => reversal_checks::acknowledge(e),
-        Step::Start { post: _, number } => train_steps::start(c, e, number, trains),
-        Step::Pass { post: _, number } => train_steps::pass(c, e, number, trains),
-        Step::Leave { post: _, number } => train_steps::leave(c, e, number, trains),
-        Step::MeasuresOn { post: _ } => post_steps::measures_on(e),
-        Step::MeasuresOff { post: _ } => post_steps::measures_off(e),
-        Step::FaultOn { post: _, fault } => post_steps::fault_on(e, fault),
-        Step::FaultOff { post: _, fault } => post_steps::fault_off(e, fault),
-        Step::Release { post: _, number } => emergency_checks::release(c, e, number, trains, last),
-        Step::Key { post: _ } => emergency_checks::key(c, e, trains),
+        Step::Order { post: _ } => reversal::order(c, e, other_on_vns, trains),
+        Step::Set { post: _ } => reversal::set(c, e, trains),
+        Step::Announce { post: _ } => reversal::announce(e),
+        Step::Acknowledge { post: _ } => reversal::acknowledge(e),
+        Step::Start { post: _, number } => trains::start(c, e, number, trains),
+        Step::Pass { post: _, number } => trains::pass(c, e, number, trains),
+        Step::Leave { post: _, number } => trains::leave(c, e, number, trains),
+        Step::MeasuresOn { post: _ } => post::measures_on(e),
+        Step::MeasuresOff { post: _ } => post::measures_off(e),
+        Step::FaultOn { post: _, fault } => post::fault_on(e, fault),
+        Step::FaultOff { post: _, fault } => post::fault_off(e, fault),
+        Step::Release { post: _, number } => emergency::release(c, e, number, trains, last),
+        Step::Key { post: _ } => emergency::key(c, e, trains),
     }
 }

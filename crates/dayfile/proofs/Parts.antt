@@ -1,6 +1,6 @@
 -- The parts of a file, both ways: settings and their bytes, the trailer and its numbers, and a file put together of its parts.
 use mathlib.Core.Path.{_≡_, refl, sym, _∙_, ap}
-use mathlib.Core.Bool.{Bool, true, false, _&&_, false≢true}
+use mathlib.Core.Bool.{true, _&&_}
 use mathlib.Core.List.{List, [], _∷_, _++_, append-assoc}
 use Prim.Native.Nat.{ℕ, zero, suc, _+_, _-_, _*_, _/_, _^_, _<_, _≤_}
 use native.Mathlib.Nat.{div-lt-iff-lt-mul, pow-le-pow-right}
@@ -11,100 +11,97 @@ use lib.ListN.{length, take, drop, length-append, take-append-drop}
 use lib.Seq.{drop-drop, getD-drop, take-at, drop-at}
 use borrow.Author.Tests.{eqb-true, eq-eqb, leb-true}
 use Rattle.section.specs.declared.Settings.{Settings}
-use Rattle.section.specs.Bytes.{byte, pair, within, AllBytes}
+use Rattle.section.specs.Bytes.{byte, le16, within, AllBytes}
 use Rattle.section.specs.Numbers.{leastPosts, mostPosts, largestLine}
-use Rattle.section.specs.Settings.{bit, noneFrom, settingsRight}
-use Rattle.layout.specs.Layout.{mostSteps, settingsLength, trailerLength, settingsDistance, stepsDistance, mark, pairBytes, fourBytes}
-use Rattle.layout.specs.Layout.{fourAt, settingsBytes, trailer, fromEnd, trailerIn, settingsIn, stepsIn, settingsOf}
-use Rattle.file_tests.specs.Tests.{markRight, trailerRight, zerosRight, settingsBytesRight}
-use Rattle.layout.proofs.Numbers.{pair-number, four-number, pair-bytes, four-bytes, listed}
-
-pub both : (a b : Bool) → a && b ≡ true → (a ≡ true) × (b ≡ true)
-both true b e = (refl, e)
-both false b e = absurd (false≢true e)
+use Rattle.section.specs.Settings.{isSignalled, noneFrom, settingsInRange}
+use Rattle.layout.specs.Layout.{mostSteps, settingsLength, trailerLength, settingsDistance, stepsDistance, mark, le16Bytes, le32Bytes}
+use Rattle.layout.specs.Layout.{le32At, settingsBytes, trailer, fromEnd, trailerIn, settingsIn, stepsIn, settingsOf}
+use Rattle.dayfile.specs.Tests.{markWellFormed, trailerWellFormed, zerosWellFormed, settingsWellFormed}
+use Rattle.section.proofs.Laws.{and-parts}
+use Rattle.layout.proofs.Numbers.{le16-number, le32-number, le16-bytes, le32-bytes, listed}
 
 -- ## Settings
 
-zeros-written : (c : Settings) → zerosRight (settingsBytes c) ≡ true
-unfolding zerosRight settingsBytes pairBytes pair
+zeros-written : (c : Settings) → zerosWellFormed (settingsBytes c) ≡ true
+unfolding zerosWellFormed settingsBytes le16Bytes le16
 zeros-written c = refl
 
-module _ (c : Settings) (e : settingsRight c ≡ true) where
+module _ (c : Settings) (e : settingsInRange c ≡ true) where
   -- the mask and the line number are 16-bit numbers
   fields-fit : (c .mask < 65536) × (c .line < 65536)
-  unfolding settingsRight within noneFrom
+  unfolding settingsInRange within noneFrom
   fields-fit =
-      let a = both (leb leastPosts (c .posts) && leb (c .posts) mostPosts) _ e in
-      let f = both (leb (c .form) 1) _ (a .1) in
-      let g = both (bit (c .mask) 0) _ (f .1) in
-      let h = both (bit (c .mask) (c .posts - 1)) _ (g .1) in
-      let k = both (eqb (c .mask / 2 ^ (c .posts)) 0) (leb 1 (c .line) && leb (c .line) largestLine) (h .1) in
-      let p : c .posts ≤ 16 = leb-true _ _ (both (leb leastPosts (c .posts)) (leb (c .posts) mostPosts) (a .0) .1) in
-      let l : c .line ≤ 999 = leb-true _ _ (both (leb 1 (c .line)) (leb (c .line) largestLine) (k .1) .1) in
+      let a = and-parts (leb leastPosts (c .posts) && leb (c .posts) mostPosts) _ e in
+      let f = and-parts (leb (c .form) 1) _ (a .1) in
+      let g = and-parts (isSignalled (c .mask) 0) _ (f .1) in
+      let h = and-parts (isSignalled (c .mask) (c .posts - 1)) _ (g .1) in
+      let k = and-parts (eqb (c .mask / 2 ^ (c .posts)) 0) (leb 1 (c .line) && leb (c .line) largestLine) (h .1) in
+      let p : c .posts ≤ mostPosts = leb-true _ _ (and-parts (leb leastPosts (c .posts)) (leb (c .posts) mostPosts) (a .0) .1) in
+      let l : c .line ≤ largestLine = leb-true _ _ (and-parts (leb 1 (c .line)) (leb (c .line) largestLine) (k .1) .1) in
       let z : c .mask / 2 ^ (c .posts) ≡ 0 = eqb-true _ _ (k .0) in
       let m : c .mask < 1 * 2 ^ (c .posts) = div-lt-iff-lt-mul (pow-pos (c .posts)) .0 (omega arith) in
-      let t : 2 ^ (c .posts) ≤ 2 ^ 16 = pow-le-pow-right {n = 2} (omega arith) p in
+      let t : 2 ^ (c .posts) ≤ 2 ^ mostPosts = pow-le-pow-right {n = 2} (omega arith) p in
       (omega arith, omega arith)
 
   pub settings-said : settingsOf (settingsBytes c) ≡ c
-  unfolding settingsOf settingsBytes pairBytes
-  settings-said = rw (pair-number (c .mask) (fields-fit .0), pair-number (c .line) (fields-fit .1))
+  unfolding settingsOf settingsBytes le16Bytes
+  settings-said = rw (le16-number (c .mask) (fields-fit .0), le16-number (c .line) (fields-fit .1))
 
-  pub settings-bytes-right : settingsBytesRight (settingsBytes c) ≡ true
-  unfolding settingsBytesRight
-  settings-bytes-right = rw (settings-said, e) (zeros-written c)
+  pub settings-well-formed : settingsWellFormed (settingsBytes c) ≡ true
+  unfolding settingsWellFormed
+  settings-well-formed = rw (settings-said, e) (zeros-written c)
 
-module _ (s : List ℕ) (l : length s ≡ settingsLength) (bytes : AllBytes s) (e : settingsBytesRight s ≡ true) where
-  pub settings-right : settingsRight (settingsOf s) ≡ true
-  unfolding settingsBytesRight
-  settings-right = both (settingsRight (settingsOf s)) _ e .0
+module _ (s : List ℕ) (l : length s ≡ settingsLength) (bytes : AllBytes s) (e : settingsWellFormed s ≡ true) where
+  pub settings-in-range : settingsInRange (settingsOf s) ≡ true
+  unfolding settingsWellFormed
+  settings-in-range = and-parts (settingsInRange (settingsOf s)) _ e .0
 
   zeros-are : (byte s 6 ≡ 0) × (byte s 7 ≡ 0)
-  unfolding settingsBytesRight zerosRight pair
-  zeros-are = let z = both (settingsRight (settingsOf s)) (zerosRight s) e .1 in (omega (arith, eqb-true), omega (arith, eqb-true))
+  unfolding settingsWellFormed zerosWellFormed le16
+  zeros-are = let z = and-parts (settingsInRange (settingsOf s)) (zerosWellFormed s) e .1 in (omega (arith, eqb-true), omega (arith, eqb-true))
 
   pub settings-bytes : settingsBytes (settingsOf s) ≡ s
   unfolding settingsBytes settingsOf
   settings-bytes =
-      rw (pair-bytes (byte s 2) (byte s 3) (bytes 2) (bytes 3), pair-bytes (byte s 4) (byte s 5) (bytes 4) (bytes 5))
+      rw (le16-bytes (byte s 2) (byte s 3) (bytes 2) (bytes 3), le16-bytes (byte s 4) (byte s 5) (bytes 4) (bytes 5))
       (sym (listed 8 0 s l ∙ rw (zeros-are .0, zeros-are .1)))
 
 -- ## The trailer
 
-pub trailer-right : (count : ℕ) → count ≤ mostSteps → trailerRight count (trailer count) ≡ true
-unfolding trailerRight markRight trailer fourBytes fourAt
-trailer-right count h =
+pub trailer-well-formed : (count : ℕ) → count ≤ mostSteps → trailerWellFormed count (trailer count) ≡ true
+unfolding trailerWellFormed markWellFormed trailer le32Bytes le32At
+trailer-well-formed count h =
     rw (
-      four-number 24 (omega arith),
-      four-number (24 + 8 * count) (omega arith),
-      four-number count (omega arith),
+      le32-number 24 (omega arith),
+      le32-number (24 + 8 * count) (omega arith),
+      le32-number count (omega arith),
       eq-eqb (24 + 8 * count) (24 + 8 * count) refl,
       eq-eqb count count refl,
     )
 
-module _ (count : ℕ) (t : List ℕ) (l : length t ≡ trailerLength) (bytes : AllBytes t) (e : trailerRight count t ≡ true) where
+module _ (count : ℕ) (t : List ℕ) (l : length t ≡ trailerLength) (bytes : AllBytes t) (e : trailerWellFormed count t ≡ true) where
   -- four bytes of the trailer that say a number are its bytes
-  number-bytes : (i x : ℕ) → fourAt t i ≡ x → fourBytes x ≡ byte t i ∷ byte t (i + 1) ∷ byte t (i + 2) ∷ byte t (i + 3) ∷ []
-  unfolding fourAt
+  number-bytes : (i x : ℕ) → le32At t i ≡ x → le32Bytes x ≡ byte t i ∷ byte t (i + 1) ∷ byte t (i + 2) ∷ byte t (i + 3) ∷ []
+  unfolding le32At
   number-bytes i x q =
-      ap fourBytes (sym q)
-      ∙ four-bytes (byte t i) (byte t (i + 1)) (bytes i) (bytes (i + 1)) (byte t (i + 2)) (byte t (i + 3)) (bytes (i + 2)) (bytes (i + 3))
+      ap le32Bytes (sym q)
+      ∙ le32-bytes (byte t i) (byte t (i + 1)) (bytes i) (bytes (i + 1)) (byte t (i + 2)) (byte t (i + 3)) (bytes (i + 2)) (bytes (i + 3))
 
-  mark-bytes : markRight t ≡ true → mark ≡ byte t 0 ∷ byte t 1 ∷ byte t 2 ∷ byte t 3 ∷ []
-  unfolding markRight
+  mark-bytes : markWellFormed t ≡ true → mark ≡ byte t 0 ∷ byte t 1 ∷ byte t 2 ∷ byte t 3 ∷ []
+  unfolding markWellFormed
   mark-bytes m =
-      let a = both (eqb (byte t 0) 66) _ m in
-      let b = both (eqb (byte t 1) 83) _ (a .1) in
-      let c = both (eqb (byte t 2) 82) (eqb (byte t 3) 49) (b .1) in
+      let a = and-parts (eqb (byte t 0) 66) _ m in
+      let b = and-parts (eqb (byte t 1) 83) _ (a .1) in
+      let c = and-parts (eqb (byte t 2) 82) (eqb (byte t 3) 49) (b .1) in
       rw (eqb-true (byte t 0) 66 (a .0), eqb-true (byte t 1) 83 (b .0), eqb-true (byte t 2) 82 (c .0), eqb-true (byte t 3) 49 (c .1))
 
   pub trailer-bytes : trailer count ≡ t
-  unfolding trailerRight trailer
+  unfolding trailerWellFormed trailer
   trailer-bytes =
-      let a = both (markRight t) _ e in
-      let b = both (eqb (fourAt t 4) settingsDistance) _ (a .1) in
-      let c = both (eqb (fourAt t 8) (stepsDistance count)) (eqb (fourAt t 12) count) (b .1) in
-      ap (λ (m : List ℕ). m ++ (fourBytes settingsDistance ++ (fourBytes (stepsDistance count) ++ fourBytes count))) (mark-bytes (a .0))
+      let a = and-parts (markWellFormed t) _ e in
+      let b = and-parts (eqb (le32At t 4) settingsDistance) _ (a .1) in
+      let c = and-parts (eqb (le32At t 8) (stepsDistance count)) (eqb (le32At t 12) count) (b .1) in
+      ap (λ (m : List ℕ). m ++ (le32Bytes settingsDistance ++ (le32Bytes (stepsDistance count) ++ le32Bytes count))) (mark-bytes (a .0))
       ∙ rw (
         number-bytes 4 settingsDistance (eqb-true _ _ (b .0)),
         number-bytes 8 (stepsDistance count) (eqb-true _ _ (c .0)),

@@ -12,7 +12,7 @@ use Rattle.section.specs.declared.Settings.{Settings}
 use Rattle.section.specs.Numbers.{stepLength}
 use Rattle.layout.specs.Layout.{mostSteps, settingsLength, trailerLength, settingsDistance, longestFile, stepCount, fromEnd}
 use Rattle.layout.specs.Layout.{trailerIn, settingsIn, stepsIn, settingsOf}
-use Rattle.file_tests.specs.Tests.{lengthWrong, trailerRight, settingsBytesRight, someMalformed, firstMalformed}
+use Rattle.dayfile.specs.Tests.{lengthWrong, trailerWellFormed, settingsWellFormed, someMalformed, firstMalformed}
 use Rattle.dayfile.specs.Answers.{refusalNumber}
 use Rattle.dayfile.specs.Answers.{readVerdict, notRead, readOf}
 use Rattle.dayfile.specs.declared.Reading.the-variants.{Day, Refused}
@@ -72,17 +72,17 @@ answer-1 file e = rw e
 module _
     (file steps t : List ℕ) (count : ℕ) (es : steps ≡ stepsIn file) (ec : count ≡ stepCount steps) (et : t ≡ trailerIn file)
     (e₁ : lengthWrong (length file) ≡ false) where
-  pub answer-2 : trailerRight count t ≡ false → notRead 2 0 ≡ readOf file
+  pub answer-2 : trailerWellFormed count t ≡ false → notRead 2 0 ≡ readOf file
   unfolding readOf readVerdict refusalNumber notRead
   answer-2 e₂ = rw (e₁, ← es, ← ec, ← et, e₂)
 
-  module _ (e₂ : trailerRight count t ≡ true) (s : List ℕ) (eb : s ≡ settingsIn file) where
-    pub answer-3 : settingsBytesRight s ≡ false → notRead 3 0 ≡ readOf file
+  module _ (e₂ : trailerWellFormed count t ≡ true) (s : List ℕ) (eb : s ≡ settingsIn file) where
+    pub answer-3 : settingsWellFormed s ≡ false → notRead 3 0 ≡ readOf file
     unfolding readOf readVerdict refusalNumber notRead
     answer-3 e₃ = rw (e₁, ← es, ← ec, ← et, e₂, ← eb, e₃)
 
     module _
-        (e₃ : settingsBytesRight s ≡ true) (c : Settings) (first : ℕ) (eo : c ≡ settingsOf s)
+        (e₃ : settingsWellFormed s ≡ true) (c : Settings) (first : ℕ) (eo : c ≡ settingsOf s)
         (ef : first ≡ firstMalformed (c .posts) steps) where
       pub answer-4 : first < count → notRead 4 first ≡ readOf file
       unfolding readOf readVerdict refusalNumber notRead someMalformed
@@ -107,8 +107,8 @@ same-day m n e = cc
 
 pub record DayRead (file : List ℕ) (count : ℕ) : Type 0 where
   pub length-well : LengthRight (length file)
-  pub trailer-well : trailerRight (stepCount (stepsIn file)) (trailerIn file) ≡ true
-  pub settings-well : settingsBytesRight (settingsIn file) ≡ true
+  pub trailer-well : trailerWellFormed (stepCount (stepsIn file)) (trailerIn file) ≡ true
+  pub settings-well : settingsWellFormed (settingsIn file) ≡ true
   pub steps-well : someMalformed (settingsOf (settingsIn file) .posts) (stepsIn file) ≡ false
   pub counted : stepCount (stepsIn file) ≡ count
 
@@ -116,8 +116,8 @@ pub day-read : (file : List ℕ) (count : ℕ) → readVerdict file ≡ Day coun
 unfolding readVerdict
 day-read file count e =
     let a = past (lengthWrong (length file)) (Refused 1 0) _ (Day count) (never-day 1 0 count) e in
-    let b = past (not (trailerRight (stepCount (stepsIn file)) (trailerIn file))) (Refused 2 0) _ (Day count) (never-day 2 0 count) (a .1) in
-    let c = past (not (settingsBytesRight (settingsIn file))) (Refused 3 0) _ (Day count) (never-day 3 0 count) (b .1) in
+    let b = past (not (trailerWellFormed (stepCount (stepsIn file)) (trailerIn file))) (Refused 2 0) _ (Day count) (never-day 2 0 count) (a .1) in
+    let c = past (not (settingsWellFormed (settingsIn file))) (Refused 3 0) _ (Day count) (never-day 3 0 count) (b .1) in
     let first = firstMalformed (settingsOf (settingsIn file) .posts) (stepsIn file) in
     let d =
     past (someMalformed (settingsOf (settingsIn file) .posts) (stepsIn file)) (Refused 4 first) (Day (stepCount (stepsIn file))) (Day count)

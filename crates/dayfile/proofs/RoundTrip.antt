@@ -11,18 +11,18 @@ use borrow.Author.Tests.{ltb-false, le-ltb}
 use Rattle.section.specs.declared.Settings.{Settings}
 use Rattle.section.specs.Bytes.{AllBytes}
 use Rattle.section.specs.Numbers.{stepLength}
-use Rattle.section.specs.Settings.{settingsRight}
-use Rattle.file_tests.specs.Tests.{lengthWrong, trailerRight, settingsBytesRight}
+use Rattle.section.specs.Settings.{settingsInRange}
+use Rattle.dayfile.specs.Tests.{lengthWrong, trailerWellFormed, settingsWellFormed}
 use Rattle.layout.specs.Layout.{mostSteps, settingsDistance, stepsDistance, settingsBytes, trailer, stepCount, fileOf, trailerIn}
 use Rattle.layout.specs.Layout.{settingsIn, stepsIn, settingsOf, stepsPart}
-use Rattle.file_tests.specs.Tests.{someMalformed, firstMalformed}
+use Rattle.dayfile.specs.Tests.{someMalformed, firstMalformed}
 use Rattle.dayfile.specs.Answers.{refusalIndex, writerRefusalIndex, refusalNumber, readVerdict, readOf}
 use Rattle.dayfile.specs.Answers.{writeVerdict, writerRefusalNumber, writtenInto}
 use Rattle.dayfile.specs.declared.Reading.the-variants.{Day, Refused}
 use Rattle.dayfile.specs.declared.Written.the-variants.{Bytes, Refused as NotWritten}
 use Rattle.dayfile.specs.RoundTrip.{ReadsWhatIsWritten, WritesWhatIsRead, MeansOneThing, GivesItsSteps, IndexOnlyForFour}
-use Rattle.file_tests.proofs.Laws.{all-whole}
-use Rattle.dayfile.proofs.Parts.{settings-said, settings-bytes-right, settings-right, settings-bytes, trailer-right, trailer-bytes}
+use Rattle.dayfile.proofs.tests.Laws.{all-whole}
+use Rattle.dayfile.proofs.Parts.{settings-said, settings-well-formed, settings-in-range, settings-bytes, trailer-well-formed, trailer-bytes}
 use Rattle.dayfile.proofs.Parts.{steps-of, settings-of, trailer-of, of-its-parts, trailer-all-bytes, settings-all-bytes}
 use Rattle.dayfile.proofs.Reader.{LengthRight, not-wrong, trailer-length, settings-length, steps-length, few-steps, answer-day}
 use Rattle.dayfile.proofs.Reader.{DayRead, day-read}
@@ -62,8 +62,8 @@ module _ (c : Settings) (steps : List ℕ) (written : ℕ) (w : BytesWritten c s
   read-back =
       sym
       (answer-day (fileOf c steps) steps (trailer (stepCount steps)) (stepCount steps) (sym steps-back) refl (sym trailer-back)
-      (not-wrong _ file-length-right) (trailer-right (stepCount steps) (w .few)) (settingsBytes c) (sym settings-back)
-      (settings-bytes-right c (w .settings-well)) c (firstMalformed (c .posts) steps) (sym (settings-said c (w .settings-well))) refl
+      (not-wrong _ file-length-right) (trailer-well-formed (stepCount steps) (w .few)) (settingsBytes c) (sym settings-back)
+      (settings-well-formed c (w .settings-well)) c (firstMalformed (c .posts) steps) (sym (settings-said c (w .settings-well))) refl
       none-malformed)
 
 pub reads-what-is-written : ReadsWhatIsWritten
@@ -100,7 +100,7 @@ module _ (file : List ℕ) (count : ℕ) (bytes : AllBytes file) (d : DayRead fi
     unfolding writeVerdict
     same-verdict =
         rw (
-          settings-right (settingsIn file) (settings-length file (d .length-well .least))
+          settings-in-range (settingsIn file) (settings-length file (d .length-well .least))
               (settings-all-bytes file (d .length-well .least) bytes) (d .settings-well),
           d .steps-well,
           le-ltb mostSteps (stepCount (stepsIn file)) (few-steps file (d .length-well)),
@@ -169,11 +169,11 @@ pub index-only-for-four : IndexOnlyForFour
 unfolding readVerdict writeVerdict
 index-only-for-four = (
   λ file.
-      reader-index (lengthWrong (length file)) (not (trailerRight (stepCount (stepsIn file)) (trailerIn file)))
-      (not (settingsBytesRight (settingsIn file))) (someMalformed (settingsOf (settingsIn file) .posts) (stepsIn file))
+      reader-index (lengthWrong (length file)) (not (trailerWellFormed (stepCount (stepsIn file)) (trailerIn file)))
+      (not (settingsWellFormed (settingsIn file))) (someMalformed (settingsOf (settingsIn file) .posts) (stepsIn file))
       (firstMalformed (settingsOf (settingsIn file) .posts) (stepsIn file)) (stepCount (stepsIn file)),
   λ c steps room.
-      writer-index (not (settingsRight c)) (someMalformed (c .posts) steps)
+      writer-index (not (settingsInRange c)) (someMalformed (c .posts) steps)
       (ltb mostSteps (stepCount steps) || ltb room (stepsDistance (stepCount steps))) (firstMalformed (c .posts) steps)
       (stepsDistance (stepCount steps)),
 )

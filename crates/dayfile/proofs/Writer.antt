@@ -10,11 +10,11 @@ use lib.Seq.{length-take-le, take-length, drop-length, take-append-seam, drop-ap
 use lib.Dec.{eqb, ltb}
 use borrow.Author.Tests.{lt-ltb, le-ltb, ltb-false, not-false}
 use Rattle.section.specs.declared.Settings.{Settings}
-use Rattle.section.specs.Settings.{settingsRight}
+use Rattle.section.specs.Settings.{settingsInRange}
 use Rattle.section.specs.Numbers.{stepLength}
 use Rattle.layout.specs.Layout.{mostSteps, settingsLength, stepsDistance}
 use Rattle.layout.specs.Layout.{settingsBytes, trailer, stepCount, fileOf}
-use Rattle.file_tests.specs.Tests.{firstMalformed, someMalformed}
+use Rattle.dayfile.specs.Tests.{firstMalformed, someMalformed}
 use Rattle.dayfile.specs.Answers.{writerRefusalNumber, writeVerdict, writtenInto}
 use Rattle.layout.proofs.Parts.{settings-long}
 use Rattle.dayfile.proofs.Reader.{neither, past}
@@ -85,13 +85,13 @@ module _ (c : Settings) (steps buffer : List ℕ) where
   unfolding writtenInto writerRefusalNumber
   refused k i e v = (sym v, rw (v, e))
 
-  pub answer-3 : settingsRight c ≡ false → Answered (Refused 3 0) buffer
+  pub answer-3 : settingsInRange c ≡ false → Answered (Refused 3 0) buffer
   unfolding writeVerdict
   answer-3 e₃ = refused 3 0 refl (rw e₃)
 
   module _
       (count first : ℕ) (ec : count ≡ stepCount steps) (ef : first ≡ firstMalformed (c .posts) steps)
-      (e₃ : settingsRight c ≡ true) where
+      (e₃ : settingsInRange c ≡ true) where
     pub answer-4 : first < count → Answered (Refused 4 first) buffer
     unfolding writeVerdict someMalformed
     answer-4 h = refused 4 first refl (rw (e₃, ← ec, ← ef, lt-ltb _ _ h))
@@ -125,7 +125,7 @@ never-bytes : (k i n : ℕ) → Refused k i ≡ Bytes n → ⊥
 never-bytes k i n e = let z : _≡_ {A = ℕ} 0 1 = cc in omega arith
 
 pub record BytesWritten (c : Settings) (steps : List ℕ) (written : ℕ) : Type 0 where
-  pub settings-well : settingsRight c ≡ true
+  pub settings-well : settingsInRange c ≡ true
   pub steps-well : someMalformed (c .posts) steps ≡ false
   pub few : stepCount steps ≤ mostSteps
   pub counted : stepsDistance (stepCount steps) ≡ written
@@ -138,7 +138,7 @@ pub bytes-written :
 unfolding writeVerdict
 bytes-written c steps room written e =
     let n = stepCount steps in
-    let a = past (not (settingsRight c)) (Refused 3 0) _ (Bytes written) (never-bytes 3 0 written) e in
+    let a = past (not (settingsInRange c)) (Refused 3 0) _ (Bytes written) (never-bytes 3 0 written) e in
     let first = firstMalformed (c .posts) steps in
     let b = past (someMalformed (c .posts) steps) (Refused 4 first) _ (Bytes written) (never-bytes 4 first written) (a .1) in
     let d =

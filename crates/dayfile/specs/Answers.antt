@@ -5,9 +5,9 @@ use mathlib.Core.List.{List, _++_}
 use lib.ListN.{length, drop}
 use lib.Dec.{eqb, ltb}
 use Rattle.section.specs.declared.Settings.{Settings}
-use Rattle.section.specs.Settings.{settingsRight}
+use Rattle.section.specs.Settings.{settingsInRange}
 use Rattle.layout.specs.Layout.{mostSteps, stepsDistance, stepCount, fileOf, trailerIn, settingsIn, stepsIn, settingsOf}
-use Rattle.file_tests.specs.Tests.{lengthWrong, trailerRight, settingsBytesRight, firstMalformed, someMalformed}
+use Rattle.dayfile.specs.Tests.{lengthWrong, trailerWellFormed, settingsWellFormed, firstMalformed, someMalformed}
 use Rattle.dayfile.specs.declared.Reading.{Reading}
 use Rattle.dayfile.specs.declared.Reading.the-variants.{Day, Refused}
 use Rattle.dayfile.specs.declared.ReadAnswer.{ReadAnswer}
@@ -38,8 +38,8 @@ writerRefusalIndex (NotWritten number index) = index
 unfoldable pub readVerdict : List ℕ → Reading
 readVerdict file =
     cond (lengthWrong (length file)) (Refused 1 0)
-    (cond (not (trailerRight (stepCount (stepsIn file)) (trailerIn file))) (Refused 2 0)
-    (cond (not (settingsBytesRight (settingsIn file))) (Refused 3 0)
+    (cond (not (trailerWellFormed (stepCount (stepsIn file)) (trailerIn file))) (Refused 2 0)
+    (cond (not (settingsWellFormed (settingsIn file))) (Refused 3 0)
     (cond (someMalformed (settingsOf (settingsIn file) .posts) (stepsIn file))
     (Refused 4 (firstMalformed (settingsOf (settingsIn file) .posts) (stepsIn file)))
     (Day (stepCount (stepsIn file))))))
@@ -60,7 +60,7 @@ readOf file =
 -- 3, then 4 over all steps given, then 5: "the writer's buffer is too short (after 3 and 4), or more than 4,096 steps"
 unfoldable pub writeVerdict : Settings → List ℕ → ℕ → Written
 writeVerdict c steps room =
-    cond (not (settingsRight c)) (NotWritten 3 0)
+    cond (not (settingsInRange c)) (NotWritten 3 0)
     (cond (someMalformed (c .posts) steps) (NotWritten 4 (firstMalformed (c .posts) steps))
     (cond (ltb mostSteps (stepCount steps) || ltb room (stepsDistance (stepCount steps))) (NotWritten 5 0)
     (Bytes (stepsDistance (stepCount steps)))))

@@ -1,4 +1,7 @@
 // Day files (document 01, "The day file"): the reader and the writer.
+
+pub mod tests;
+
 ghost use mathlib.Core.Path.{_≡_};
 ghost use Prim.Native.Nat.{_+_, _≤_};
 ghost use mathlib.Core.List.{_++_};
@@ -8,6 +11,7 @@ ghost use Rattle.dayfile.specs.Answers.{notRead, readOf, writeVerdict, w
 use layout::MOST_STEPS;
 use layout::SETTINGS_DISTANCE;
 use layout::SETTINGS_LENGTH;
+use ranges::settings;
 use section::STEP_LENGTH;
 use section::Settings;
 
@@ -48,20 +52,20 @@ fn refused(number: u8, index: usize) -> ReadAnswer
 pub fn read(file: &[u8]) -> ReadAnswer
     ensures { λ r. ⌜ r ≡ readOf (now (file .entry)) ⌝ }
 {
-    if file_tests::length_wrong(file.len()) {
+    if tests::length_wrong(file.len()) {
         return refused(1, 0);
     }
     let steps = layout::steps_in(file);
     let count = layout::step_count(steps);
-    if !file_tests::trailer_right(count, layout::trailer_in(file)) {
+    if !tests::trailer_well_formed(count, layout::trailer_in(file)) {
         return refused(2, 0);
     }
     let bytes = layout::settings_in(file);
-    if !file_tests::settings_bytes_right(bytes) {
+    if !tests::settings_well_formed(bytes) {
         return refused(3, 0);
     }
     let c = layout::settings_of(bytes);
-    let first = file_tests::first_malformed(c.posts, steps);
+    let first = tests::first_malformed(c.posts, steps);
     if first < count {
         return refused(4, first);
     }
@@ -109,11 +113,11 @@ pub fn write(c: Settings, steps: &[u8], buffer: &mut [u8]) -> Written
     ensures { λ r. ⌜ r ≡ writeVerdict c (now (steps .entry)) (length (now (buffer .entry))) ⌝ }
     ensures { λ _. ⌜ now (buffer .exit) ≡ writtenInto c (now (steps .entry)) (now (buffer .entry)) ⌝ }
 {
-    if !settings_range::settings_right(c) {
+    if !settings::settings_in_range(c) {
         return Written::Refused(3, 0);
     }
     let count = layout::step_count(steps);
-    let first = file_tests::first_malformed(c.posts, steps);
+    let first = tests::first_malformed(c.posts, steps);
     if first < count {
         return Written::Refused(4, first);
     }

@@ -1,8 +1,11 @@
 // Runs the stored days. For each name among the arguments it reads NAME.day, NAME.listing and
 // NAME.panel, and compares what the library makes of the day with what is stored.
-use agreement::agrees;
-use agreement::sheet_room;
-use sheets::Sheet;
+
+mod agreement;
+
+use crate::agreement::agrees;
+use crate::agreement::sheet_room;
+use listing::sheets::Sheet;
 
 // What running a stored day shows.
 enum Day {
@@ -38,15 +41,15 @@ fn open(name: &[u8], ending: &[u8]) -> i32 {
 
 fn open_sheet(name: &[u8], sheet: Sheet) -> i32 {
     match sheet {
-        Sheet::OfSteps => open(name, b".listing"),
-        Sheet::OfPosts => open(name, b".panel"),
+        Sheet::Listing => open(name, b".listing"),
+        Sheet::Panel => open(name, b".panel"),
     }
 }
 
 fn difference_in(sheet: Sheet) -> Day {
     match sheet {
-        Sheet::OfSteps => Day::ListingDiffers,
-        Sheet::OfPosts => Day::PanelDiffers,
+        Sheet::Listing => Day::ListingDiffers,
+        Sheet::Panel => Day::PanelDiffers,
     }
 }
 
@@ -68,11 +71,11 @@ fn compare_sheet(name: &[u8], sheet: Sheet, file: &[u8]) -> Day {
 
 // The panel is looked at where the listing agrees.
 fn compare_file(name: &[u8], file: &[u8]) -> Day {
-    let day = compare_sheet(name, Sheet::OfSteps, file);
+    let day = compare_sheet(name, Sheet::Listing, file);
     if differs(day) {
         return day;
     }
-    compare_sheet(name, Sheet::OfPosts, file)
+    compare_sheet(name, Sheet::Panel, file)
 }
 
 fn run(name: &[u8]) -> Day {

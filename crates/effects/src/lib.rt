@@ -1,12 +1,16 @@
 // What an accepted step does: the post's record, the walk, the running direction, the movement of a train, and what is said.
+
+pub mod movement;
+pub mod reversal;
+
 ghost use mathlib.Core.Path.{_≡_};
 ghost use Rattle.rules.specs.Table.{cleared, effect};
-ghost use Rattle.site_positions.specs.Placed.{Placed};
+ghost use Rattle.site.specs.Placed.{Placed};
 ghost use Rattle.effects.specs.Part.{moving, HasNext};
-use reversal_effects::acknowledging;
-use reversal_effects::announcing;
-use reversal_effects::setting;
-use reversal_effects::walking;
+use crate::reversal::acknowledging;
+use crate::reversal::announcing;
+use crate::reversal::setting;
+use crate::reversal::walking;
 use rules::Effect;
 use rules::Movement;
 use rules::Site;

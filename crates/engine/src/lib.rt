@@ -2,13 +2,13 @@
 ghost use mathlib.Core.Path.{_≡_};
 ghost use Rattle.section.specs.declared.Verdict.{Verdict};
 ghost use Rattle.rules.specs.Judge.{judge};
-use judging::judge_on_track;
-pub use lamps::indications;
+pub use indications::indications;
+use judging::on_track::judge_on_track;
 use section::Answer;
 use section::Decoded;
 use section::Section;
 use section::Verdict;
-use sites::running_of;
+use site::running::running_of;
 
 fn refused(number: u8, s: Section) -> Answer
     ensures { λ r. ⌜ r ≡ record { verdict = Verdict.Refused number; section = s } ⌝ }

@@ -8,9 +8,9 @@ use mathlib.Core.List.{List}
 use lib.ListN.{getD, take}
 use Rattle.section.specs.declared.Step.the-variants.{Set}
 use Rattle.section.specs.Fresh.{freshSection}
-use Rattle.section.specs.Settings.{settingsRight}
-use Rattle.section.specs.Step.{kindOf, bytesOf, encoded}
-use Rattle.rules.specs.Demand3.{Taken, kind, stateAfter, acceptedSteps, underWay, NoTrainInReversal, Demand3}
+use Rattle.section.specs.Settings.{settingsInRange}
+use Rattle.section.specs.Step.{bytesOf, encoded}
+use Rattle.rules.specs.Demand3.{AcceptedStep, kind, stateAfter, acceptedSteps, underWay, NoTrainInReversal, Demand3}
 use Rattle.rules.proofs.Theorem.{demand3, newOrder}
 use Rattle.rules.proofs.Days.{offeredAs, refusals, fresh}
 use Rattle.examples.specs.Annex5.{settings, steps, day, answers, quiet, accepted, reordered}
@@ -30,19 +30,19 @@ accepts = refl
 
 -- ## The claim, and its new order
 
-pub settings-right : settingsRight settings ≡ true
+pub settings-in-range : settingsInRange settings ≡ true
 unfolding computed
-settings-right = refl
+settings-in-range = refl
 
 pub claim : Demand3 settings day
-claim = demand3 settings settings-right day
+claim = demand3 settings settings-in-range day
 
 pub ended : (b : Bool) → underWay (settings .posts) b (acceptedSteps (freshSection settings) day) ≡ false
 unfolding computed underWay acceptedSteps
 ended true = refl
 ended false = refl
 
-pub new-order : newOrder settings settings-right day ended ≡ reordered
+pub new-order : newOrder settings settings-in-range day ended ≡ reordered
 unfolding newOrder computed reordered
 new-order = refl
 
@@ -55,8 +55,8 @@ unfolding computed underWay acceptedSteps stateAfter
 train-in-reversal h = let e : _≡_ {A = ℕ} 2410 0 = h .empty false refl 1 (omega arith) in omega arith
 
 -- its sixth step is a leave, and no order
-pub another-order : newOrder settings settings-right day ended ≡ acceptedSteps (freshSection settings) day → ⊥
-unfolding encoded bytesOf kindOf accepted reordered
+pub another-order : newOrder settings settings-in-range day ended ≡ acceptedSteps (freshSection settings) day → ⊥
+unfolding encoded bytesOf accepted reordered
 another-order e =
-    let f : _≡_ {A = ℕ} 7 1 = ap (λ (l : List Taken). kind (getD l 5 (quiet (Set 0)))) (sym new-order ∙ e ∙ accepts) in
+    let f : _≡_ {A = ℕ} 7 1 = ap (λ (l : List AcceptedStep). kind (getD l 5 (quiet (Set 0)))) (sym new-order ∙ e ∙ accepts) in
     omega arith

@@ -1,2 +1,4 @@
 pub mod PlainReversal
 pub mod Annex5
+pub mod Worked
+pub mod Marked

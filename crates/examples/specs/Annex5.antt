@@ -8,7 +8,7 @@ use Rattle.section.specs.declared.Said.the-variants.{Nothing, Cvt, Cvtz}
 use Rattle.section.specs.declared.Step.{Step}
 use Rattle.section.specs.declared.Step.the-variants.{Order, Set, Announce, Acknowledge, Start, Pass, Leave, MeasuresOn}
 use Rattle.section.specs.Step.{encoded}
-use Rattle.rules.specs.Demand3.{Taken}
+use Rattle.rules.specs.Demand3.{AcceptedStep}
 use Rattle.rules.proofs.Days.{A, materialised, stepOn, on, offeredAs}
 
 -- materialised, n = 3, mask 7
@@ -28,21 +28,21 @@ day = offeredAs (on A steps)
 unfoldable pub answers : List ℕ
 answers = 0 ∷ 0 ∷ 0 ∷ 0 ∷ 13 ∷ 0 ∷ 0 ∷ 0 ∷ 0 ∷ 0 ∷ 13 ∷ 0 ∷ 0 ∷ 0 ∷ 0 ∷ 0 ∷ []
 
-abbrev pub says : Said → Step → Taken
+abbrev pub says : Said → Step → AcceptedStep
 says said x = record { bytes = encoded (stepOn A x); said = said }
 
-abbrev pub quiet : Step → Taken
+abbrev pub quiet : Step → AcceptedStep
 quiet x = says Nothing x
 
 -- the others, in the day's own order
-unfoldable pub accepted : List Taken
+unfoldable pub accepted : List AcceptedStep
 accepted =
     quiet (MeasuresOn 0) ∷ quiet (MeasuresOn 1) ∷ quiet (MeasuresOn 2) ∷ quiet (Start 0 2410) ∷ quiet (Pass 1 2410) ∷ quiet (Order 0)
     ∷ quiet (Set 0) ∷ says Cvt (Announce 0) ∷ says Cvtz (Acknowledge 1) ∷ quiet (Leave 2 2410)
     ∷ quiet (Set 1) ∷ says Cvt (Announce 1) ∷ says Cvtz (Acknowledge 2) ∷ quiet (Set 2) ∷ []
 
 -- in the new order the train leaves before the order
-unfoldable pub reordered : List Taken
+unfoldable pub reordered : List AcceptedStep
 reordered =
     quiet (MeasuresOn 0) ∷ quiet (MeasuresOn 1) ∷ quiet (MeasuresOn 2) ∷ quiet (Start 0 2410) ∷ quiet (Pass 1 2410) ∷ quiet (Leave 2 2410)
     ∷ quiet (Order 0) ∷ quiet (Set 0) ∷ says Cvt (Announce 0) ∷ says Cvtz (Acknowledge 1)

@@ -1,13 +1,13 @@
--- Laws of images: the lengths of what is written, and lists that are filled from the front.
+-- Laws of images: the lengths of what is written, by those of its parts; parts put one after another; the test of the posts, from the last down;
+-- an image that is well formed is as long as what is written, so the whole of it is written over.
 use Prim.Native.Nat.{ℕ, zero, suc, _+_, _*_, _-_, _<_, _≤_}
 use mathlib.Core.Bool.{Bool, true, false, _&&_}
 use mathlib.Core.List.{List, [], _∷_, _++_, append-assoc, append-nil}
 use mathlib.Core.Path.{_≡_, refl, sym, ap, _∙_}
 use native.Mathlib.Nat.{not-suc-le-zero}
-use native.Mathlib.Numerals.{add-one, sub-one}
+use native.Mathlib.Numerals.{sub-one}
 use native.Mathlib.Omega.{arith}
-use lib.ListN.{length, take, drop, set, getD, length-append, drop-of-length-le}
-use lib.Seq.{take-suc-set}
+use lib.ListN.{length, drop, getD, length-append, drop-of-length-le}
 use lib.Dec.{eqb}
 use borrow.Author.Tests.{eqb-true}
 use Rattle.section.specs.declared.Post.{Post}
@@ -19,29 +19,36 @@ use Rattle.section.specs.Bytes.{byte}
 use Rattle.section.specs.Numbers.{mostPosts, mostBlocks}
 use Rattle.section.specs.Post.{blank}
 use Rattle.section.proofs.Laws.{and-left}
-use Rattle.layout.specs.Layout.{settingsLength, pairBytes, settingsBytes}
-use Rattle.text.specs.Text.{decimalDigits, written}
-use Rattle.text.proofs.Laws.{Put, put-nothing, put-then, written-length}
-use Rattle.image.specs.Image.{trackA, trackB, numberLength, postLength, postsLength}
-use Rattle.image.specs.Image.{numbersLength, headLength, trackLength, imageLength}
-use Rattle.image.specs.Image.{flag, postImage, postsImage, numbersImage, walkImage, trackHead}
-use Rattle.image.specs.Image.{trackImage, imageOf, postRight, postsRight, trackRight, imageRight}
+use Rattle.layout.specs.Layout.{le16Bytes, settingsBytes}
+use Rattle.layout.proofs.Parts.{settings-long}
+use Rattle.text.specs.Text.{written}
+use Rattle.image.proofs.Items.{Put}
+use Rattle.image.specs.Image.{numberLength, postLength, postsLength, numbersLength, headLength, trackLength, trackA, trackB, imageLength, layoutNumber}
+use Rattle.image.specs.Image.{flag, postImage, postsImage, numbersImage, walkImage, trackHead, trackImage, imageHead, imageOf}
+use Rattle.image.specs.Image.{numberAt, postWellFormed, postsWellFormed, trackWellFormed, imageWellFormed}
+use Rattle.image.proofs.Items.{put-next, items-length}
 
 -- ## Lengths
 
+pub post-length : (o : Post) → length (postImage o) ≡ postLength
+unfolding postImage le16Bytes
+post-length o = refl
+
+pub le16-length : (x : ℕ) → length (le16Bytes x) ≡ numberLength
+unfolding le16Bytes
+le16-length x = refl
+
 pub posts-length : (m : ℕ) (l : List Post) → length (postsImage m l) ≡ postLength * m
-unfolding postsImage postImage pairBytes
-posts-length zero l = refl
-posts-length (suc m) l = length-append (postsImage m l) (postImage (getD l m blank)) ∙ omega (arith, posts-length m l)
+unfolding postsImage
+posts-length m l = items-length (λ (p : ℕ). postImage (getD l p blank)) postLength (λ p. post-length (getD l p blank)) m
 
 pub numbers-length : (m : ℕ) (l : List ℕ) → length (numbersImage m l) ≡ numberLength * m
-unfolding numbersImage pairBytes
-numbers-length zero l = refl
-numbers-length (suc m) l = length-append (numbersImage m l) (pairBytes (getD l m 0)) ∙ omega (arith, numbers-length m l)
+unfolding numbersImage
+numbers-length m l = items-length (λ (i : ℕ). le16Bytes (getD l i 0)) numberLength (λ i. le16-length (getD l i 0)) m
 
-pub settings-length : (s : Section) → length (settingsBytes (s .settings)) ≡ settingsLength
-unfolding settingsBytes pairBytes
-settings-length s = refl
+pub image-head-length : (s : Section) → length (imageHead s) ≡ trackA
+unfolding imageHead settingsBytes le16Bytes
+image-head-length s = refl
 
 walk-length : (w : Walk) → length (walkImage w) ≡ 2
 unfolding walkImage
@@ -60,7 +67,7 @@ track-length t =
 
 pub image-length : (s : Section) → length (imageOf s) ≡ imageLength
 unfolding imageOf
-image-length s = simp length-append (omega (arith, settings-length s, track-length (s .a), track-length (s .b)))
+image-length s = simp length-append (omega (arith, image-head-length s, track-length (s .a), track-length (s .b)))
 
 -- ## Parts of what is written
 
@@ -75,39 +82,7 @@ unfolding walkImage
 two-and-zero Settled d = refl
 two-and-zero (Turn p act) d = refl
 
-pub post-length : (o : Post) → length (postImage o) ≡ postLength
-unfolding postImage pairBytes
-post-length o = refl
-
-pub pair-length : (x : ℕ) → length (pairBytes x) ≡ numberLength
-unfolding pairBytes
-pair-length x = refl
-
-pub posts-more : (m : ℕ) (l : List Post) → postsImage (m + 1) l ≡ postsImage m l ++ postImage (getD l m blank)
-unfolding postsImage
-posts-more m l = rw (add-one m)
-
-pub numbers-more : (m : ℕ) (l : List ℕ) → numbersImage (m + 1) l ≡ numbersImage m l ++ pairBytes (getD l m 0)
-unfolding numbersImage
-numbers-more m l = rw (add-one m)
-
--- ## Pieces put one after another
-
-pub nothing-put : (l : List ℕ) (at : ℕ) → Put l at [] at l
-unfolding decimalDigits
-nothing-put l at = put-nothing l at 0 0 refl
-
-module _ {l b s : List ℕ} {at next : ℕ} (p : Put l at s next b) where
-  pub same-after : at + length s ≤ length l → length b ≡ length l
-  same-after h = ap length (p .after) ∙ written-length l at s h
-
-  pub room-after : (k : ℕ) → at + length s + k ≤ length l → next + k ≤ length b
-  room-after k h = omega (arith, p .next, same-after (omega arith))
-
-  -- the text t put next
-  pub put-next :
-      {k : List ℕ} {q : ℕ} (t : List ℕ) → at + length s ≤ length l → (q ≡ next + length t) × (k ≡ written b next t) → Put l at (s ++ t) q k
-  put-next t h e = put-then p h (record { next = e .0; after = e .1 })
+-- ## Parts put one after another
 
 -- what a call that puts a text promises, where the text's length is known
 abbrev Puts : List ℕ → ℕ → ℕ → List ℕ → ℕ → List ℕ → Type 0
@@ -134,48 +109,44 @@ module _ (l : List ℕ) (at : ℕ) (t : Track) {head b₁ b₂ b₃ b₄ : List 
       let four = put-next three (numbersImage mostBlocks (t .last)) (simp length-append (omega arith)) (sized b₃ p₃ numbersLength _ last h₄) in
       (omega (arith, h₁ .0, h₂ .0, h₃ .0, h₄ .0, n), rw (← e) (four .after ∙ simp append-assoc))
 
-module _ (l : List ℕ) (s : Section) {head b₁ b₂ b₃ : List ℕ} {p₁ p₂ p₃ : ℕ} (room : imageLength ≤ length l) where
+module _ (l : List ℕ) (s : Section) {number settings b₁ b₂ b₃ b₄ : List ℕ} {p₁ p₂ p₃ p₄ : ℕ} (room : imageLength ≤ length l) where
   pub image-put :
-      head ≡ settingsBytes (s .settings) → Puts l 0 (length head) head p₁ b₁ → Puts b₁ p₁ trackLength (trackImage (s .a)) p₂ b₂ →
-      Puts b₂ p₂ trackLength (trackImage (s .b)) p₃ b₃ → b₃ ≡ written l 0 (imageOf s)
-  unfolding imageOf
-  image-put e h₁ h₂ h₃ =
+      number ≡ le16Bytes layoutNumber → settings ≡ settingsBytes (s .settings) → Puts l 0 (length number) number p₁ b₁ →
+      Puts b₁ p₁ (length settings) settings p₂ b₂ → Puts b₂ p₂ trackLength (trackImage (s .a)) p₃ b₃ →
+      Puts b₃ p₃ trackLength (trackImage (s .b)) p₄ b₄ → b₄ ≡ written l 0 (imageOf s)
+  unfolding imageOf imageHead
+  image-put en es h₁ h₂ h₃ h₄ =
       let a = track-length (s .a) in
       let b = track-length (s .b) in
-      let n = ap length e ∙ settings-length s in
-      let one : Put l 0 head p₁ b₁ = record { next = h₁ .0; after = h₁ .1 } in
-      let two = put-next one (trackImage (s .a)) (omega arith) (sized b₁ p₁ trackLength _ a h₂) in
-      let three = put-next two (trackImage (s .b)) (simp length-append (omega arith)) (sized b₂ p₂ trackLength _ b h₃) in
-      rw (← e) (three .after ∙ simp append-assoc)
-
--- ## A list that is filled from the front
-
--- `filled m` holds the first m items
-module _ {A : Type 0} (item : ℕ → A) (filled : ℕ → List A) (more : (m : ℕ) → filled (suc m) ≡ filled m ++ (item m ∷ [])) where
-  pub filled-more :
-      (l : List A) (i : ℕ) (x : A) → i < length l → take i l ≡ filled i → x ≡ item i → take (i + 1) (set l i x) ≡ filled (i + 1)
-  filled-more l i x h e ex =
-      rw (add-one i, take-suc-set l i x h, more i, e, ex)
+      let n = ap length en ∙ le16-length layoutNumber in
+      let m = ap length es ∙ settings-long (s .settings) in
+      let one : Put l 0 number p₁ b₁ = record { next = h₁ .0; after = h₁ .1 } in
+      let two = put-next one settings (omega arith) h₂ in
+      let three = put-next two (trackImage (s .a)) (simp length-append (omega arith)) (sized b₂ p₂ trackLength _ a h₃) in
+      let four = put-next three (trackImage (s .b)) (simp length-append (omega arith)) (sized b₃ p₃ trackLength _ b h₄) in
+      rw (← en, ← es) (four .after ∙ simp append-assoc)
 
 -- ## A test that goes from the last post down
 
 module _ (l : List ℕ) (at : ℕ) where
-  last-first : (i : ℕ) → 0 < i → postsRight l at i ≡ (postRight l (at + postLength * (i - 1)) && postsRight l at (i - 1))
-  unfolding postsRight
+  last-first : (i : ℕ) → 0 < i → postsWellFormed l at i ≡ (postWellFormed l (at + postLength * (i - 1)) && postsWellFormed l at (i - 1))
+  unfolding postsWellFormed
   last-first zero h = absurd (not-suc-le-zero h)
   last-first (suc i) h = rw (sub-one (suc i))
 
-  pub stops : (i : ℕ) → 0 < i → postRight l (at + postLength * (i - 1)) ≡ false → postsRight l at i ≡ false
+  pub stops : (i : ℕ) → 0 < i → postWellFormed l (at + postLength * (i - 1)) ≡ false → postsWellFormed l at i ≡ false
   stops i h e = last-first i h ∙ rw e
 
-  pub goes-on : (i : ℕ) → 0 < i → postRight l (at + postLength * (i - 1)) ≡ true → postsRight l at i ≡ postsRight l at (i - 1)
+  pub goes-on : (i : ℕ) → 0 < i → postWellFormed l (at + postLength * (i - 1)) ≡ true → postsWellFormed l at i ≡ postsWellFormed l at (i - 1)
   goes-on i h e = last-first i h ∙ rw e
 
--- ## A right image is as long as what is written
+-- ## A well-formed image is as long as what is written
 
-pub right-length : (l : List ℕ) → imageRight l ≡ true → length l ≡ imageLength
-unfolding imageRight
-right-length l e = eqb-true (length l) imageLength (and-left (eqb (length l) imageLength) (trackRight l trackA && trackRight l trackB) e)
+pub well-formed-length : (l : List ℕ) → imageWellFormed l ≡ true → length l ≡ imageLength
+unfolding imageWellFormed
+well-formed-length l e =
+    eqb-true (length l) imageLength
+    (and-left (eqb (length l) imageLength) (eqb (numberAt l 0) layoutNumber && (trackWellFormed l trackA && trackWellFormed l trackB)) e)
 
 pub whole-written : (l : List ℕ) (s : Section) → length l ≡ imageLength → written l 0 (imageOf s) ≡ imageOf s
 unfolding written

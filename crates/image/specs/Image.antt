@@ -1,8 +1,9 @@
--- The image of a section, 392 bytes, little-endian: 8 bytes of settings, then track A and track B. The layout is not stable.
+-- The image of a section, 394 bytes, little-endian: the layout's number, the settings as in a day file, then track A and track B. The layout may
+-- change with any delivery, and its number with it.
 use Prim.Native.Nat.{ℕ, zero, suc, _+_, _*_, _/_, _%_}
 use mathlib.Core.Bool.{Bool, true, cond, _&&_}
 use mathlib.Core.List.{List, [], _∷_, _++_}
-use lib.ListN.{length, getD}
+use lib.ListN.{length, take, drop, getD}
 use lib.Dec.{eqb, leb}
 use Rattle.section.specs.declared.Act.{Act}
 use Rattle.section.specs.declared.Act.the-variants.{Set, Announce, Acknowledge}
@@ -11,10 +12,10 @@ use Rattle.section.specs.declared.Section.{Section}
 use Rattle.section.specs.declared.Track.{Track}
 use Rattle.section.specs.declared.Walk.{Walk}
 use Rattle.section.specs.declared.Walk.the-variants.{Settled, Turn}
-use Rattle.section.specs.Bytes.{byte, pair}
+use Rattle.section.specs.Bytes.{byte, le16}
 use Rattle.section.specs.Numbers.{mostPosts, mostBlocks}
 use Rattle.section.specs.Post.{blank}
-use Rattle.layout.specs.Layout.{settingsLength, pairBytes, settingsBytes, settingsOf}
+use Rattle.layout.specs.Layout.{settingsLength, le16Bytes, settingsBytes, settingsOf}
 
 -- ## Lengths and places
 
@@ -38,15 +39,34 @@ headLength = 4
 abbrev pub trackLength : ℕ
 trackLength = headLength + (postsLength + (numbersLength + numbersLength))
 
--- 392
-abbrev pub imageLength : ℕ
-imageLength = settingsLength + (trackLength + trackLength)
+-- before the tracks: the layout's number, settings
+abbrev pub settingsPlace : ℕ
+settingsPlace = numberLength
 
 abbrev pub trackA : ℕ
-trackA = settingsLength
+trackA = settingsPlace + settingsLength
 
 abbrev pub trackB : ℕ
-trackB = settingsLength + trackLength
+trackB = trackA + trackLength
+
+-- 394
+abbrev pub imageLength : ℕ
+imageLength = trackA + (trackLength + trackLength)
+
+abbrev pub layoutNumber : ℕ
+layoutNumber = 1
+
+-- ## Items one after another
+
+-- the bytes of items 0 .. m − 1
+unfoldable pub itemsImage : (ℕ → List ℕ) → ℕ → List ℕ
+itemsImage item zero = []
+itemsImage item (suc m) = itemsImage item m ++ item m
+
+-- items 0 .. m − 1 themselves
+unfoldable pub items : {A : Type 0} → (ℕ → A) → ℕ → List A
+items item zero = []
+items item (suc m) = items item m ++ (item m ∷ [])
 
 -- ## What is written
 
@@ -55,21 +75,19 @@ flag x = cond x 1 0
 
 -- fault 1 at bit 0, fault 2 at bit 1, fault 3 at bit 2
 unfoldable pub faultsByte : Post → ℕ
-faultsByte o = flag (o .fault1) + flag (o .fault2) * 2 + flag (o .fault3) * 4
+faultsByte o = flag (o .faults .one) + flag (o .faults .two) * 2 + flag (o .faults .three) * 4
 
 -- device (1 at CVT), permission, measures, faults, mark, zero, seals
 unfoldable pub postImage : Post → List ℕ
-postImage o = flag (o .cvt) ∷ flag (o .permission) ∷ flag (o .measures) ∷ faultsByte o ∷ flag (o .mark) ∷ 0 ∷ pairBytes (o .seals)
+postImage o = flag (o .device) ∷ flag (o .permission) ∷ flag (o .measures) ∷ faultsByte o ∷ flag (o .mark) ∷ 0 ∷ le16Bytes (o .seals)
 
 -- the first m posts
 unfoldable pub postsImage : ℕ → List Post → List ℕ
-postsImage zero l = []
-postsImage (suc m) l = postsImage m l ++ postImage (getD l m blank)
+postsImage m l = itemsImage (λ (p : ℕ). postImage (getD l p blank)) m
 
 -- the first m numbers
 unfoldable pub numbersImage : ℕ → List ℕ → List ℕ
-numbersImage zero l = []
-numbersImage (suc m) l = numbersImage m l ++ pairBytes (getD l m 0)
+numbersImage m l = itemsImage (λ (i : ℕ). le16Bytes (getD l i 0)) m
 
 unfoldable pub actNumber : Act → ℕ
 actNumber Set = 1
@@ -88,41 +106,40 @@ trackHead t = flag (t .cvt) ∷ (walkImage (t .walk) ++ (0 ∷ []))
 unfoldable pub trackImage : Track → List ℕ
 trackImage t = trackHead t ++ (postsImage mostPosts (t .posts) ++ (numbersImage mostBlocks (t .trains) ++ numbersImage mostBlocks (t .last)))
 
+unfoldable pub imageHead : Section → List ℕ
+imageHead s = le16Bytes layoutNumber ++ settingsBytes (s .settings)
+
 unfoldable pub imageOf : Section → List ℕ
-imageOf s = settingsBytes (s .settings) ++ (trackImage (s .a) ++ trackImage (s .b))
+imageOf s = imageHead s ++ (trackImage (s .a) ++ trackImage (s .b))
 
 -- ## What is read
 
 unfoldable pub numberAt : List ℕ → ℕ → ℕ
-numberAt l at = pair (byte l at) (byte l (at + 1))
+numberAt l at = le16 (byte l at) (byte l (at + 1))
 
 unfoldable pub postAt : List ℕ → ℕ → Post
 postAt l at = record {
-  cvt = eqb (byte l at) 1;
+  device = eqb (byte l at) 1;
   permission = eqb (byte l (at + 1)) 1;
   measures = eqb (byte l (at + 2)) 1;
-  fault1 = eqb (byte l (at + 3) % 2) 1;
-  fault2 = eqb (byte l (at + 3) / 2 % 2) 1;
-  fault3 = eqb (byte l (at + 3) / 4 % 2) 1;
+  faults = record { one = eqb (byte l (at + 3) % 2) 1; two = eqb (byte l (at + 3) / 2 % 2) 1; three = eqb (byte l (at + 3) / 4 % 2) 1 };
   mark = eqb (byte l (at + 4)) 1;
   seals = numberAt l (at + 6);
 }
 
 -- m posts, one after another
 unfoldable pub postsFrom : List ℕ → ℕ → ℕ → List Post
-postsFrom l at zero = []
-postsFrom l at (suc m) = postsFrom l at m ++ (postAt l (at + postLength * m) ∷ [])
+postsFrom l at m = items (λ (p : ℕ). postAt l (at + postLength * p)) m
 
 -- m numbers, one after another
 unfoldable pub numbersFrom : List ℕ → ℕ → ℕ → List ℕ
-numbersFrom l at zero = []
-numbersFrom l at (suc m) = numbersFrom l at m ++ (numberAt l (at + numberLength * m) ∷ [])
+numbersFrom l at m = items (λ (i : ℕ). numberAt l (at + numberLength * i)) m
 
 unfoldable pub walkOf : ℕ → ℕ → Walk
 walkOf act post = cond (eqb act 0) Settled (cond (eqb act 1) (Turn post Set) (cond (eqb act 2) (Turn post Announce) (Turn post Acknowledge)))
 
-unfoldable pub trackAt : List ℕ → ℕ → Track
-trackAt l at = record {
+unfoldable pub trackFrom : List ℕ → ℕ → Track
+trackFrom l at = record {
   posts = postsFrom l (at + headLength) mostPosts;
   trains = numbersFrom l (at + (headLength + postsLength)) mostBlocks;
   last = numbersFrom l (at + (headLength + (postsLength + numbersLength))) mostBlocks;
@@ -131,22 +148,24 @@ trackAt l at = record {
 }
 
 unfoldable pub sectionOf : List ℕ → Section
-sectionOf l = record { settings = settingsOf l; a = trackAt l trackA; b = trackAt l trackB }
+sectionOf l = record { settings = settingsOf (take settingsLength (drop settingsPlace l)); a = trackFrom l trackA; b = trackFrom l trackB }
 
 -- ## Whether every byte stands for a value
 
-unfoldable pub postRight : List ℕ → ℕ → Bool
-postRight l at =
+unfoldable pub postWellFormed : List ℕ → ℕ → Bool
+postWellFormed l at =
     leb (byte l at) 1
     && (leb (byte l (at + 1)) 1 && (leb (byte l (at + 2)) 1 && (leb (byte l (at + 3)) 7 && leb (byte l (at + 4)) 1)))
 
 -- of m posts, one after another
-unfoldable pub postsRight : List ℕ → ℕ → ℕ → Bool
-postsRight l at zero = true
-postsRight l at (suc m) = postRight l (at + postLength * m) && postsRight l at m
+unfoldable pub postsWellFormed : List ℕ → ℕ → ℕ → Bool
+postsWellFormed l at zero = true
+postsWellFormed l at (suc m) = postWellFormed l (at + postLength * m) && postsWellFormed l at m
 
-unfoldable pub trackRight : List ℕ → ℕ → Bool
-trackRight l at = leb (byte l at) 1 && (leb (byte l (at + 1)) 3 && postsRight l (at + headLength) mostPosts)
+unfoldable pub trackWellFormed : List ℕ → ℕ → Bool
+trackWellFormed l at = leb (byte l at) 1 && (leb (byte l (at + 1)) 3 && postsWellFormed l (at + headLength) mostPosts)
 
-unfoldable pub imageRight : List ℕ → Bool
-imageRight l = eqb (length l) imageLength && (trackRight l trackA && trackRight l trackB)
+-- of this length and this layout, and both tracks
+unfoldable pub imageWellFormed : List ℕ → Bool
+imageWellFormed l =
+    eqb (length l) imageLength && (eqb (numberAt l 0) layoutNumber && (trackWellFormed l trackA && trackWellFormed l trackB))

@@ -7,7 +7,7 @@ use Rattle.section.specs.declared.Section.{Section}
 use Rattle.section.specs.declared.Track.{Track}
 use Rattle.section.specs.Numbers.{mostPosts, mostBlocks}
 use Rattle.section.specs.Post.{blank}
-use Rattle.image.specs.Image.{imageRight, imageOf, sectionOf}
+use Rattle.image.specs.Image.{imageWellFormed, imageOf, sectionOf}
 
 -- a number of 16 bits
 abbrev pub Small : ℕ → Type 0
@@ -28,6 +28,6 @@ pub record SectionHeld (s : Section) : Type 0 where
   pub a-held : TrackHeld (s .a)
   pub b-held : TrackHeld (s .b)
 
--- the image of every section that the code can hold is right, and says that section
+-- the image of every section that the code can hold is well formed, and says that section
 abbrev pub ReadsBack : Type 0
-ReadsBack = (s : Section) → SectionHeld s → (imageRight (imageOf s) ≡ true) × (sectionOf (imageOf s) ≡ s)
+ReadsBack = (s : Section) → SectionHeld s → (imageWellFormed (imageOf s) ≡ true) × (sectionOf (imageOf s) ≡ s)

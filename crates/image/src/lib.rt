@@ -1,10 +1,14 @@
-// The image of a section, 392 bytes: its layout, and whether every byte of it stands for a value.
-// The layout is not stable: it may change with any delivery.
+// The image of a section, 394 bytes: its layout, and whether every byte of it stands for a value.
+// The layout may change with any delivery, and its number with it: an image of another layout is not well formed.
+
+pub mod reader;
+pub mod writer;
+
 ghost use mathlib.Core.Path.{_≡_};
 ghost use Prim.Native.Nat.{_+_, _≤_};
 ghost use lib.ListN.{length};
 ghost use Rattle.section.specs.Numbers.{mostPosts};
-ghost use Rattle.image.specs.Image.{trackLength, postLength, postsLength, postRight, postsRight, trackRight, imageRight};
+ghost use Rattle.image.specs.Image.{trackLength, postLength, postsLength, postWellFormed, postsWellFormed, trackWellFormed, imageWellFormed};
 use layout::SETTINGS_LENGTH;
 use section::MOST_BLOCKS;
 use section::MOST_POSTS;
@@ -25,17 +29,22 @@ pub const LAST_TRAINS: usize = TRAINS + NUMBER_LENGTH * MOST_BLOCKS;
 
 const TRACK_LENGTH: usize = LAST_TRAINS + NUMBER_LENGTH * MOST_BLOCKS;
 
-// Where each track stands in a section's image.
-pub const TRACK_A: usize = SETTINGS_LENGTH;
+// The number of this layout, in an image's first two bytes.
+pub const LAYOUT_NUMBER: u16 = 1;
+
+// Where the settings and each track stand in a section's image.
+pub const SETTINGS: usize = NUMBER_LENGTH;
+
+pub const TRACK_A: usize = SETTINGS + SETTINGS_LENGTH;
 
 pub const TRACK_B: usize = TRACK_A + TRACK_LENGTH;
 
 pub const IMAGE_LENGTH: usize = TRACK_B + TRACK_LENGTH;
 
 // Of a post: device, permission, measures, faults, mark.
-fn post_right(bytes: &[u8], at: usize) -> bool
+fn post_well_formed(bytes: &[u8], at: usize) -> bool
     requires { ⌜ at + postLength ≤ length (now bytes) ⌝ }
-    ensures { λ r. ⌜ r ≡ postRight (now (bytes .entry)) at ⌝ }
+    ensures { λ r. ⌜ r ≡ postWellFormed (now (bytes .entry)) at ⌝ }
 {
     if bytes[at] > 1 {
         return false;
@@ -53,14 +62,14 @@ fn post_right(bytes: &[u8], at: usize) -> bool
 }
 
 // Of all sixteen posts, from the last one down.
-fn posts_right(bytes: &[u8], at: usize) -> bool
+fn posts_well_formed(bytes: &[u8], at: usize) -> bool
     requires { ⌜ at + postsLength ≤ length (now bytes) ⌝ }
-    ensures { λ r. ⌜ r ≡ postsRight (now (bytes .entry)) at mostPosts ⌝ }
+    ensures { λ r. ⌜ r ≡ postsWellFormed (now (bytes .entry)) at mostPosts ⌝ }
 {
     let mut i = POSTS_HELD;
     while i > 0 {
         i -= 1;
-        if !post_right(bytes, at + POST_LENGTH * i) {
+        if !post_well_formed(bytes, at + POST_LENGTH * i) {
             return false;
         }
     }
@@ -68,9 +77,9 @@ fn posts_right(bytes: &[u8], at: usize) -> bool
 }
 
 // Of a track: direction, act, posts.
-fn track_right(bytes: &[u8], at: usize) -> bool
+fn track_well_formed(bytes: &[u8], at: usize) -> bool
     requires { ⌜ at + trackLength ≤ length (now bytes) ⌝ }
-    ensures { λ r. ⌜ r ≡ trackRight (now (bytes .entry)) at ⌝ }
+    ensures { λ r. ⌜ r ≡ trackWellFormed (now (bytes .entry)) at ⌝ }
 {
     if bytes[at] > 1 {
         return false;
@@ -78,18 +87,21 @@ fn track_right(bytes: &[u8], at: usize) -> bool
     if bytes[at + 1] > 3 {
         return false;
     }
-    posts_right(bytes, at + POSTS)
+    posts_well_formed(bytes, at + POSTS)
 }
 
-// Of the right length, and both tracks.
-pub fn image_right(bytes: &[u8]) -> bool
-    ensures { λ r. ⌜ r ≡ imageRight (now (bytes .entry)) ⌝ }
+// Of this length and this layout, and both tracks.
+pub fn image_well_formed(bytes: &[u8]) -> bool
+    ensures { λ r. ⌜ r ≡ imageWellFormed (now (bytes .entry)) ⌝ }
 {
     if bytes.len() != IMAGE_LENGTH {
         return false;
     }
-    if !track_right(bytes, TRACK_A) {
+    if reader::number_at(bytes, 0) != LAYOUT_NUMBER {
         return false;
     }
-    track_right(bytes, TRACK_B)
+    if !track_well_formed(bytes, TRACK_A) {
+        return false;
+    }
+    track_well_formed(bytes, TRACK_B)
 }

@@ -2,12 +2,15 @@
 use Rattle.section.specs.declared.Settings.{Settings}
 use Rattle.section.specs.declared.Track.{Track}
 use Rattle.section.specs.declared.TrackStep.{TrackStep}
-use Rattle.sites.specs.declared.Running.{Running}
-use Rattle.table.specs.Judged.{judgedAt, trackAt, siteIn}
-use Rattle.judging.specs.declared.TrackAnswer.{TrackAnswer}
+use Rattle.section.specs.Step.{postOf}
+use Rattle.rules.specs.Site.{siteOn}
+use Rattle.site.specs.declared.running.Running.{Running}
+use Rattle.site.specs.Running.{onVns}
+use Rattle.judging.specs.Judged.{judgedAt, trackAt}
+use Rattle.judging.specs.declared.on_track.TrackAnswer.{TrackAnswer}
 
 unfoldable pub trackAnswer : Settings → TrackStep → Track → Running → TrackAnswer
 trackAnswer c x t other = record {
-  verdict = judgedAt c (x .step) (siteIn x t other) (t .trains) (t .last) .verdict;
-  track = trackAt c (x .step) (siteIn x t other) t;
+  verdict = judgedAt c (onVns other) (x .step) (siteOn (x .track) (postOf (x .step)) t) (t .trains) (t .last) .verdict;
+  track = trackAt c (onVns other) (x .step) (siteOn (x .track) (postOf (x .step)) t) t;
 }

@@ -1,45 +1,4 @@
-// A step judged on its own track, whose ranges hold.
-ghost use mathlib.Core.Path.{_≡_};
-ghost use Rattle.sites.specs.Fit.{Fit};
-ghost use Rattle.table.specs.Judged.{siteIn};
-ghost use Rattle.judging.specs.OnTrack.{trackAnswer};
-use section::Settings;
-use section::Track;
-use section::TrackStep;
-use section::Verdict;
-use sites::Running;
+// A step judged by the table: at its post, and on its track.
 
-// A step's verdict, and its track after it.
-pub struct TrackAnswer {
-    pub verdict: Verdict,
-    pub track: Track,
-}
-
-// Judges a well-formed step on its own track; of the other only the running direction and the walk count.
-pub fn judge_on_track(c: Settings, x: TrackStep, t: Track, other: Running) -> TrackAnswer
-    requires { ⌜ Fit c (siteIn x t other) ⌝ }
-    ensures { λ r. ⌜ r ≡ trackAnswer c x t other ⌝ }
-{
-    let running = sites::running_of(t);
-    let at = sites::place_of(x);
-    let mut posts = t.posts;
-    let mut trains = t.trains;
-    let mut last = t.last;
-    let own = posts[at];
-    let judged = table::judge_step(c, x, own, running, other, &mut trains, &mut last);
-    let verdict = judged.verdict;
-    let own_after = judged.own;
-    let after = judged.running;
-    let walk = after.walk;
-    posts[at] = own_after;
-    TrackAnswer {
-        verdict: verdict,
-        track: Track {
-            posts: posts,
-            trains: trains,
-            last: last,
-            cvt: after.cvt,
-            walk: walk,
-        },
-    }
-}
+pub mod at_post;
+pub mod on_track;

@@ -6,18 +6,18 @@ use native.Mathlib.Nat.{div-div-eq-div-mul, add-mul-mod-self-right, add-mul-div-
 use native.Mathlib.Omega.{arith}
 use lib.ListN.{length, drop, drop-of-length-le}
 use lib.Seq.{drop-cons}
-use Rattle.section.specs.Bytes.{byte, pair}
-use Rattle.layout.specs.Layout.{pairBytes, four, fourBytes}
+use Rattle.section.specs.Bytes.{byte, le16}
+use Rattle.layout.specs.Layout.{le16Bytes, le32, le32Bytes}
 
 -- ## Numbers
 
-pub pair-number : (x : ℕ) → x < 65536 → pair (x % 256) (x / 256 % 256) ≡ x
-unfolding pair
-pair-number x h = omega arith
+pub le16-number : (x : ℕ) → x < 65536 → le16 (x % 256) (x / 256 % 256) ≡ x
+unfolding le16
+le16-number x h = omega arith
 
-pub four-number : (x : ℕ) → x < 4294967296 → four (x % 256) (x / 256 % 256) (x / 65536 % 256) (x / 16777216 % 256) ≡ x
-unfolding four
-four-number x h =
+pub le32-number : (x : ℕ) → x < 4294967296 → le32 (x % 256) (x / 256 % 256) (x / 65536 % 256) (x / 16777216 % 256) ≡ x
+unfolding le32
+le32-number x h =
     rw (← div-div-eq-div-mul x 256 65536, ← div-div-eq-div-mul (x / 256) 256 256, ← div-div-eq-div-mul x 256 256) (omega arith)
 
 -- the lowest digit, and the rest
@@ -29,14 +29,14 @@ module _ (a q : ℕ) (h : a < 256) where
   rest = add-mul-div-right a q {z = 256} (omega arith) ∙ rw (div-eq-of-lt h) (omega arith)
 
 module _ (a b : ℕ) (ha : a < 256) (hb : b < 256) where
-  pub pair-bytes : pairBytes (pair a b) ≡ a ∷ b ∷ []
-  unfolding pairBytes pair
-  pair-bytes = rw (lowest a b ha, rest a b ha, mod-eq-of-lt hb)
+  pub le16-bytes : le16Bytes (le16 a b) ≡ a ∷ b ∷ []
+  unfolding le16Bytes le16
+  le16-bytes = rw (lowest a b ha, rest a b ha, mod-eq-of-lt hb)
 
   module _ (c d : ℕ) (hc : c < 256) (hd : d < 256) where
-    pub four-bytes : fourBytes (four a b c d) ≡ a ∷ b ∷ c ∷ d ∷ []
-    unfolding fourBytes four
-    four-bytes =
+    pub le32-bytes : le32Bytes (le32 a b c d) ≡ a ∷ b ∷ c ∷ d ∷ []
+    unfolding le32Bytes le32
+    le32-bytes =
         let z = c + d * 256 in
         let y = b + z * 256 in
         let x = a + y * 256 in

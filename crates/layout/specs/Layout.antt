@@ -6,7 +6,7 @@ use lib.ListN.{length, take, drop}
 use lib.Dec.{ltb}
 use mathlib.Core.Bool.{cond}
 use Rattle.section.specs.declared.Settings.{Settings}
-use Rattle.section.specs.Bytes.{byte, pair}
+use Rattle.section.specs.Bytes.{byte, le16}
 use Rattle.section.specs.Numbers.{stepLength}
 
 -- ## Lengths and distances, and the mark
@@ -39,30 +39,30 @@ mark = 66 ∷ 83 ∷ 82 ∷ 49 ∷ []
 -- ## Numbers in bytes ("Little-endian")
 
 -- the two bytes of a 16-bit number
-unfoldable pub pairBytes : ℕ → List ℕ
-pairBytes x = x % 256 ∷ x / 256 % 256 ∷ []
+unfoldable pub le16Bytes : ℕ → List ℕ
+le16Bytes x = x % 256 ∷ x / 256 % 256 ∷ []
 
 -- the 32-bit number of four bytes
-unfoldable pub four : ℕ → ℕ → ℕ → ℕ → ℕ
-four a b c d = a + b * 256 + c * 65536 + d * 16777216
+unfoldable pub le32 : ℕ → ℕ → ℕ → ℕ → ℕ
+le32 a b c d = a + b * 256 + c * 65536 + d * 16777216
 
 -- the four bytes of a 32-bit number
-unfoldable pub fourBytes : ℕ → List ℕ
-fourBytes x = x % 256 ∷ x / 256 % 256 ∷ x / 65536 % 256 ∷ x / 16777216 % 256 ∷ []
+unfoldable pub le32Bytes : ℕ → List ℕ
+le32Bytes x = x % 256 ∷ x / 256 % 256 ∷ x / 65536 % 256 ∷ x / 16777216 % 256 ∷ []
 
 -- the 32-bit number from byte i on
-unfoldable pub fourAt : List ℕ → ℕ → ℕ
-fourAt s i = four (byte s i) (byte s (i + 1)) (byte s (i + 2)) (byte s (i + 3))
+unfoldable pub le32At : List ℕ → ℕ → ℕ
+le32At s i = le32 (byte s i) (byte s (i + 1)) (byte s (i + 2)) (byte s (i + 3))
 
 -- ## What is written
 
 -- "byte 0 n; byte 1 form; bytes 2–3 a mask; bytes 4–5 line number; bytes 6–7 zero"
 unfoldable pub settingsBytes : Settings → List ℕ
-settingsBytes c = c .posts ∷ c .form ∷ (pairBytes (c .mask) ++ (pairBytes (c .line) ++ (0 ∷ 0 ∷ [])))
+settingsBytes c = c .posts ∷ c .form ∷ (le16Bytes (c .mask) ++ (le16Bytes (c .line) ++ (0 ∷ 0 ∷ [])))
 
 -- "the bytes "BSR1", then three 32-bit numbers: the distance to the settings, that to the first step, the count"
 unfoldable pub trailer : ℕ → List ℕ
-trailer count = mark ++ (fourBytes settingsDistance ++ (fourBytes (stepsDistance count) ++ fourBytes count))
+trailer count = mark ++ (le32Bytes settingsDistance ++ (le32Bytes (stepsDistance count) ++ le32Bytes count))
 
 -- how many steps these bytes are; an incomplete one at the end counts
 unfoldable pub stepCount : List ℕ → ℕ
@@ -90,7 +90,7 @@ stepsIn file = take (length file - settingsDistance) file
 
 -- the settings that eight bytes say
 unfoldable pub settingsOf : List ℕ → Settings
-settingsOf s = record { posts = byte s 0; form = byte s 1; mask = pair (byte s 2) (byte s 3); line = pair (byte s 4) (byte s 5) }
+settingsOf s = record { posts = byte s 0; form = byte s 1; mask = le16 (byte s 2) (byte s 3); line = le16 (byte s 4) (byte s 5) }
 
 -- the bytes of step i
 unfoldable pub stepAt : List ℕ → ℕ → List ℕ

@@ -3,9 +3,9 @@ use Prim.Native.Nat.{ℕ}
 use mathlib.Core.List.{List, [], _∷_, _++_}
 use Rattle.section.specs.declared.Answer.{Answer}
 use Rattle.section.specs.declared.Said.{Said}
-use Rattle.section.specs.Words.{refusalOf, saidBy}
+use Rattle.section.specs.declared.Said.the-variants.{Nothing, Cvt, Cvtz, Vns, Vnsz}
+use Rattle.section.specs.Words.{refusalOf, saidBy, trackLetter}
 use Rattle.text.specs.Text.{ascii, decimal}
-use Rattle.lines.specs.Text.{word, trackLetter}
 
 -- "one line, `refused K I` (number, index)"
 unfoldable pub refusedLine : ℕ → ℕ → List ℕ
@@ -14,6 +14,14 @@ refusedLine number index = ascii "refused " ++ (decimal number ++ (ascii " " ++ 
 -- "a header (`posts`, n, `steps`, the count)"
 unfoldable pub header : ℕ → ℕ → List ℕ
 header n count = ascii "posts " ++ (decimal n ++ (ascii " steps " ++ (decimal count ++ ascii "\n")))
+
+-- "what is said or `-`"
+unfoldable pub word : Said → List ℕ
+word Nothing = ascii "-"
+word Cvt = ascii "CVT"
+word Cvtz = ascii "CVTz"
+word Vns = ascii "VNS"
+word Vnsz = ascii "VNSz"
 
 -- "0 or refusal, what is said or `-`"
 unfoldable pub verdictFields : ℕ → Said → List ℕ

@@ -1,4 +1,8 @@
 // A number in a line; the line of a refused file and the header of a day.
+
+pub mod listing;
+pub mod panel;
+
 ghost use mathlib.Core.Path.{_≡_};
 ghost use mathlib.Core.List.{[], _∷_, _++_};
 ghost use Prim.Native.Nat.{_+_, _≤_};

@@ -1,3 +1,4 @@
+pub mod Printed
+pub mod Sheet
 pub mod Listing
 pub mod Panel
-pub mod Worked

@@ -1,4 +1,4 @@
--- A note has four bytes, and its second gives back what is said.
+-- A note has four bytes.
 use Prim.Native.Nat.{ℕ, suc, _+_, _≤_}
 use mathlib.Core.List.{List, [], _∷_, append-assoc}
 use mathlib.Core.Path.{_≡_, refl, _∙_}
@@ -7,23 +7,12 @@ use native.Mathlib.Numerals.{add-one}
 use lib.ListN.{length, set, take, drop}
 use lib.Seq.{sets-eq}
 use Rattle.section.specs.declared.Answer.{Answer}
-use Rattle.section.specs.declared.Said.{Said}
-use Rattle.section.specs.declared.Said.the-variants.{Nothing, Cvt, Cvtz, Vns, Vnsz}
-use Rattle.section.specs.Words.{saidNumber}
 use Rattle.text.specs.Text.{written}
-use Rattle.notes.specs.Note.{noteLength, noteWith, note, saidNumbered}
+use Rattle.notes.specs.Note.{noteLength, noteWith, note}
 
 pub note-length : (answer : Answer) → length (note answer) ≡ noteLength
 unfolding note noteWith
 note-length answer = refl
-
-pub said-back : (said : Said) → saidNumbered (saidNumber said) ≡ said
-unfolding saidNumbered saidNumber
-said-back Nothing = refl
-said-back Cvt = refl
-said-back Cvtz = refl
-said-back Vns = refl
-said-back Vnsz = refl
 
 -- four bytes stored one after another
 pub four-stored :

@@ -1,22 +1,17 @@
 -- What the C interface returns, packed into one number.
 use Prim.Native.Nat.{ℕ, _+_, _*_, _%_, _^_}
 use Rattle.section.specs.declared.Indications.{Indications}
-use Rattle.section.specs.declared.Settings.{Settings}
 use Rattle.dayfile.specs.declared.Reading.{Reading}
 use Rattle.dayfile.specs.declared.Reading.the-variants.{Day, Refused}
 use Rattle.dayfile.specs.declared.Written.{Written}
 use Rattle.dayfile.specs.declared.Written.the-variants.{Bytes, Refused as NotWritten}
-use Rattle.text.specs.declared.Handed.{Handed}
-use Rattle.text.specs.declared.Handed.the-variants.{Bytes as HandedBytes, TooShort}
+use Rattle.text.specs.declared.Copied.{Copied}
+use Rattle.text.specs.declared.Copied.the-variants.{Bytes as CopiedBytes, TooShort}
 
 -- the refusal × 65,536, and the count of steps or the refusal's index
 unfoldable pub packedReading : Reading → ℕ
 packedReading (Day count) = count
 packedReading (Refused number index) = number * 65536 + index
-
--- n, the form, the mask and the line, each from a byte of its own on
-unfoldable pub packedSettings : Settings → ℕ
-packedSettings c = c .posts + c .form * 2 ^ 8 + c .mask * 2 ^ 16 + c .line * 2 ^ 32
 
 -- the refusal, and 256 × the file's length or the refusal's index, of which the lowest 32 bits are kept
 unfoldable pub packedWritten : Written → ℕ
@@ -28,6 +23,6 @@ unfoldable pub packedIndications : Indications → ℕ
 packedIndications i = i .circulation + i .troncon * 8 + i .permission * 64
 
 -- the length and 1, or 0 for a buffer too short
-unfoldable pub packedHanded : Handed → ℕ
-packedHanded (HandedBytes size) = size + 1
-packedHanded TooShort = 0
+unfoldable pub packedCopied : Copied → ℕ
+packedCopied (CopiedBytes size) = size + 1
+packedCopied TooShort = 0

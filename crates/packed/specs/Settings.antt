@@ -1,7 +1,12 @@
--- Settings over the C interface.
+-- Settings over the C interface: the bytes that a day file has for them.
 use Prim.Native.Nat.{ℕ}
-use Rattle.section.specs.declared.Settings.{Settings}
+use mathlib.Core.Bool.{Bool, _&&_}
+use mathlib.Core.List.{List}
+use lib.Dec.{eqb}
+use lib.ListN.{length}
+use Rattle.layout.specs.Layout.{settingsLength}
+use Rattle.dayfile.specs.Tests.{settingsWellFormed}
 
--- the settings that a call hands in, field by field
-abbrev pub settingsGiven : ℕ → ℕ → ℕ → ℕ → Settings
-settingsGiven n form mask line = record { posts = n; form = form; mask = mask; line = line }
+-- as many bytes as a day file has for its settings, and such that its reader takes them
+unfoldable pub lentSettingsWellFormed : List ℕ → Bool
+lentSettingsWellFormed bytes = eqb (length bytes) settingsLength && settingsWellFormed bytes

@@ -1,24 +1,23 @@
-// What the C interface takes and returns: settings field by field, and answers packed into one number.
+// What the C interface takes and returns: settings in a day file's bytes, and answers packed into one number.
 ghost use mathlib.Core.Path.{_≡_};
 ghost use Prim.Native.Nat.{_<_, _≤_, _^_};
-ghost use Rattle.packed.specs.Packed.{packedReading, packedSettings, packedWritten, packedIndications, packedHanded};
-ghost use Rattle.packed.specs.Settings.{settingsGiven};
+ghost use Rattle.packed.specs.Packed.{packedReading, packedWritten, packedIndications, packedCopied};
+ghost use Rattle.packed.specs.Settings.{lentSettingsWellFormed};
 use dayfile::Reading;
 use dayfile::Written;
+use dayfile::tests;
+use layout::SETTINGS_LENGTH;
 use section::Indications;
-use section::Settings;
-use text::Handed;
+use text::Copied;
 
-// The settings that a call hands in, field by field.
-pub fn settings_given(n: u8, form: u8, mask: u16, line: u16) -> Settings
-    ensures { λ r. ⌜ r ≡ settingsGiven n form mask line ⌝ }
+// Whether lent bytes are settings: as many as a day file has for them, and such that its reader takes them.
+pub fn lent_settings_well_formed(bytes: &[u8]) -> bool
+    ensures { λ r. ⌜ r ≡ lentSettingsWellFormed (now (bytes .entry)) ⌝ }
 {
-    Settings {
-        posts: n,
-        form: form,
-        mask: mask,
-        line: line,
+    if bytes.len() != SETTINGS_LENGTH {
+        return false;
     }
+    tests::settings_well_formed(bytes)
 }
 
 // The refusal, and the count of steps or the refusal's index: every reading of a file fits.
@@ -30,16 +29,6 @@ pub fn packed_reading(reading: Reading) -> u32
         Reading::Day(count) => count as u32,
         Reading::Refused(number, index) => (number as u32) * 65536 + (index as u32),
     }
-}
-
-// Settings, field by field.
-pub fn packed_settings(c: Settings) -> u64
-    ensures { λ r. ⌜ r ≡ packedSettings c ⌝ }
-{
-    (c.posts as u64)
-        + (c.form as u64) * 256
-        + (c.mask as u64) * 65536
-        + (c.line as u64) * 4294967296
 }
 
 // The refusal, and the file's length or the refusal's index.
@@ -60,12 +49,12 @@ pub fn packed_indications(shown: Indications) -> u16
 }
 
 // No buffer, and so no text in it, is as long as 2^63 bytes.
-pub fn packed_handed(done: Handed) -> u64
-    requires { ⌜ packedHanded done ≤ 2 ^ 63 ⌝ }
-    ensures { λ r. ⌜ r ≡ packedHanded done ⌝ }
+pub fn packed_copied(done: Copied) -> u64
+    requires { ⌜ packedCopied done ≤ 2 ^ 63 ⌝ }
+    ensures { λ r. ⌜ r ≡ packedCopied done ⌝ }
 {
     match done {
-        Handed::Bytes(size) => (size as u64) + 1,
-        Handed::TooShort => 0,
+        Copied::Bytes(size) => (size as u64) + 1,
+        Copied::TooShort => 0,
     }
 }

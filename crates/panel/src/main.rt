@@ -1,18 +1,11 @@
 // Prints the panel of the day file on standard input.
-use streams::Input;
-use text::Handed;
-
-fn print(file: &[u8]) {
-    let mut text = sheets::panel_room();
-    if let Handed::Bytes(n) = listing::panel(file, &mut text) {
-        streams::write_whole(true, &text[..n], b"panel: cannot write standard output");
-    }
-}
+use listing::sheets::Sheet;
+use streams::printing::print_input;
 
 fn main() {
-    let mut file = listing::file_room();
-    match streams::read_whole(&mut file) {
-        Input::Bytes(n) => print(&file[..n]),
-        Input::Failed => os::fail(b"panel: cannot read standard input"),
-    }
+    print_input(
+        Sheet::Panel,
+        b"panel: cannot read standard input",
+        b"panel: cannot write standard output",
+    );
 }

@@ -1,23 +1,26 @@
 // Whether settings and the fields of a state are in their ranges: refusal 6.
+
+pub mod settings;
+
 ghost use mathlib.Core.Path.{_≡_};
 ghost use mathlib.Core.Bool.{_&&_};
 ghost use Prim.Native.Nat.{_-_, _<_, _≤_};
 ghost use lib.Dec.{leb};
 ghost use Rattle.section.specs.Numbers.{largestTrain, mostSeals, leastPosts, mostPosts};
-ghost use Rattle.section.specs.Range.{sealsFit, numbersFit, actFits, walkFits, trackFits, inRange};
-use positions::is_first;
-use positions::is_last;
-use positions::is_upward;
+ghost use Rattle.section.specs.Range.{sealsInRange, numbersInRange, actInRange, walkInRange, trackInRange, inRange};
+use crate::settings::settings_in_range;
 use section::Act;
 use section::LARGEST_TRAIN;
 use section::MOST_SEALS;
 use section::Section;
 use section::Track;
 use section::Walk;
-use settings_range::settings_right;
+use section::positions::is_first;
+use section::positions::is_last;
+use section::positions::is_upward;
 
 // A post's seal count, and the train and the last train of the block section beside it.
-fn post_and_block_fit(seals: u16, train: u16, last: u16) -> bool
+fn post_and_block_in_range(seals: u16, train: u16, last: u16) -> bool
     ensures { λ r. ⌜ r ≡ (leb seals mostSeals && (leb train largestTrain && leb last largestTrain)) ⌝ }
 {
     if seals > MOST_SEALS {
@@ -30,9 +33,9 @@ fn post_and_block_fit(seals: u16, train: u16, last: u16) -> bool
 }
 
 // Every post and block section of a track, in one loop from the last post down.
-fn cells_fit(n: u8, t: Track) -> bool
+fn cells_in_range(n: u8, t: Track) -> bool
     requires { ⌜ (leastPosts ≤ n) × (n ≤ mostPosts) ⌝ }
-    ensures { λ r. ⌜ r ≡ (sealsFit n (t .posts) && (numbersFit (n - 1) (t .trains) && numbersFit (n - 1) (t .last))) ⌝ }
+    ensures { λ r. ⌜ r ≡ (sealsInRange n (t .posts) && (numbersInRange (n - 1) (t .trains) && numbersInRange (n - 1) (t .last))) ⌝ }
 {
     let mut i = (n - 1) as usize;
     if t.posts[i].seals > MOST_SEALS {
@@ -40,7 +43,7 @@ fn cells_fit(n: u8, t: Track) -> bool
     }
     while i > 0 {
         i -= 1;
-        if !post_and_block_fit(t.posts[i].seals, t.trains[i], t.last[i]) {
+        if !post_and_block_in_range(t.posts[i].seals, t.trains[i], t.last[i]) {
             return false;
         }
     }
@@ -48,9 +51,9 @@ fn cells_fit(n: u8, t: Track) -> bool
 }
 
 // Announce is never at the last post, acknowledge never at the first.
-fn act_fits(n: u8, up: bool, p: u8, act: Act) -> bool
+fn act_in_range(n: u8, up: bool, p: u8, act: Act) -> bool
     requires { ⌜ p < n ⌝ }
-    ensures { λ r. ⌜ r ≡ actFits n up p act ⌝ }
+    ensures { λ r. ⌜ r ≡ actInRange n up p act ⌝ }
 {
     match act {
         Act::Set => true,
@@ -59,14 +62,14 @@ fn act_fits(n: u8, up: bool, p: u8, act: Act) -> bool
     }
 }
 
-fn walk_fits(n: u8, up: bool, walk: Walk) -> bool
-    ensures { λ r. ⌜ r ≡ walkFits n up walk ⌝ }
+fn walk_in_range(n: u8, up: bool, walk: Walk) -> bool
+    ensures { λ r. ⌜ r ≡ walkInRange n up walk ⌝ }
 {
     match walk {
         Walk::Settled => true,
         Walk::Turn(p, act) => {
             if p < n {
-                act_fits(n, up, p, act)
+                act_in_range(n, up, p, act)
             } else {
                 false
             }
@@ -74,15 +77,15 @@ fn walk_fits(n: u8, up: bool, walk: Walk) -> bool
     }
 }
 
-fn track_fits(n: u8, track: bool, t: Track) -> bool
+fn track_in_range(n: u8, track: bool, t: Track) -> bool
     requires { ⌜ (leastPosts ≤ n) × (n ≤ mostPosts) ⌝ }
-    ensures { λ r. ⌜ r ≡ trackFits n track t ⌝ }
+    ensures { λ r. ⌜ r ≡ trackInRange n track t ⌝ }
 {
-    if !cells_fit(n, t) {
+    if !cells_in_range(n, t) {
         return false;
     }
     let walk = t.walk;
-    walk_fits(n, is_upward(track, t.cvt), walk)
+    walk_in_range(n, is_upward(track, t.cvt), walk)
 }
 
 // What refusal 6 asks for.
@@ -90,11 +93,11 @@ pub fn in_range(s: Section) -> bool
     ensures { λ r. ⌜ r ≡ inRange s ⌝ }
 {
     let n = s.settings.posts;
-    if !settings_right(s.settings) {
+    if !settings_in_range(s.settings) {
         return false;
     }
-    if !track_fits(n, false, s.a) {
+    if !track_in_range(n, false, s.a) {
         return false;
     }
-    track_fits(n, true, s.b)
+    track_in_range(n, true, s.b)
 }

@@ -15,7 +15,7 @@ use Rattle.section.specs.declared.Verdict.the-variants.{Accepted, Refused}
 use Rattle.section.specs.Range.{inRange}
 use Rattle.section.specs.Step.{decoded, numberOf}
 use Rattle.section.specs.Store.{trackOf, withTrack}
-use Rattle.rules.specs.Site.{siteOn, otherSettledOnVns, occupancyAt}
+use Rattle.rules.specs.Site.{siteOn, otherSettledOnVns, Occupancy, occupancyAt}
 use Rattle.rules.specs.Table.{Check, checks, effect, trackAfter}
 use Rattle.rules.specs.Judge.{verdictOf, answerOf, verdictOn, sectionAfter, judgeStep, judgeDecoded, judgeInRange, judge}
 use Rattle.rules.proofs.Facts.{T-true}
@@ -50,47 +50,50 @@ ruled (k ∷ ks) w = go (k .holds) refl (ruled ks w)
 -- ## A step on a track: its checks, the track after it
 
 module _ (c : Settings) where
+  -- what its checks see of the trains, and of the other track: v, whether that is settled on VNS
+  abbrev pub occupancyOn : Bool → Bool → ℕ → View → Track → Occupancy
+  occupancyOn v b p k t = occupancyAt c v (siteOn b p t) (numberOf (flat p k)) (t .trains) (t .last)
+
   abbrev pub checksAt : Bool → Bool → ℕ → View → Track → List Check
-  checksAt v b p k t =
-      checks c (flat p k) (siteOn v b p t) (occupancyAt c (siteOn v b p t) (numberOf (flat p k)) (t .trains) (t .last))
+  checksAt v b p k t = checks c (flat p k) (siteOn b p t) (occupancyOn v b p k t)
 
-  abbrev pub moved : Bool → Bool → ℕ → View → Track → Track
-  moved v b p k t = trackAfter c (flat p k) (siteOn v b p t) t
+  abbrev pub trackAfterStep : Bool → ℕ → View → Track → Track
+  trackAfterStep b p k t = trackAfter c (flat p k) (siteOn b p t) t
 
-  pub record Passes (v b : Bool) (p : ℕ) (k : View) (t : Track) : Type 0 where
+  pub record AcceptedOn (v b : Bool) (p : ℕ) (k : View) (t : Track) : Type 0 where
     pub fits : Fits (c .posts) p k
     pub held : AllHold (checksAt v b p k t)
 
   -- ## A step on a section: that it is accepted, what it says, the section after it
 
-  unfoldable pub Ok : Section → Seen → Type 0
-  Ok s x = Passes (otherSettledOnVns s (x .track)) (x .track) (x .post) (x .kind) (trackOf s (x .track))
+  unfoldable pub AcceptedIn : Section → Seen → Type 0
+  AcceptedIn s x = AcceptedOn (otherSettledOnVns s (x .track)) (x .track) (x .post) (x .kind) (trackOf s (x .track))
 
-  unfoldable pub word : Section → Seen → Said
-  word s x = effect c (flat (x .post) (x .kind)) (siteOn (otherSettledOnVns s (x .track)) (x .track) (x .post) (trackOf s (x .track))) .said
+  unfoldable pub saidIn : Section → Seen → Said
+  saidIn s x = effect c (flat (x .post) (x .kind)) (siteOn (x .track) (x .post) (trackOf s (x .track))) .said
 
-  unfoldable pub next : Section → Seen → Section
-  next s x = withTrack s (x .track) (moved (otherSettledOnVns s (x .track)) (x .track) (x .post) (x .kind) (trackOf s (x .track)))
+  unfoldable pub sectionAfterStep : Section → Seen → Section
+  sectionAfterStep s x = withTrack s (x .track) (trackAfterStep (x .track) (x .post) (x .kind) (trackOf s (x .track)))
 
   abbrev pub checksOf : Section → Seen → List Check
   checksOf s x = checksAt (otherSettledOnVns s (x .track)) (x .track) (x .post) (x .kind) (trackOf s (x .track))
 
   module _ (s : Section) (e : s .settings ≡ c) where
-    verdict-is : (x : Seen) → verdictOn s (shown x) ≡ verdictOf (checksOf s x) (word s x)
-    unfolding verdictOn word
+    verdict-is : (x : Seen) → verdictOn s (shown x) ≡ verdictOf (checksOf s x) (saidIn s x)
+    unfolding verdictOn saidIn
     verdict-is x = rw (e, post-flat (x .post) (x .kind)) refl
 
-    section-is : (x : Seen) → sectionAfter s (shown x) ≡ next s x
-    unfolding sectionAfter next
+    section-is : (x : Seen) → sectionAfter s (shown x) ≡ sectionAfterStep s x
+    unfolding sectionAfter sectionAfterStep
     section-is x = rw (e, post-flat (x .post) (x .kind)) refl
 
     -- a step whose checks all pass
-    step-accepted : (x : Seen) → Ok s x → judgeStep s (shown x) ≡ record { verdict = Accepted (word s x); section = next s x }
-    unfolding judgeStep answerOf Ok
+    step-accepted : (x : Seen) → AcceptedIn s x → judgeStep s (shown x) ≡ record { verdict = Accepted (saidIn s x); section = sectionAfterStep s x }
+    unfolding judgeStep answerOf AcceptedIn
     step-accepted x h =
-        rw (verdict-is x, all-accepted (checksOf s x) (word s x) (h .held)) (ap (λ n. record { verdict = Accepted (word s x); section = n }) (section-is x))
+        rw (verdict-is x, all-accepted (checksOf s x) (saidIn s x) (h .held)) (ap (λ n. record { verdict = Accepted (saidIn s x); section = n }) (section-is x))
 
-    pub step-refused : (x : Seen) (k : ℕ) → verdictOf (checksOf s x) (word s x) ≡ Refused k → judgeStep s (shown x) ≡ record {
+    pub step-refused : (x : Seen) (k : ℕ) → verdictOf (checksOf s x) (saidIn s x) ≡ Refused k → judgeStep s (shown x) ≡ record {
       verdict = Refused k;
       section = s;
     }
@@ -103,9 +106,9 @@ module _ (c : Settings) where
       unfolding judge judgeInRange judgeDecoded
       judge-well bytes x q = rw (r, e, q) refl
 
-      pub ok-judge : (bytes : List ℕ) (x : Seen) → decoded (c .posts) bytes ≡ Well (shown x) → Ok s x
-          → judge s bytes ≡ record { verdict = Accepted (word s x); section = next s x }
-      ok-judge bytes x q h = judge-well bytes x q ∙ step-accepted x h
+      pub accepted-judge : (bytes : List ℕ) (x : Seen) → decoded (c .posts) bytes ≡ Well (shown x) → AcceptedIn s x
+          → judge s bytes ≡ record { verdict = Accepted (saidIn s x); section = sectionAfterStep s x }
+      accepted-judge bytes x q h = judge-well bytes x q ∙ step-accepted x h
 
       pub judge-malformed : (bytes : List ℕ) → decoded (c .posts) bytes ≡ Malformed → judge s bytes ≡ record { verdict = Refused 4; section = s }
       unfolding judge judgeInRange judgeDecoded
@@ -114,20 +117,20 @@ module _ (c : Settings) where
       -- they are refused, and nothing changes, or they say a step whose checks all pass
       pub data Judged (bytes : List ℕ) : Type 0 where
         refused : (k : ℕ) → judge s bytes ≡ record { verdict = Refused k; section = s } → Judged bytes
-        accepted : (x : Seen) → decoded (c .posts) bytes ≡ Well (shown x) → Ok s x
-            → judge s bytes ≡ record { verdict = Accepted (word s x); section = next s x } → Judged bytes
+        accepted : (x : Seen) → decoded (c .posts) bytes ≡ Well (shown x) → AcceptedIn s x
+            → judge s bytes ≡ record { verdict = Accepted (saidIn s x); section = sectionAfterStep s x } → Judged bytes
 
       unfoldable pub judged : (bytes : List ℕ) → Judged bytes
-      unfolding Ok ruled
+      unfolding AcceptedIn ruled
       judged bytes = by-said (decoded (c .posts) bytes) refl
         where
-          by-rule : (x : Seen) → decoded (c .posts) bytes ≡ Well (shown x) → Fits (c .posts) (x .post) (x .kind) → Ruled (checksOf s x) (word s x)
+          by-rule : (x : Seen) → decoded (c .posts) bytes ≡ Well (shown x) → Fits (c .posts) (x .post) (x .kind) → Ruled (checksOf s x) (saidIn s x)
               → Judged bytes
-          by-rule x q f (passed h) = let ok : Ok s x = record { fits = f; held = h } in accepted x q ok (ok-judge bytes x q ok)
+          by-rule x q f (passed h) = let ok : AcceptedIn s x = record { fits = f; held = h } in accepted x q ok (accepted-judge bytes x q ok)
           by-rule x q f (failed k z) = refused k (judge-well bytes x q ∙ step-refused x k z)
 
           by-said : (d : Decoded) → decoded (c .posts) bytes ≡ d → Judged bytes
           by-said (Well y) q =
               by-rule (seen y) (q ∙ ap Well (sym (shown-seen y))) (decoded-says (c .posts) bytes y q .fields .fits)
-              (ruled (checksOf s (seen y)) (word s (seen y)))
+              (ruled (checksOf s (seen y)) (saidIn s (seen y)))
           by-said Malformed q = refused 4 (judge-malformed bytes q)

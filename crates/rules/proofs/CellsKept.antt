@@ -19,14 +19,15 @@ use Rattle.section.proofs.Laws.{posts-right, settings-in-range}
 use Rattle.rules.specs.declared.Site.{Site}
 use Rattle.rules.specs.declared.Movement.{Movement}
 use Rattle.rules.specs.declared.Movement.the-variants.{Stays, Enters, Moves, Leaves}
-use Rattle.rules.specs.Site.{siteOn, otherSettledOnVns, atSendingEnd, atReceivingEnd, blockAhead, blockBefore}
-use Rattle.rules.specs.Table.{checks, effect, trainsAfter, lastAfter, trackAfter}
+use Rattle.rules.specs.Site.{siteOn, otherSettledOnVns, blockAhead, blockBefore}
+use Rattle.rules.specs.Table.{checks, effect, vacated, cellsAfter, trackAfter}
 use Rattle.rules.specs.Judge.{judge}
 use Rattle.rules.specs.CellsPast.{SamePast, CellsPastKept}
-use Rattle.rules.proofs.Facts.{nor-l, nor-r, by-track, first-not-last, last-not-first, ahead-lt, before-lt}
+use Rattle.rules.proofs.Facts.{by-track, first-not-last, ahead-lt, before-lt}
 use Rattle.rules.proofs.View.{start, pass, leave, View, walks, runs, notes, releases, flat, Seen}
-use Rattle.rules.proofs.Frame.{still-train}
-use Rattle.rules.proofs.Accept.{Passes, moved, Ok, next, Judged, refused, accepted, judged}
+use Rattle.rules.proofs.Frame.{no-movement}
+use Rattle.rules.proofs.Accept.{AcceptedOn, trackAfterStep, AcceptedIn, sectionAfterStep, Judged, refused, accepted, judged}
+use Rattle.rules.proofs.Held.{start-held, pass-held, leave-not-first}
 use Rattle.rules.proofs.Exchange.{here-after, there-after}
 
 pub same-past : (n : ℕ) (t : Track) → SamePast n t t
@@ -44,60 +45,59 @@ module _ (c : Settings) where
   store-past : (l : List ℕ) (j z i : ℕ) → suc j < c .posts → c .posts ≤ suc i → getD (set l j z) i 0 ≡ getD l i 0
   store-past l j z i h k = getD-set-other l j i z 0 (omega arith)
 
-  trains-past : (m : Movement) (e : Site) (l : List ℕ) → StoresInside m e → (i : ℕ) → c .posts ≤ suc i → getD (trainsAfter c m e l) i 0 ≡ getD l i 0
-  unfolding trainsAfter
-  trains-past Stays e l h i k = refl
-  trains-past (Enters z) e l h i k = store-past l _ _ i h k
-  trains-past (Moves z) e l h i k =
-      store-past (set l (blockBefore c e) 0) (blockAhead c e) z i (h .1) k ∙ store-past l (blockBefore c e) 0 i (h .0) k
-  trains-past Leaves e l h i k = store-past l _ _ i h k
+  vacated-past : (clears : Bool) (e : Site) (l : List ℕ) → suc (blockBefore c e) < c .posts → (i : ℕ) → c .posts ≤ suc i
+      → getD (vacated c clears e l) i 0 ≡ getD l i 0
+  vacated-past true e l h i k = store-past l (blockBefore c e) 0 i h k
+  vacated-past false e l h i k = refl
 
-  last-past : (m : Movement) (e : Site) (l : List ℕ) → StoresInside m e → (i : ℕ) → c .posts ≤ suc i → getD (lastAfter c m e l) i 0 ≡ getD l i 0
-  unfolding lastAfter
-  last-past Stays e l h i k = refl
-  last-past (Enters z) e l h i k = store-past l _ _ i h k
-  last-past (Moves z) e l h i k = store-past l _ _ i (h .1) k
-  last-past Leaves e l h i k = refl
+  cells-past : (clears : Bool) (m : Movement) (e : Site) (l : List ℕ) → StoresInside m e → (i : ℕ) → c .posts ≤ suc i
+      → getD (cellsAfter c clears m e l) i 0 ≡ getD l i 0
+  unfolding cellsAfter
+  cells-past clears Stays e l h i k = refl
+  cells-past clears (Enters z) e l h i k = store-past l _ _ i h k
+  cells-past clears (Moves z) e l h i k =
+      store-past (vacated c clears e l) (blockAhead c e) z i (h .1) k ∙ vacated-past clears e l (h .0) i k
+  cells-past clears Leaves e l h i k = vacated-past clears e l h i k
 
   -- ## An accepted step
 
   module _ (n2 : 2 ≤ c .posts) (v b : Bool) (p : ℕ) (t : Track) where
     abbrev e : Site
-    e = siteOn v b p t
+    e = siteOn b p t
 
     abbrev up : Bool
     up = upward b (t .cvt)
 
     -- a start is at the sending end, a pass at neither end, a leave at the receiving end
-    stores-inside : (k : View) → Passes c v b p k t → StoresInside (effect c (flat p k) e .train) e
+    stores-inside : (k : View) → AcceptedOn c v b p k t → StoresInside (effect c (flat p k) e .train) e
     unfolding checks effect flat
-    stores-inside (walks r) h = rw (still-train c p (walks r) e tt) tt
-    stores-inside (runs start z) h = ahead-lt (c .posts) up p (h .fits .below) (first-not-last (c .posts) up p n2 (h .held .1 .0))
+    stores-inside (walks r) h = rw (no-movement c p (walks r) e tt) tt
+    stores-inside (runs start z) h = ahead-lt (c .posts) up p (h .fits .below) (first-not-last (c .posts) up p n2 (start-held h .first))
     stores-inside (runs pass z) h = (
-      before-lt (c .posts) up p (h .fits .below) (nor-l (atSendingEnd c e) (atReceivingEnd c e) (h .held .0)),
-      ahead-lt (c .posts) up p (h .fits .below) (nor-r (atSendingEnd c e) (atReceivingEnd c e) (h .held .0)),
+      before-lt (c .posts) up p (h .fits .below) (pass-held h .not-first),
+      ahead-lt (c .posts) up p (h .fits .below) (pass-held h .not-last),
     )
-    stores-inside (runs leave z) h = before-lt (c .posts) up p (h .fits .below) (last-not-first (c .posts) up p n2 (h .held .0))
-    stores-inside (notes k) h = rw (still-train c p (notes k) e tt) tt
+    stores-inside (runs leave z) h = before-lt (c .posts) up p (h .fits .below) (leave-not-first n2 h)
+    stores-inside (notes k) h = rw (no-movement c p (notes k) e tt) tt
     stores-inside (releases z) h = tt
 
-    moved-past : (k : View) → Passes c v b p k t → SamePast (c .posts) (moved c v b p k t) t
+    track-past : (k : View) → AcceptedOn c v b p k t → SamePast (c .posts) (trackAfterStep c b p k t) t
     unfolding trackAfter
-    moved-past k h = record {
+    track-past k h = record {
       posts = λ q n≤q. getD-set-other (t .posts) _ q _ blank (omega (arith, h .fits .below));
-      trains = trains-past (effect c (flat p k) e .train) e (t .trains) (stores-inside k h);
-      last = last-past (effect c (flat p k) e .train) e (t .last) (stores-inside k h);
+      trains = cells-past true (effect c (flat p k) e .train) e (t .trains) (stores-inside k h);
+      last = cells-past false (effect c (flat p k) e .train) e (t .last) (stores-inside k h);
     }
 
 -- ## Judging
 
-next-past : (s : Section) (x : Seen) → 2 ≤ s .settings .posts → Ok (s .settings) s x
-    → (b : Bool) → SamePast (s .settings .posts) (trackOf (next (s .settings) s x) b) (trackOf s b)
-unfolding Ok
-next-past s x n2 h =
-    by-track (λ b. SamePast (s .settings .posts) (trackOf (next (s .settings) s x) b) (trackOf s b)) (x .track)
+section-past : (s : Section) (x : Seen) → 2 ≤ s .settings .posts → AcceptedIn (s .settings) s x
+    → (b : Bool) → SamePast (s .settings .posts) (trackOf (sectionAfterStep (s .settings) s x) b) (trackOf s b)
+unfolding AcceptedIn
+section-past s x n2 h =
+    by-track (λ b. SamePast (s .settings .posts) (trackOf (sectionAfterStep (s .settings) s x) b) (trackOf s b)) (x .track)
     (rw (here-after (s .settings) s (x .track) (x .post) (x .kind))
-    (moved-past (s .settings) n2 (otherSettledOnVns s (x .track)) (x .track) (x .post) (trackOf s (x .track)) (x .kind) h))
+    (track-past (s .settings) n2 (otherSettledOnVns s (x .track)) (x .track) (x .post) (trackOf s (x .track)) (x .kind) h))
     (rw (there-after (s .settings) s (x .track) (x .post) (x .kind)) (same-past (s .settings .posts) (trackOf s (not (x .track)))))
 
 out-of-range : (s : Section) (bytes : List ℕ) → inRange s ≡ false → judge s bytes ≡ record { verdict = Refused 6; section = s }
@@ -112,7 +112,7 @@ cells-past-kept s bytes b = go (inRange s) refl
 
     by-table : (r : inRange s ≡ true) → Judged (s .settings) s refl r bytes → Kept (judge s bytes .section)
     by-table r (refused k e) = rw e (same-past (s .settings .posts) (trackOf s b))
-    by-table r (accepted x d h e) = rw e (next-past s x (posts-right (s .settings) (settings-in-range s r) .0) h b)
+    by-table r (accepted x d h e) = rw e (section-past s x (posts-right (s .settings) (settings-in-range s r) .0) h b)
 
     go : (r : Bool) → inRange s ≡ r → Kept (judge s bytes .section)
     go true r = by-table r (judged (s .settings) s refl r bytes)

@@ -3,10 +3,10 @@
 -- Stored in both, that effect leaves them in agreement.
 use Prim.Native.Nat.{ℕ, zero, suc, _+_, _-_, _<_}
 use mathlib.Core.Bool.{Bool, true, false, cond, not, _&&_, _||_}
-use mathlib.Core.Path.{_≡_, refl, ap, ap₂, _∙_}
+use mathlib.Core.Path.{_≡_, refl, sym, ap, ap₂, _∙_}
 use mathlib.Core.List.{List}
 use native.Mathlib.Omega.{arith}
-use lib.ListN.{getD, set, length, length-set}
+use lib.ListN.{getD, length, length-set}
 use lib.Dec.{eqb, ltb, leb}
 use borrow.Author.Tests.{ltb-true}
 use Rattle.section.specs.declared.Answer.{Answer}
@@ -23,21 +23,22 @@ use Rattle.section.specs.declared.Verdict.the-variants.{Accepted, Refused}
 use Rattle.section.proofs.Codec.{decoded-post-below}
 use Rattle.section.specs.Numbers.{mostSeals, largestTrain}
 use Rattle.section.specs.Post.{blank}
-use Rattle.section.specs.Range.{sealsFit, numbersFit, trackFits, inRange}
+use Rattle.section.specs.Range.{sealsInRange, numbersInRange, trackInRange, inRange}
 use Rattle.section.specs.Step.{decoded, postOf, numberOf}
-use Rattle.section.specs.Store.{trackOf, withTrack}
+use Rattle.section.specs.Store.{trackOf, postOn, withTrack}
 use Rattle.section.proofs.Laws.{rank-lt, block-lt, and-right}
 use Rattle.rules.specs.declared.Site.{Site}
 use Rattle.rules.specs.declared.Movement.{Movement}
 use Rattle.rules.specs.declared.Movement.the-variants.{Stays, Enters, Moves, Leaves}
-use Rattle.rules.specs.Site.{siteOn, settledVns, otherSettledOnVns, stretchHolds, anyTrain, hasNumber, upAt, atSendingEnd}
-use Rattle.rules.specs.Site.{atReceivingEnd, blockAhead, blockBefore, stretchEnds, trainAt, watchedOccupied, trainBefore, lastEntered, Occupancy, occupancyAt}
-use Rattle.rules.specs.Table.{effect, trainsAfter, lastAfter, trackAfter}
+use Rattle.rules.specs.Site.{siteOn, settledVns, otherSettledOnVns, isTrain, isNumber, anyOf, reach, stretchHolds, upAt, atSendingEnd}
+use Rattle.rules.specs.Site.{atReceivingEnd, blockAhead, blockBefore, stretchEnds, trainAt}
+use Rattle.rules.specs.Site.{watchedOccupied, trainBefore, lastEntered, Occupancy, occupancyAt}
+use Rattle.rules.specs.Table.{effect, vacated, cellsAfter, trackAfter}
 use Rattle.rules.specs.Judge.{answerOf, siteOf, occupancyOf, verdictOn, sectionAfter, judgeStep, judgeDecoded, judgeInRange, judge}
 use Rattle.rules.specs.Indications.{lampsAt, shown, indicationsOn, indications, dark}
 use Rattle.rules.specs.CellsPast.{SameBelow, AgreeBelow, CellsPastNotTested}
 use Rattle.rules.proofs.Facts.{false-T, by-track, ahead-lt, before-lt, first-cells, set-alike}
-use Rattle.rules.proofs.Frame.{trains-length, last-length}
+use Rattle.rules.proofs.Frame.{vacated-length, cells-length}
 
 -- ## Tests over cells
 
@@ -49,24 +50,20 @@ AlikeFirst m l k = (i : ℕ) → i < m → getD l i 0 ≡ getD k i 0
 abbrev AlikeBelow : ℕ → List ℕ → List ℕ → Type 0
 AlikeBelow n l k = (i : ℕ) → suc i < n → getD l i 0 ≡ getD k i 0
 
-seals-alike : (m : ℕ) (l k : List Post) → ((p : ℕ) → p < m → getD l p blank ≡ getD k p blank) → sealsFit m l ≡ sealsFit m k
-unfolding sealsFit
-seals-alike = first-cells sealsFit blank (λ o rest. leb (o .seals) mostSeals && rest) (λ l k. refl) (λ m l. refl)
+seals-alike : (m : ℕ) (l k : List Post) → ((p : ℕ) → p < m → getD l p blank ≡ getD k p blank) → sealsInRange m l ≡ sealsInRange m k
+unfolding sealsInRange
+seals-alike = first-cells sealsInRange blank (λ o rest. leb (o .seals) mostSeals && rest) (λ l k. refl) (λ m l. refl)
 
-numbers-alike : (m : ℕ) (l k : List ℕ) → AlikeFirst m l k → numbersFit m l ≡ numbersFit m k
-unfolding numbersFit
-numbers-alike = first-cells numbersFit 0 (λ z rest. leb z largestTrain && rest) (λ l k. refl) (λ m l. refl)
+numbers-alike : (m : ℕ) (l k : List ℕ) → AlikeFirst m l k → numbersInRange m l ≡ numbersInRange m k
+unfolding numbersInRange
+numbers-alike = first-cells numbersInRange 0 (λ z rest. leb z largestTrain && rest) (λ l k. refl) (λ m l. refl)
 
-any-alike : (m : ℕ) (l k : List ℕ) → AlikeFirst m l k → anyTrain m l ≡ anyTrain m k
-unfolding anyTrain
-any-alike = first-cells anyTrain 0 (λ z rest. not (eqb z 0) || rest) (λ l k. refl) (λ m l. refl)
-
-has-alike : (number m : ℕ) (l k : List ℕ) → AlikeFirst m l k → hasNumber m number l ≡ hasNumber m number k
-unfolding hasNumber
-has-alike number = first-cells (λ m l. hasNumber m number l) 0 (λ z rest. eqb z number || rest) (λ l k. refl) (λ m l. refl)
+any-alike : (test : ℕ → Bool) (m : ℕ) (l k : List ℕ) → AlikeFirst m l k → anyOf test m l ≡ anyOf test m k
+unfolding anyOf
+any-alike test = first-cells (anyOf test) 0 (λ z rest. test z || rest) (λ l k. refl) (λ m l. refl)
 
 holds-alike : (ends : ℕ → Bool) (f g : ℕ → ℕ) (m j : ℕ) → ((i : ℕ) → i < j + m → f i ≡ g i) → stretchHolds ends f m j ≡ stretchHolds ends g m j
-unfolding stretchHolds
+unfolding reach
 holds-alike ends f g zero j h = refl
 holds-alike ends f g (suc m) j h = rw (h j (omega arith), holds-alike ends f g m (suc j) (λ i k. h i (omega arith))) refl
 
@@ -110,23 +107,23 @@ module _ (c : Settings) (e : Site) (below : e .post < c .posts) (l k : List ℕ)
   unfolding lastEntered
   entered-alike = where-false (atReceivingEnd c e) 0 _ _ ahead-alike
 
-module _ (c : Settings) (e : Site) (below : e .post < c .posts) (number : ℕ) (trains trains′ last last′ : List ℕ)
+module _ (c : Settings) (v : Bool) (e : Site) (below : e .post < c .posts) (number : ℕ) (trains trains′ last last′ : List ℕ)
     (same : AlikeBelow (c .posts) trains trains′) (same-last : AlikeBelow (c .posts) last last′) where
   abbrev one : Occupancy
-  one = occupancyAt c e number trains last
+  one = occupancyAt c v e number trains last
 
   abbrev other : Occupancy
-  other = occupancyAt c e number trains′ last′
+  other = occupancyAt c v e number trains′ last′
 
   anywhere-alike : one .anywhere ≡ other .anywhere
   unfolding occupancyAt
-  anywhere-alike = any-alike _ trains trains′ (λ i h. same i (omega arith))
+  anywhere-alike = any-alike isTrain _ trains trains′ (λ i h. same i (omega arith))
 
-  known-alike : one .known ≡ other .known
+  number-alike : one .numberOnTrack ≡ other .numberOnTrack
   unfolding occupancyAt
-  known-alike = has-alike number _ trains trains′ (λ i h. same i (omega arith))
+  number-alike = any-alike (isNumber number) _ trains trains′ (λ i h. same i (omega arith))
 
-  stretch-alike : one .stretch ≡ other .stretch
+  stretch-alike : one .stretchOccupied ≡ other .stretchOccupied
   unfolding occupancyAt
   stretch-alike =
       holds-alike (stretchEnds c (e .track) (e .cvt)) (trainAt c (e .track) (e .cvt) trains) (trainAt c (e .track) (e .cvt) trains′) _ _
@@ -136,12 +133,12 @@ module _ (c : Settings) (e : Site) (below : e .post < c .posts) (number : ℕ) (
   unfolding occupancyAt
   occupancy-alike =
       rw (watched-alike c e below trains trains′ same, before-alike c e below trains trains′ same, entered-alike c e below last last′ same-last)
-      (rw (anywhere-alike, stretch-alike, known-alike) refl)
+      (rw (anywhere-alike, stretch-alike, number-alike) refl)
 
 -- ## The ranges
 
-track-alike : (n : ℕ) (b : Bool) (t u : Track) → SameBelow n t u → trackFits n b t ≡ trackFits n b u
-unfolding trackFits
+track-alike : (n : ℕ) (b : Bool) (t u : Track) → SameBelow n t u → trackInRange n b t ≡ trackInRange n b u
+unfolding trackInRange
 track-alike n b t u a =
     rw (
       seals-alike n (t .posts) (u .posts) (a .cells .posts),
@@ -154,23 +151,20 @@ track-alike n b t u a =
 -- ## What a step stores
 
 module _ (c : Settings) (e : Site) where
-  trains-alike : (m : Movement) (l k : List ℕ) → length l ≡ length k → (i : ℕ) → getD l i 0 ≡ getD k i 0
-      → getD (trainsAfter c m e l) i 0 ≡ getD (trainsAfter c m e k) i 0
-  unfolding trainsAfter
-  trains-alike Stays l k q i h = h
-  trains-alike (Enters z) l k q i h = set-alike l k _ i _ 0 q h
-  trains-alike (Moves z) l k q i h =
-      set-alike (set l (blockBefore c e) 0) (set k (blockBefore c e) 0) (blockAhead c e) i z 0 (simp length-set q)
-      (set-alike l k (blockBefore c e) i 0 0 q h)
-  trains-alike Leaves l k q i h = set-alike l k _ i _ 0 q h
+  vacated-alike : (clears : Bool) (l k : List ℕ) → length l ≡ length k → (i : ℕ) → getD l i 0 ≡ getD k i 0
+      → getD (vacated c clears e l) i 0 ≡ getD (vacated c clears e k) i 0
+  vacated-alike true l k q i h = set-alike l k (blockBefore c e) i 0 0 q h
+  vacated-alike false l k q i h = h
 
-  last-alike : (m : Movement) (l k : List ℕ) → length l ≡ length k → (i : ℕ) → getD l i 0 ≡ getD k i 0
-      → getD (lastAfter c m e l) i 0 ≡ getD (lastAfter c m e k) i 0
-  unfolding lastAfter
-  last-alike Stays l k q i h = h
-  last-alike (Enters z) l k q i h = set-alike l k _ i _ 0 q h
-  last-alike (Moves z) l k q i h = set-alike l k _ i _ 0 q h
-  last-alike Leaves l k q i h = h
+  cells-alike : (clears : Bool) (m : Movement) (l k : List ℕ) → length l ≡ length k → (i : ℕ) → getD l i 0 ≡ getD k i 0
+      → getD (cellsAfter c clears m e l) i 0 ≡ getD (cellsAfter c clears m e k) i 0
+  unfolding cellsAfter
+  cells-alike clears Stays l k q i h = h
+  cells-alike clears (Enters z) l k q i h = set-alike l k _ i _ 0 q h
+  cells-alike clears (Moves z) l k q i h =
+      set-alike (vacated c clears e l) (vacated c clears e k) (blockAhead c e) i z 0
+      (vacated-length c clears e l ∙ q ∙ sym (vacated-length c clears e k)) (vacated-alike clears l k q i h)
+  cells-alike clears Leaves l k q i h = vacated-alike clears l k q i h
 
   after-alike : (x : Step) (t u : Track) → SameBelow (c .posts) t u → SameBelow (c .posts) (trackAfter c x e t) (trackAfter c x e u)
   unfolding trackAfter
@@ -179,13 +173,13 @@ module _ (c : Settings) (e : Site) where
     walk = refl;
     cells = record {
       posts = λ p h. set-alike (t .posts) (u .posts) _ p _ blank (a .sizes .posts) (a .cells .posts p h);
-      trains = λ i h. trains-alike (effect c x e .train) (t .trains) (u .trains) (a .sizes .trains) i (a .cells .trains i h);
-      last = λ i h. last-alike (effect c x e .train) (t .last) (u .last) (a .sizes .last) i (a .cells .last i h);
+      trains = λ i h. cells-alike true (effect c x e .train) (t .trains) (u .trains) (a .sizes .trains) i (a .cells .trains i h);
+      last = λ i h. cells-alike false (effect c x e .train) (t .last) (u .last) (a .sizes .last) i (a .cells .last i h);
     };
     sizes = record {
       posts = simp length-set (a .sizes .posts);
-      trains = simp (trains-length c (effect c x e .train) e) (a .sizes .trains);
-      last = simp (last-length c (effect c x e .train) e) (a .sizes .last);
+      trains = simp (cells-length c true (effect c x e .train) e) (a .sizes .trains);
+      last = simp (cells-length c false (effect c x e .train) e) (a .sizes .last);
     };
   }
 
@@ -205,14 +199,11 @@ module _ (s u : Section) (a : AgreeBelow s u) where
   vns-alike : (b : Bool) → otherSettledOnVns s b ≡ otherSettledOnVns u b
   vns-alike b = ap₂ settledVns (a .tracks (not b) .walk) (a .tracks (not b) .cvt)
 
-  abbrev siteIn : Section → Bool → ℕ → Site
-  siteIn w b p = siteOn (otherSettledOnVns w b) b p (trackOf w b)
-
-  own-alike : (b : Bool) (p : ℕ) → p < s .settings .posts → siteIn s b p .own ≡ siteIn u b p .own
+  own-alike : (b : Bool) (p : ℕ) → p < s .settings .posts → postOn (trackOf s b) p ≡ postOn (trackOf u b) p
   own-alike b p h = a .tracks b .cells .posts _ h
 
-  site-alike : (b : Bool) (p : ℕ) → p < s .settings .posts → siteIn s b p ≡ siteIn u b p
-  site-alike b p h = rw (vns-alike b, own-alike b p h, a .tracks b .cvt, a .tracks b .walk) refl
+  site-alike : (b : Bool) (p : ℕ) → p < s .settings .posts → siteOn b p (trackOf s b) ≡ siteOn b p (trackOf u b)
+  site-alike b p h = rw (own-alike b p h, a .tracks b .cvt, a .tracks b .walk) refl
 
   with-alike : (b : Bool) (t t′ : Track) → SameBelow (s .settings .posts) t t′ → AgreeBelow (withTrack s b t) (withTrack u b t′)
   with-alike true t t′ h = record {
@@ -235,9 +226,10 @@ module _ (s u : Section) (a : AgreeBelow s u) where
 
     occupancies : occupancyOf s x ≡ occupancyOf u x
     occupancies =
-        occupancy-alike (s .settings) (siteOf s x) below (numberOf (x .step)) (trackOf s (x .track) .trains) (trackOf u (x .track) .trains)
+        occupancy-alike (s .settings) (otherSettledOnVns s (x .track)) (siteOf s x) below (numberOf (x .step)) (trackOf s (x .track) .trains)
+        (trackOf u (x .track) .trains)
         (trackOf s (x .track) .last) (trackOf u (x .track) .last) (a .tracks (x .track) .cells .trains) (a .tracks (x .track) .cells .last)
-        ∙ rw (sites, a .settings) refl
+        ∙ rw (vns-alike (x .track), sites, a .settings) refl
 
     verdict-alike : verdictOn s x ≡ verdictOn u x
     unfolding verdictOn
@@ -282,7 +274,7 @@ module _ (s u : Section) (a : AgreeBelow s u) where
   on-track-alike : (b : Bool) (p : ℕ) → p < s .settings .posts → indicationsOn s b p ≡ indicationsOn u b p
   unfolding indicationsOn
   on-track-alike b p h =
-      ap shown (lamps-alike (s .settings) (siteIn s b p) h (trackOf s b .trains) (trackOf u b .trains)
+      ap shown (lamps-alike (s .settings) (siteOn b p (trackOf s b)) h (trackOf s b .trains) (trackOf u b .trains)
       (a .tracks b .cells .trains) ∙ rw (site-alike b p h, a .settings) refl)
 
   indications-alike : (track post : ℕ) → indications s track post ≡ indications u track post

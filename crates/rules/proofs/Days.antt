@@ -1,4 +1,5 @@
--- Days: steps offered one after another to a section, judged by the definitions of `rules`, by computation.
+-- Days: steps offered one after another to a section, judged by the definitions of `rules`, by computation. Every definition on the way from
+-- bytes to the answer is unfolded here once.
 use Prim.Native.Nat.{ℕ, zero, suc, _-_}
 use mathlib.Core.Bool.{Bool, true, false, cond}
 use mathlib.Core.List.{List, [], _∷_, _++_, map}
@@ -14,19 +15,19 @@ use Rattle.section.specs.declared.Step.the-variants.{Order, Set, Announce, Ackn
 use Rattle.section.specs.declared.TrackStep.{TrackStep}
 use Rattle.section.specs.declared.Verdict.{Verdict}
 use Rattle.section.specs.declared.Verdict.the-variants.{Accepted, Refused}
-use Rattle.section.specs.Bytes.{pair, within}
+use Rattle.section.specs.Bytes.{le16, within}
 use Rattle.section.specs.Fresh.{freshTrack, freshSection}
 use Rattle.section.specs.Geometry.{upward, rank, block, isFirst, isLast}
 use Rattle.section.specs.Numbers.{mostBlocks}
 use Rattle.section.specs.Post.{sealed}
-use Rattle.section.specs.Range.{sealsFit, numbersFit, actFits, walkFits, trackFits, inRange}
-use Rattle.section.specs.Settings.{bit, noneFrom, isMaterialised, settingsRight}
-use Rattle.section.specs.Step.{faultRight, numberRight, placeRight, fieldsRight, faultOf, stepOf, trackStepOf, fromFields, decoded}
-use Rattle.section.specs.Step.{kindOf, postOf, faultNumber, faultByte, numberOf, trackNumber, bytesOf, encoded}
+use Rattle.section.specs.Range.{sealsInRange, numbersInRange, actInRange, walkInRange, trackInRange, inRange}
+use Rattle.section.specs.Settings.{isSignalled, noneFrom, isMaterialised, settingsInRange}
+use Rattle.section.specs.Step.{faultWellFormed, numberWellFormed, placeWellFormed, fieldsWellFormed, wellFormed, faultOf, stepOf, stepSaid, decoded}
+use Rattle.section.specs.Step.{postOf, faultNumber, numberOf, trackNumber, bytesOf, encoded}
 use Rattle.section.specs.Store.{trackOf, withTrack, postOn, withPost}
 use Rattle.section.specs.Words.{refusalOf}
-use Rattle.rules.specs.Site.{stretchHolds, anyTrain, hasNumber, stretchEnds, watchedOccupied, trainBefore, lastEntered, occupancyAt}
-use Rattle.rules.specs.Table.{checks, effect, trainsAfter, lastAfter, trackAfter}
+use Rattle.rules.specs.Site.{reach, anyOf, stretchEnds, watchedOccupied, trainBefore, lastEntered, occupancyAt}
+use Rattle.rules.specs.Table.{checks, effect, cellsAfter, trackAfter}
 use Rattle.rules.specs.Judge.{verdictOf, answerOf, verdictOn, sectionAfter, judgeStep, judgeDecoded, judgeInRange, judge}
 
 -- ## Tracks, directions, lines
@@ -114,7 +115,7 @@ reversalToCvt posts = map MeasuresOn posts ++ reversal posts
 
 -- the byte strings that are offered
 unfoldable pub offeredAs : List TrackStep → List (List ℕ)
-unfolding encoded bytesOf kindOf postOf faultByte faultNumber numberOf trackNumber
+unfolding encoded bytesOf faultNumber trackNumber
 offeredAs steps = map encoded steps
 
 -- ## Answers
@@ -122,9 +123,9 @@ offeredAs steps = map encoded steps
 -- the answers to a day, 0 or the refusal; unfolded, judging computes
 unfoldable pub refusals : Section → List (List ℕ) → List ℕ
 unfolding judge judgeInRange judgeDecoded judgeStep sectionAfter verdictOn answerOf verdictOf refusalOf
-    checks effect trainsAfter lastAfter trackAfter stretchHolds anyTrain hasNumber stretchEnds watchedOccupied trainBefore lastEntered occupancyAt
-    inRange trackFits walkFits actFits numbersFit sealsFit settingsRight noneFrom bit isMaterialised upward rank block isFirst isLast
-    decoded fromFields trackStepOf stepOf faultOf fieldsRight placeRight numberRight faultRight pair within postOf numberOf
+    checks effect cellsAfter trackAfter reach anyOf stretchEnds watchedOccupied trainBefore lastEntered occupancyAt
+    inRange trackInRange walkInRange actInRange numbersInRange sealsInRange settingsInRange noneFrom isSignalled isMaterialised upward rank block isFirst isLast
+    decoded stepSaid stepOf faultOf wellFormed fieldsWellFormed placeWellFormed numberWellFormed faultWellFormed le16 within postOf numberOf
 refusals s [] = []
 refusals s (bytes ∷ offered) = refusalOf (judge s bytes .verdict) ∷ refusals (judge s bytes .section) offered
 

@@ -1,165 +1,126 @@
--- Two steps on a section change places: l, and then an x that leaves walk and direction alone.
+-- Two steps on a section change places: l, and then an x that leaves walk and direction alone. On one track this is the exchange of Swap. On two
+-- tracks neither touches what the other sees: only an order looks at the other track, at its walk and direction, and x leaves these.
 use Prim.Native.Nat.{ℕ, _≤_}
 use mathlib.Core.Bool.{Bool, true, false, not, _&&_}
 use mathlib.Core.Path.{_≡_, refl, ap, ap₂, _∙_}
 use mathlib.Core.Logic.{_≢_}
-use mathlib.Core.List.{List}
 use lib.Dec.{T}
 use Rattle.section.specs.declared.Settings.{Settings}
 use Rattle.section.specs.declared.Said.the-variants.{Nothing}
 use Rattle.section.specs.declared.Track.{Track}
 use Rattle.section.specs.declared.Section.{Section}
 use Rattle.section.specs.Store.{trackOf, withTrack}
-use Rattle.rules.specs.declared.Movement.{Movement}
-use Rattle.rules.specs.declared.Movement.the-variants.{Stays, Enters, Moves, Leaves}
 use Rattle.rules.specs.Site.{isSettled, settledOnVns, siteOn, otherSettledOnVns, watchedOccupied, trainBefore, lastEntered, occupancyAt}
-use Rattle.rules.specs.Table.{checks, effect, trainsAfter, lastAfter, trackAfter}
+use Rattle.rules.specs.Table.{checks, trackAfter}
 use Rattle.rules.proofs.Facts.{by-track}
-use Rattle.rules.proofs.View.{order, setDevice, announce, acknowledge, key, Motion, start, pass, leave, Condition, measures, fault, View}
+use Rattle.rules.proofs.View.{Motion, start, pass, leave, Condition, measures, fault, View}
 use Rattle.rules.proofs.View.{walks, runs, notes, releases, flat, Seen, on}
-use Rattle.rules.proofs.Frame.{still, calm, onward, calm-effect}
-use Rattle.rules.proofs.Accept.{Passes, moved, Ok, word, next}
+use Rattle.rules.proofs.Frame.{movesNoTrain, keepsRunning, onward, running-kept}
+use Rattle.rules.proofs.Accept.{AcceptedOn, trackAfterStep, AcceptedIn, saidIn, sectionAfterStep}
 use Rattle.rules.proofs.Swap.{Swapped, swap-note, swap-onward}
 
 module _ (c : Settings) where
   -- ## The tracks after a step
 
-  pub here-after : (s : Section) (b : Bool) (p : ℕ) (k : View) → trackOf (next c s (on b p k)) b ≡ moved c (otherSettledOnVns s b) b p k (trackOf s b)
-  unfolding next
+  pub here-after : (s : Section) (b : Bool) (p : ℕ) (k : View) → trackOf (sectionAfterStep c s (on b p k)) b ≡ trackAfterStep c b p k (trackOf s b)
+  unfolding sectionAfterStep
   here-after s false p k = refl
   here-after s true p k = refl
 
-  pub there-after : (s : Section) (b : Bool) (p : ℕ) (k : View) → trackOf (next c s (on b p k)) (not b) ≡ trackOf s (not b)
-  unfolding next
+  pub there-after : (s : Section) (b : Bool) (p : ℕ) (k : View) → trackOf (sectionAfterStep c s (on b p k)) (not b) ≡ trackOf s (not b)
+  unfolding sectionAfterStep
   there-after s false p k = refl
   there-after s true p k = refl
 
-  pub settings-after : (s : Section) (x : Seen) → next c s x .settings ≡ s .settings
-  unfolding next
+  pub settings-after : (s : Section) (x : Seen) → sectionAfterStep c s x .settings ≡ s .settings
+  unfolding sectionAfterStep
   settings-after s x = refl
 
-  -- ## A calm step
+  -- ## A step that leaves walk and running direction
 
-  pub calm-walk : (v b : Bool) (p : ℕ) (k : View) (t : Track) → T (calm k) → moved c v b p k t .walk ≡ t .walk
+  pub walk-kept : (b : Bool) (p : ℕ) (k : View) (t : Track) → T (keepsRunning k) → trackAfterStep c b p k t .walk ≡ t .walk
   unfolding trackAfter
-  calm-walk v b p k t i = calm-effect c p k (siteOn v b p t) i .walk
+  walk-kept b p k t i = running-kept c p k (siteOn b p t) i .walk
 
-  pub calm-cvt : (v b : Bool) (p : ℕ) (k : View) (t : Track) → T (calm k) → moved c v b p k t .cvt ≡ t .cvt
+  pub cvt-kept : (b : Bool) (p : ℕ) (k : View) (t : Track) → T (keepsRunning k) → trackAfterStep c b p k t .cvt ≡ t .cvt
   unfolding trackAfter
-  calm-cvt v b p k t i = calm-effect c p k (siteOn v b p t) i .cvt
+  cvt-kept b p k t i = running-kept c p k (siteOn b p t) i .cvt
 
-  pub calm-vns : (v b : Bool) (p : ℕ) (k : View) (t : Track) → T (calm k) → settledOnVns (moved c v b p k t) ≡ settledOnVns t
-  calm-vns v b p k t i = ap₂ (λ w d. isSettled w && not d) (calm-walk v b p k t i) (calm-cvt v b p k t i)
+  pub vns-kept : (b : Bool) (p : ℕ) (k : View) (t : Track) → T (keepsRunning k) → settledOnVns (trackAfterStep c b p k t) ≡ settledOnVns t
+  vns-kept b p k t i = ap₂ (λ w d. isSettled w && not d) (walk-kept b p k t i) (cvt-kept b p k t i)
 
-  pub calm-word : (s : Section) (b : Bool) (p : ℕ) (k : View) → T (calm k) → word c s (on b p k) ≡ Nothing
-  unfolding word
-  calm-word s b p k i = calm-effect c p k (siteOn (otherSettledOnVns s b) b p (trackOf s b)) i .said
+  pub says-nothing : (s : Section) (b : Bool) (p : ℕ) (k : View) → T (keepsRunning k) → saidIn c s (on b p k) ≡ Nothing
+  unfolding saidIn
+  says-nothing s b p k i = running-kept c p k (siteOn b p (trackOf s b)) i .said
 
-  pub calm-walks : (s : Section) (b : Bool) (p : ℕ) (k : View) → T (calm k) → (d : Bool) → trackOf (next c s (on b p k)) d .walk ≡ trackOf s d .walk
-  calm-walks s b p k i =
-      by-track (λ d. trackOf (next c s (on b p k)) d .walk ≡ trackOf s d .walk) b
-      (ap (λ t. t .walk) (here-after s b p k) ∙ calm-walk (otherSettledOnVns s b) b p k (trackOf s b) i) (ap (λ t. t .walk) (there-after s b p k))
+  pub walks-kept : (s : Section) (b : Bool) (p : ℕ) (k : View) → T (keepsRunning k) → (d : Bool)
+      → trackOf (sectionAfterStep c s (on b p k)) d .walk ≡ trackOf s d .walk
+  walks-kept s b p k i =
+      by-track (λ d. trackOf (sectionAfterStep c s (on b p k)) d .walk ≡ trackOf s d .walk) b
+      (ap (λ t. t .walk) (here-after s b p k) ∙ walk-kept b p k (trackOf s b) i) (ap (λ t. t .walk) (there-after s b p k))
 
-  pub calm-cvts : (s : Section) (b : Bool) (p : ℕ) (k : View) → T (calm k) → (d : Bool) → trackOf (next c s (on b p k)) d .cvt ≡ trackOf s d .cvt
-  calm-cvts s b p k i =
-      by-track (λ d. trackOf (next c s (on b p k)) d .cvt ≡ trackOf s d .cvt) b
-      (ap (λ t. t .cvt) (here-after s b p k) ∙ calm-cvt (otherSettledOnVns s b) b p k (trackOf s b) i) (ap (λ t. t .cvt) (there-after s b p k))
+  pub cvts-kept : (s : Section) (b : Bool) (p : ℕ) (k : View) → T (keepsRunning k) → (d : Bool)
+      → trackOf (sectionAfterStep c s (on b p k)) d .cvt ≡ trackOf s d .cvt
+  cvts-kept s b p k i =
+      by-track (λ d. trackOf (sectionAfterStep c s (on b p k)) d .cvt ≡ trackOf s d .cvt) b
+      (ap (λ t. t .cvt) (here-after s b p k) ∙ cvt-kept b p k (trackOf s b) i) (ap (λ t. t .cvt) (there-after s b p k))
 
   -- ## The other track matters to an order alone
 
-  passes-vns : (v v′ b : Bool) (p : ℕ) (k : View) (t : Track) → T (calm k) → Passes c v b p k t → Passes c v′ b p k t
+  accepted-vns : (v v′ b : Bool) (p : ℕ) (k : View) (t : Track) → T (keepsRunning k) → AcceptedOn c v b p k t → AcceptedOn c v′ b p k t
   unfolding checks occupancyAt watchedOccupied trainBefore lastEntered flat
-  passes-vns v v′ b p (walks r) t i h = absurd i
-  passes-vns v v′ b p (runs start z) t i h = record { fits = h .fits; held = h .held }
-  passes-vns v v′ b p (runs pass z) t i h = record { fits = h .fits; held = h .held }
-  passes-vns v v′ b p (runs leave z) t i h = record { fits = h .fits; held = h .held }
-  passes-vns v v′ b p (notes (measures true)) t i h = record { fits = h .fits; held = h .held }
-  passes-vns v v′ b p (notes (measures false)) t i h = record { fits = h .fits; held = h .held }
-  passes-vns v v′ b p (notes (fault true f)) t i h = record { fits = h .fits; held = h .held }
-  passes-vns v v′ b p (notes (fault false f)) t i h = record { fits = h .fits; held = h .held }
-  passes-vns v v′ b p (releases z) t i h = record { fits = h .fits; held = h .held }
-
-  effect-vns : (v v′ b : Bool) (p : ℕ) (k : View) (t : Track) → effect c (flat p k) (siteOn v b p t) ≡ effect c (flat p k) (siteOn v′ b p t)
-  unfolding effect flat
-  effect-vns v v′ b p (walks order) t = refl
-  effect-vns v v′ b p (walks setDevice) t = refl
-  effect-vns v v′ b p (walks announce) t = refl
-  effect-vns v v′ b p (walks acknowledge) t = refl
-  effect-vns v v′ b p (walks key) t = refl
-  effect-vns v v′ b p (runs start z) t = refl
-  effect-vns v v′ b p (runs pass z) t = refl
-  effect-vns v v′ b p (runs leave z) t = refl
-  effect-vns v v′ b p (notes (measures true)) t = refl
-  effect-vns v v′ b p (notes (measures false)) t = refl
-  effect-vns v v′ b p (notes (fault true f)) t = refl
-  effect-vns v v′ b p (notes (fault false f)) t = refl
-  effect-vns v v′ b p (releases z) t = refl
-
-  trains-vns : (v v′ b : Bool) (p : ℕ) (m : Movement) (t : Track) (l : List ℕ) → trainsAfter c m (siteOn v b p t) l ≡ trainsAfter c m (siteOn v′ b p t) l
-  unfolding trainsAfter
-  trains-vns v v′ b p Stays t l = refl
-  trains-vns v v′ b p (Enters z) t l = refl
-  trains-vns v v′ b p (Moves z) t l = refl
-  trains-vns v v′ b p Leaves t l = refl
-
-  last-vns : (v v′ b : Bool) (p : ℕ) (m : Movement) (t : Track) (l : List ℕ) → lastAfter c m (siteOn v b p t) l ≡ lastAfter c m (siteOn v′ b p t) l
-  unfolding lastAfter
-  last-vns v v′ b p Stays t l = refl
-  last-vns v v′ b p (Enters z) t l = refl
-  last-vns v v′ b p (Moves z) t l = refl
-  last-vns v v′ b p Leaves t l = refl
-
-  moved-vns : (v v′ b : Bool) (p : ℕ) (k : View) (t : Track) → moved c v b p k t ≡ moved c v′ b p k t
-  unfolding trackAfter
-  moved-vns v v′ b p k t = rw (effect-vns v v′ b p k t, trains-vns v v′ b p m t (t .trains), last-vns v v′ b p m t (t .last)) refl
-    where
-      m : Movement
-      m = effect c (flat p k) (siteOn v′ b p t) .train
+  accepted-vns v v′ b p (walks r) t i h = absurd i
+  accepted-vns v v′ b p (runs start z) t i h = record { fits = h .fits; held = h .held }
+  accepted-vns v v′ b p (runs pass z) t i h = record { fits = h .fits; held = h .held }
+  accepted-vns v v′ b p (runs leave z) t i h = record { fits = h .fits; held = h .held }
+  accepted-vns v v′ b p (notes (measures true)) t i h = record { fits = h .fits; held = h .held }
+  accepted-vns v v′ b p (notes (measures false)) t i h = record { fits = h .fits; held = h .held }
+  accepted-vns v v′ b p (notes (fault true f)) t i h = record { fits = h .fits; held = h .held }
+  accepted-vns v v′ b p (notes (fault false f)) t i h = record { fits = h .fits; held = h .held }
+  accepted-vns v v′ b p (releases z) t i h = record { fits = h .fits; held = h .held }
 
   -- ## The change of places
 
   pub record Exchanged (s : Section) (l x : Seen) : Type 0 where
-    pub x-first : Ok c s x
-    pub l-then : Ok c (next c s x) l
-    pub same-end : next c (next c s x) l ≡ next c (next c s l) x
-    pub l-says : word c (next c s x) l ≡ word c s l
+    pub x-first : AcceptedIn c s x
+    pub l-then : AcceptedIn c (sectionAfterStep c s x) l
+    pub same-end : sectionAfterStep c (sectionAfterStep c s x) l ≡ sectionAfterStep c (sectionAfterStep c s l) x
+    pub l-says : saidIn c (sectionAfterStep c s x) l ≡ saidIn c s l
 
   on-one-track : (b : Bool) (s : Section) (q : ℕ) (l : View) (p : ℕ) (x : View) → Swapped c (otherSettledOnVns s b) b q l p x (trackOf s b)
       → Exchanged s (on b q l) (on b p x)
-  unfolding Ok word next
+  unfolding AcceptedIn saidIn sectionAfterStep
   on-one-track false s q l p x w = record { x-first = w .x-first; l-then = w .l-then; same-end = ap (withTrack s false) (w .same-end); l-says = w .l-says }
   on-one-track true s q l p x w = record { x-first = w .x-first; l-then = w .l-then; same-end = ap (withTrack s true) (w .same-end); l-says = w .l-says }
 
   pub exchange-note : (b : Bool) (s : Section) (q : ℕ) (l : View) (p : ℕ) (k : Condition) → q ≢ p
-      → Ok c s (on b q l) → Ok c (next c s (on b q l)) (on b p (notes k)) → Exchanged s (on b q l) (on b p (notes k))
-  unfolding Ok next
+      → AcceptedIn c s (on b q l) → AcceptedIn c (sectionAfterStep c s (on b q l)) (on b p (notes k)) → Exchanged s (on b q l) (on b p (notes k))
+  unfolding AcceptedIn sectionAfterStep
   exchange-note false s q l p k h hl hx = on-one-track false s q l p (notes k) (swap-note c (otherSettledOnVns s false) false q l p k (s .a) h hl hx)
   exchange-note true s q l p k h hl hx = on-one-track true s q l p (notes k) (swap-note c (otherSettledOnVns s true) true q l p k (s .b) h hl hx)
 
-  pub exchange-onward : 2 ≤ c .posts → (b : Bool) (s : Section) (q : ℕ) (l : View) (p : ℕ) (m : Motion) (z : ℕ) → T (onward m) → T (still l) → q ≢ p
-      → trackOf (next c s (on b q l)) b .cvt ≡ trackOf s b .cvt
-      → Ok c s (on b q l) → Ok c (next c s (on b q l)) (on b p (runs m z)) → Exchanged s (on b q l) (on b p (runs m z))
-  unfolding Ok next
+  pub exchange-onward : 2 ≤ c .posts → (b : Bool) (s : Section) (q : ℕ) (l : View) (p : ℕ) (m : Motion) (z : ℕ) → T (onward m) → T (movesNoTrain l) → q ≢ p
+      → trackOf (sectionAfterStep c s (on b q l)) b .cvt ≡ trackOf s b .cvt
+      → AcceptedIn c s (on b q l) → AcceptedIn c (sectionAfterStep c s (on b q l)) (on b p (runs m z)) → Exchanged s (on b q l) (on b p (runs m z))
+  unfolding AcceptedIn sectionAfterStep
   exchange-onward n2 false s q l p m z i j h ec hl hx =
       on-one-track false s q l p (runs m z) (swap-onward c (otherSettledOnVns s false) false n2 q l p m z (s .a) i j h ec hl hx)
   exchange-onward n2 true s q l p m z i j h ec hl hx =
       on-one-track true s q l p (runs m z) (swap-onward c (otherSettledOnVns s true) true n2 q l p m z (s .b) i j h ec hl hx)
 
   -- l on one track, x on the other
-  pub exchange-other : (b : Bool) (s : Section) (q : ℕ) (l : View) (p : ℕ) (x : View) → T (calm x)
-      → Ok c s (on b q l) → Ok c (next c s (on b q l)) (on (not b) p x) → Exchanged s (on b q l) (on (not b) p x)
-  unfolding Ok word next
+  pub exchange-other : (b : Bool) (s : Section) (q : ℕ) (l : View) (p : ℕ) (x : View) → T (keepsRunning x)
+      → AcceptedIn c s (on b q l) → AcceptedIn c (sectionAfterStep c s (on b q l)) (on (not b) p x) → Exchanged s (on b q l) (on (not b) p x)
+  unfolding AcceptedIn saidIn sectionAfterStep
   exchange-other false s q l p x i hl hx = record {
-    x-first = passes-vns _ (settledOnVns (s .a)) true p x (s .b) i hx;
-    l-then = rw (calm-vns (settledOnVns (s .a)) true p x (s .b) i) hl;
-    same-end = ap₂ (λ t u. record { settings = s .settings; a = t; b = u }) (moved-vns _ (settledOnVns (s .b)) false q l (s .a))
-        (moved-vns (settledOnVns (s .a)) _ true p x (s .b));
-    l-says = ap (λ x. x .said) (effect-vns (settledOnVns (moved c (settledOnVns (s .a)) true p x (s .b))) (settledOnVns (s .b)) false q l (s .a));
+    x-first = accepted-vns _ (settledOnVns (s .a)) true p x (s .b) i hx;
+    l-then = rw (vns-kept true p x (s .b) i) hl;
+    same-end = refl;
+    l-says = refl;
   }
   exchange-other true s q l p x i hl hx = record {
-    x-first = passes-vns _ (settledOnVns (s .b)) false p x (s .a) i hx;
-    l-then = rw (calm-vns (settledOnVns (s .b)) false p x (s .a) i) hl;
-    same-end = ap₂ (λ t u. record { settings = s .settings; a = u; b = t }) (moved-vns _ (settledOnVns (s .a)) true q l (s .b))
-        (moved-vns (settledOnVns (s .b)) _ false p x (s .a));
-    l-says = ap (λ x. x .said) (effect-vns (settledOnVns (moved c (settledOnVns (s .b)) false p x (s .a))) (settledOnVns (s .a)) true q l (s .b));
+    x-first = accepted-vns _ (settledOnVns (s .b)) false p x (s .a) i hx;
+    l-then = rw (vns-kept false p x (s .a) i) hl;
+    same-end = refl;
+    l-says = refl;
   }

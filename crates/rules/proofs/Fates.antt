@@ -1,5 +1,5 @@
--- For every list of offered steps: each run is between the posts or has left at the far end, the runs of a number come one after another,
--- and each block section keeps its train.
+-- A train's runs, noted step by step, and where its number stands on the track: each accepted step keeps the two in agreement. So each run is
+-- between the posts or has left at the far end, the runs of a number come one after another, and each block section keeps its train.
 use Prim.Native.Nat.{ℕ, suc, _≤_, _<_}
 use mathlib.Core.Bool.{Bool, true, false, cond, not, _&&_, Bool·beq}
 use mathlib.Core.Path.{_≡_, refl, sym, ap, _∙_, subst}
@@ -13,29 +13,26 @@ use Rattle.section.specs.declared.Track.{Track}
 use Rattle.section.specs.declared.Section.{Section}
 use Rattle.section.specs.Fresh.{freshTrack, freshSection}
 use Rattle.section.specs.Geometry.{upward, block}
-use Rattle.section.specs.Numbers.{leastPosts, mostPosts, mostBlocks}
-use Rattle.section.specs.Settings.{settingsRight}
+use Rattle.section.specs.Numbers.{mostPosts, mostBlocks}
 use Rattle.section.specs.Store.{trackOf}
 use Rattle.section.proofs.Laws.{block-lt}
 use Rattle.rules.specs.Site.{otherSettledOnVns, trainAt, stretchEnds}
-use Rattle.rules.specs.Demand3.{stateAfter, Taken, acceptedSteps, kind, post, isOfTrain, keep, All, Run, noteStep, runsFrom, runsOf}
+use Rattle.rules.specs.Demand3.{AcceptedStep, kind, post, isOfTrain, keep, All, Run, noteStep, runsFrom, runsOf}
 use Rattle.rules.specs.Demand3.{OneAfterAnother, TrainThere, Fate}
 use Rattle.rules.proofs.Facts.{by-track, beq-same, beq-other}
 use Rattle.rules.proofs.View.{Seen, shown}
 use Rattle.rules.proofs.Reading.{Says}
-use Rattle.rules.proofs.Accept.{Passes, moved, Ok, next}
+use Rattle.rules.proofs.Accept.{AcceptedOn, trackAfterStep, AcceptedIn, sectionAfterStep}
 use Rattle.rules.proofs.Invariant.{Sound}
 use Rattle.rules.proofs.Exchange.{here-after, there-after}
-use Rattle.rules.proofs.Reached.{posts-right}
-use Rattle.rules.proofs.Along.{acceptedAs, from-fresh}
 use Rattle.rules.proofs.Stretches.{empty-spaced}
-use Rattle.rules.proofs.Runs.{away, follows-in-turn, follows-fates, follows-there}
+use Rattle.rules.proofs.Runs.{offTrack, follows-in-turn, follows-fates, follows-there}
 use Rattle.rules.proofs.TrainSteps.{ofTrain, noteView, note-test}
 use Rattle.rules.proofs.Trains.{SpacedOn, FollowsOn, trains-kept, no-zero}
 
 -- ## A train's runs after one more step
 
-runs-last : (test : Taken → Bool) (rs : List Run) (ds : List Taken) (d : Taken)
+runs-last : (test : AcceptedStep → Bool) (rs : List Run) (ds : List AcceptedStep) (d : AcceptedStep)
     → runsFrom rs (keep test (ds ++ d ∷ [])) ≡ cond (test d) (noteStep (kind d) (post d) (runsFrom rs (keep test ds))) (runsFrom rs (keep test ds))
 runs-last test rs [] d = go (test d)
   where
@@ -44,7 +41,7 @@ runs-last test rs [] d = go (test d)
     go false = refl
 runs-last test rs (x ∷ ds) d = go (test x) (runs-last test (noteStep (kind x) (post x) rs) ds d) (runs-last test rs ds d)
   where
-    Noted : List Run → List Taken → List Taken → Type 0
+    Noted : List Run → List AcceptedStep → List AcceptedStep → Type 0
     Noted rs l m = runsFrom rs l ≡ cond (test d) (noteStep (kind d) (post d) (runsFrom rs m)) (runsFrom rs m)
 
     go : (w : Bool) → Noted (noteStep (kind x) (post x) rs) (keep test (ds ++ d ∷ [])) (keep test ds) → Noted rs (keep test (ds ++ d ∷ [])) (keep test ds)
@@ -52,7 +49,7 @@ runs-last test rs (x ∷ ds) d = go (test x) (runs-last test (noteStep (kind x) 
     go true here there = here
     go false here there = there
 
-module _ (n : ℕ) (ds : List Taken) (d : Taken) (x : Seen) (h : Says n (d .bytes) (shown x)) where
+module _ (n : ℕ) (ds : List AcceptedStep) (d : AcceptedStep) (x : Seen) (h : Says n (d .bytes) (shown x)) where
   -- the runs of train z on the track b, one more step noted where the test says so
   abbrev noted : Bool → ℕ → Bool → List Run
   noted b z test = cond (test && ofTrain z (x .kind)) (noteView (x .kind) (x .post) (runsOf b z ds)) (runsOf b z ds)
@@ -71,7 +68,7 @@ module _ (n : ℕ) (ds : List Taken) (d : Taken) (x : Seen) (h : Says n (d .byte
 -- ## Three fields of the claim for one track
 
 module _ (c : Settings) where
-  pub record RunsRight (s : Section) (ds : List Taken) (b : Bool) : Type 0 where
+  pub record RunsRight (s : Section) (ds : List AcceptedStep) (b : Bool) : Type 0 where
     pub fates : (z : ℕ) → All (λ (r : Run). Fate c b (trackOf s b) z r (r .left)) (runsOf b z ds)
     pub one-after-another : (z : ℕ) → OneAfterAnother (runsOf b z ds)
     pub kept : (i : ℕ) → suc i < c .posts → (getD (trackOf s b .trains) i 0 ≡ 0) ⊎ TrainThere c b (trackOf s b) ds i
@@ -79,21 +76,21 @@ module _ (c : Settings) where
 module _ (c : Settings) (n2 : 2 ≤ c .posts) (n16 : c .posts ≤ mostPosts) where
   -- ## What holds of a track's trains after the accepted steps ds
 
-  pub record TrackRuns (b : Bool) (t : Track) (ds : List Taken) : Type 0 where
+  pub record TrackRuns (b : Bool) (t : Track) (ds : List AcceptedStep) : Type 0 where
     pub spaced : SpacedOn c n2 n16 b (t .cvt) (t .trains)
     pub follows : (z : ℕ) → z ≢ 0 → FollowsOn c n2 n16 b (t .cvt) (t .trains) z (runsOf b z ds)
     pub none-zero : runsOf b 0 ds ≡ []
 
-  abbrev pub SectionRuns : Section → List Taken → Type 0
+  abbrev pub SectionRuns : Section → List AcceptedStep → Type 0
   SectionRuns s ds = (b : Bool) → TrackRuns b (trackOf s b) ds
 
   -- ## Kept by every accepted step
 
-  module _ (ds : List Taken) (d : Taken) (x : Seen) (says : Says (c .posts) (d .bytes) (shown x)) where
-    here-kept : (v : Bool) (t : Track) → Passes c v (x .track) (x .post) (x .kind) t → Sound c (x .track) t → TrackRuns (x .track) t ds
-        → TrackRuns (x .track) (moved c v (x .track) (x .post) (x .kind) t) (ds ++ d ∷ [])
+  module _ (ds : List AcceptedStep) (d : AcceptedStep) (x : Seen) (says : Says (c .posts) (d .bytes) (shown x)) where
+    here-kept : (v : Bool) (t : Track) → AcceptedOn c v (x .track) (x .post) (x .kind) t → Sound c (x .track) t → TrackRuns (x .track) t ds
+        → TrackRuns (x .track) (trackAfterStep c (x .track) (x .post) (x .kind) t) (ds ++ d ∷ [])
     here-kept v t h so m =
-        let k = trains-kept c n2 n16 (x .track) v t (x .post) (so .sizes .trains) (x .kind) h (so .low) in
+        let k = trains-kept c n2 n16 (x .track) v t (x .post) (so .sizes .trains) (x .kind) h (so .clear) in
         record {
           spaced = k .spaced (m .spaced);
           follows = λ z nz. rw (runs-here (c .posts) ds d x says z) (k .follows z (runsOf (x .track) z ds) nz (m .spaced) (m .follows z nz));
@@ -110,10 +107,11 @@ module _ (c : Settings) (n2 : 2 ≤ c .posts) (n16 : c .posts ≤ mostPosts) whe
       none-zero = runs-there (c .posts) ds d x says 0 ∙ m .none-zero;
     }
 
-    pub runs-kept : (s : Section) → Ok c s x → ((b : Bool) → Sound c b (trackOf s b)) → SectionRuns s ds → SectionRuns (next c s x) (ds ++ d ∷ [])
-    unfolding Ok
+    pub runs-kept : (s : Section) → AcceptedIn c s x → ((b : Bool) → Sound c b (trackOf s b)) → SectionRuns s ds
+        → SectionRuns (sectionAfterStep c s x) (ds ++ d ∷ [])
+    unfolding AcceptedIn
     runs-kept s h so m =
-        by-track (λ b. TrackRuns b (trackOf (next c s x) b) (ds ++ d ∷ [])) (x .track)
+        by-track (λ b. TrackRuns b (trackOf (sectionAfterStep c s x) b) (ds ++ d ∷ [])) (x .track)
         (rw (here-after c s (x .track) (x .post) (x .kind))
         (here-kept (otherSettledOnVns s (x .track)) (trackOf s (x .track)) h (so (x .track)) (m (x .track))))
         (rw (there-after c s (x .track) (x .post) (x .kind)) (there-kept (trackOf s (not (x .track))) (m (not (x .track)))))
@@ -124,7 +122,7 @@ module _ (c : Settings) (n2 : 2 ≤ c .posts) (n16 : c .posts ≤ mostPosts) whe
   unfolding freshTrack runsOf
   fresh-track-runs b = record {
     spaced = empty-spaced (c .posts) (stretchEnds c b false) (trainAt c b false (replicate mostBlocks 0)) zeros;
-    follows = λ z nz. away (λ j h e. nz (sym e ∙ zeros j h)) tt;
+    follows = λ z nz. offTrack (λ j h e. nz (sym e ∙ zeros j h)) tt;
     none-zero = refl;
   }
     where
@@ -137,7 +135,7 @@ module _ (c : Settings) (n2 : 2 ≤ c .posts) (n16 : c .posts ≤ mostPosts) whe
 
   -- ## What that says
 
-  pub runs-right : (s : Section) (ds : List Taken) (b : Bool) → TrackRuns b (trackOf s b) ds → RunsRight c s ds b
+  pub runs-right : (s : Section) (ds : List AcceptedStep) (b : Bool) → TrackRuns b (trackOf s b) ds → RunsRight c s ds b
   runs-right s ds b m = record {
     fates = λ z. fate z (ℕ-discrete z 0);
     one-after-another = λ z. in-turn z (ℕ-discrete z 0);
@@ -155,18 +153,3 @@ module _ (c : Settings) (n2 : 2 ≤ c .posts) (n16 : c .posts ≤ mostPosts) whe
       keeps : (i : ℕ) → suc i < c .posts → Dec (getD (trackOf s b .trains) i 0 ≡ 0) → (getD (trackOf s b .trains) i 0 ≡ 0) ⊎ TrainThere c b (trackOf s b) ds i
       keeps i h (yes e) = inl e
       keeps i h (no n) = inr (follows-there c n2 b (trackOf s b) ds i (getD (trackOf s b .trains) i 0) h refl (m .follows (getD (trackOf s b .trains) i 0) n))
-
--- ## For every list of offered byte strings, from fresh
-
-pub all-runs-right : (c : Settings) → settingsRight c ≡ true → (offered : List (List ℕ)) (b : Bool)
-    → RunsRight c (stateAfter (freshSection c) offered) (acceptedSteps (freshSection c) offered) b
-all-runs-right c right offered b =
-    runs-right c n2 n16 (stateAfter (freshSection c) offered) (acceptedSteps (freshSection c) offered) b
-    (from-fresh c right (SectionRuns c n2 n16) (λ s ds x bytes r says ok. runs-kept c n2 n16 ds (acceptedAs c s x bytes) x says s ok (r .sound))
-    (fresh-runs c n2 n16) offered b)
-  where
-    n2 : leastPosts ≤ c .posts
-    n2 = posts-right c right .0
-
-    n16 : c .posts ≤ mostPosts
-    n16 = posts-right c right .1

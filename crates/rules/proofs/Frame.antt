@@ -1,7 +1,8 @@
--- What a step leaves alone, by its kind.
+-- What a step leaves alone, by its kind: its effect is computed, once for each kind. A step of a reversal moves no train; any other step leaves
+-- the walk and the running direction.
 use Prim.Native.Nat.{ℕ}
 use mathlib.Core.Bool.{Bool, true, false}
-use mathlib.Core.Path.{_≡_, refl}
+use mathlib.Core.Path.{_≡_, refl, _∙_}
 use mathlib.Core.List.{List}
 use lib.ListN.{length, length-set}
 use lib.Dec.{T, eqb, eqb→eq}
@@ -16,25 +17,25 @@ use Rattle.rules.specs.declared.Site.{Site}
 use Rattle.rules.specs.declared.Effect.{Effect}
 use Rattle.rules.specs.declared.Movement.{Movement}
 use Rattle.rules.specs.declared.Movement.the-variants.{Stays, Enters, Moves, Leaves}
-use Rattle.rules.specs.Site.{sameAct, isTurn, isSettled}
-use Rattle.rules.specs.Table.{effect, trainsAfter, lastAfter}
+use Rattle.rules.specs.Site.{sameAct, isTurn, isSettled, blockAhead, blockBefore}
+use Rattle.rules.specs.Table.{effect, vacated, cellsAfter}
 use Rattle.rules.proofs.Facts.{and-l, and-r}
 use Rattle.rules.proofs.View.{order, setDevice, announce, acknowledge, key, Motion, start, pass, leave, measures, fault, View, walks, runs}
 use Rattle.rules.proofs.View.{notes, releases, flat}
 
 -- moves no train
-abbrev pub still : View → Bool
-still (walks r) = true
-still (runs m z) = false
-still (notes k) = true
-still (releases z) = true
+abbrev pub movesNoTrain : View → Bool
+movesNoTrain (walks r) = true
+movesNoTrain (runs m z) = false
+movesNoTrain (notes k) = true
+movesNoTrain (releases z) = true
 
 -- leaves the walk, the running direction and the permission alone, and says nothing
-abbrev pub calm : View → Bool
-calm (walks r) = false
-calm (runs m z) = true
-calm (notes k) = true
-calm (releases z) = true
+abbrev pub keepsRunning : View → Bool
+keepsRunning (walks r) = false
+keepsRunning (runs m z) = true
+keepsRunning (notes k) = true
+keepsRunning (releases z) = true
 
 -- goes on with a train that is on the track already
 abbrev pub onward : Motion → Bool
@@ -67,55 +68,52 @@ is-settled (Turn p a) h = absurd h
 -- ## Lengths
 
 module _ (c : Settings) where
-  pub trains-length : (m : Movement) (e : Site) (l : List ℕ) → length (trainsAfter c m e l) ≡ length l
-  unfolding trainsAfter
-  trains-length Stays e l = refl
-  trains-length (Enters z) e l = simp length-set
-  trains-length (Moves z) e l = simp length-set
-  trains-length Leaves e l = simp length-set
+  pub vacated-length : (clears : Bool) (e : Site) (l : List ℕ) → length (vacated c clears e l) ≡ length l
+  vacated-length true e l = length-set l (blockBefore c e) 0
+  vacated-length false e l = refl
 
-  pub last-length : (m : Movement) (e : Site) (l : List ℕ) → length (lastAfter c m e l) ≡ length l
-  unfolding lastAfter
-  last-length Stays e l = refl
-  last-length (Enters z) e l = simp length-set
-  last-length (Moves z) e l = simp length-set
-  last-length Leaves e l = refl
+  pub cells-length : (clears : Bool) (m : Movement) (e : Site) (l : List ℕ) → length (cellsAfter c clears m e l) ≡ length l
+  unfolding cellsAfter
+  cells-length clears Stays e l = refl
+  cells-length clears (Enters z) e l = length-set l (blockAhead c e) z
+  cells-length clears (Moves z) e l = length-set (vacated c clears e l) (blockAhead c e) z ∙ vacated-length clears e l
+  cells-length clears Leaves e l = vacated-length clears e l
 
   -- ## Effects
 
-  pub still-train : (p : ℕ) (k : View) (e : Site) → T (still k) → effect c (flat p k) e .train ≡ Stays
+  pub no-movement : (p : ℕ) (k : View) (e : Site) → T (movesNoTrain k) → effect c (flat p k) e .train ≡ Stays
   unfolding effect flat
-  still-train p (walks order) e i = refl
-  still-train p (walks setDevice) e i = refl
-  still-train p (walks announce) e i = refl
-  still-train p (walks acknowledge) e i = refl
-  still-train p (walks key) e i = refl
-  still-train p (runs m z) e i = absurd i
-  still-train p (notes (measures true)) e i = refl
-  still-train p (notes (measures false)) e i = refl
-  still-train p (notes (fault true f)) e i = refl
-  still-train p (notes (fault false f)) e i = refl
-  still-train p (releases z) e i = refl
+  no-movement p (walks order) e i = refl
+  no-movement p (walks setDevice) e i = refl
+  no-movement p (walks announce) e i = refl
+  no-movement p (walks acknowledge) e i = refl
+  no-movement p (walks key) e i = refl
+  no-movement p (runs m z) e i = absurd i
+  no-movement p (notes (measures true)) e i = refl
+  no-movement p (notes (measures false)) e i = refl
+  no-movement p (notes (fault true f)) e i = refl
+  no-movement p (notes (fault false f)) e i = refl
+  no-movement p (releases z) e i = refl
 
-  pub record Calm (e : Site) (x : Effect) : Type 0 where
+  pub record KeepsRunning (e : Site) (x : Effect) : Type 0 where
     pub walk : x .walk ≡ e .walk
     pub cvt : x .cvt ≡ e .cvt
     pub said : x .said ≡ Nothing
     pub permission : x .own .permission ≡ e .own .permission
     pub seals : x .own .seals ≡ e .own .seals
 
-  pub calm-effect : (p : ℕ) (k : View) (e : Site) → T (calm k) → Calm e (effect c (flat p k) e)
+  pub running-kept : (p : ℕ) (k : View) (e : Site) → T (keepsRunning k) → KeepsRunning e (effect c (flat p k) e)
   unfolding effect flat
-  calm-effect p (walks r) e i = absurd i
-  calm-effect p (runs start z) e i = record { walk = refl; cvt = refl; said = refl; permission = refl; seals = refl }
-  calm-effect p (runs pass z) e i = record { walk = refl; cvt = refl; said = refl; permission = refl; seals = refl }
-  calm-effect p (runs leave z) e i = record { walk = refl; cvt = refl; said = refl; permission = refl; seals = refl }
-  calm-effect p (notes (measures true)) e i = record { walk = refl; cvt = refl; said = refl; permission = refl; seals = refl }
-  calm-effect p (notes (measures false)) e i = record { walk = refl; cvt = refl; said = refl; permission = refl; seals = refl }
-  calm-effect p (notes (fault true One)) e i = record { walk = refl; cvt = refl; said = refl; permission = refl; seals = refl }
-  calm-effect p (notes (fault true Two)) e i = record { walk = refl; cvt = refl; said = refl; permission = refl; seals = refl }
-  calm-effect p (notes (fault true Three)) e i = record { walk = refl; cvt = refl; said = refl; permission = refl; seals = refl }
-  calm-effect p (notes (fault false One)) e i = record { walk = refl; cvt = refl; said = refl; permission = refl; seals = refl }
-  calm-effect p (notes (fault false Two)) e i = record { walk = refl; cvt = refl; said = refl; permission = refl; seals = refl }
-  calm-effect p (notes (fault false Three)) e i = record { walk = refl; cvt = refl; said = refl; permission = refl; seals = refl }
-  calm-effect p (releases z) e i = record { walk = refl; cvt = refl; said = refl; permission = refl; seals = refl }
+  running-kept p (walks r) e i = absurd i
+  running-kept p (runs start z) e i = record { walk = refl; cvt = refl; said = refl; permission = refl; seals = refl }
+  running-kept p (runs pass z) e i = record { walk = refl; cvt = refl; said = refl; permission = refl; seals = refl }
+  running-kept p (runs leave z) e i = record { walk = refl; cvt = refl; said = refl; permission = refl; seals = refl }
+  running-kept p (notes (measures true)) e i = record { walk = refl; cvt = refl; said = refl; permission = refl; seals = refl }
+  running-kept p (notes (measures false)) e i = record { walk = refl; cvt = refl; said = refl; permission = refl; seals = refl }
+  running-kept p (notes (fault true One)) e i = record { walk = refl; cvt = refl; said = refl; permission = refl; seals = refl }
+  running-kept p (notes (fault true Two)) e i = record { walk = refl; cvt = refl; said = refl; permission = refl; seals = refl }
+  running-kept p (notes (fault true Three)) e i = record { walk = refl; cvt = refl; said = refl; permission = refl; seals = refl }
+  running-kept p (notes (fault false One)) e i = record { walk = refl; cvt = refl; said = refl; permission = refl; seals = refl }
+  running-kept p (notes (fault false Two)) e i = record { walk = refl; cvt = refl; said = refl; permission = refl; seals = refl }
+  running-kept p (notes (fault false Three)) e i = record { walk = refl; cvt = refl; said = refl; permission = refl; seals = refl }
+  running-kept p (releases z) e i = record { walk = refl; cvt = refl; said = refl; permission = refl; seals = refl }

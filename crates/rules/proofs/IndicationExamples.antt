@@ -12,7 +12,7 @@ use Rattle.section.specs.declared.Fault.the-variants.{One, Two, Three}
 use Rattle.section.specs.declared.Step.the-variants.{Order, Set, Announce, Acknowledge, Start, Pass, MeasuresOn, FaultOn, Release}
 use Rattle.section.specs.Step.{trackNumber}
 use Rattle.rules.specs.Indications.{setCount, isNextToSet, circulation, troncon, shown, lampsAt, dark, indicationsOn, indications}
-use Rattle.rules.proofs.Days.{A, B, telephone, materialised, fresh, sealedAt, on, reversal, reversalToCvt}
+use Rattle.rules.proofs.Days.{A, B, telephone, materialised, fresh, sealedAt, on, reversalToCvt}
 use Rattle.rules.proofs.Rows.{_gives_, Holds, seen}
 
 -- CIRCULATION, TRONÇON, permission

@@ -1,8 +1,9 @@
--- What holds of a track in every state reached: kept by every accepted step.
+-- What holds of a track in every state reached: what a reversal has cleared holds no train, only the sending end of a settled track has
+-- permission, and the ranges hold. Each accepted step keeps this, kind by kind.
 use Prim.Native.Nat.{ℕ, suc, _-_, _≤_, _<_}
 use mathlib.Core.Bool.{Bool, true, false, cond, not, _&&_, _||_}
 use mathlib.Core.Path.{_≡_, refl, sym, _∙_, subst}
-use mathlib.Core.Logic.{_≢_}
+use mathlib.Core.Logic.{_≢_, _⊎_, inl, inr}
 use mathlib.Core.List.{List}
 use native.Mathlib.Omega.{arith}
 use native.Mathlib.Decide.{ℕ-discrete, decLt}
@@ -11,7 +12,6 @@ use lib.Seq.{getD-set-other, getD-set-same}
 use lib.Dec.{T, eqb, eqb→eq}
 use Rattle.section.specs.declared.Settings.{Settings}
 use Rattle.section.specs.declared.Post.{Post}
-use Rattle.section.specs.declared.Act.{Act}
 use Rattle.section.specs.declared.Act.the-variants as act
 use Rattle.section.specs.declared.Walk.{Walk}
 use Rattle.section.specs.declared.Walk.the-variants.{Settled, Turn}
@@ -21,32 +21,24 @@ use Rattle.section.specs.Numbers.{mostPosts, mostBlocks}
 use Rattle.section.specs.Post.{blank}
 use Rattle.section.proofs.Laws.{rank-lt, rank-inj, block-inj, block-lt, block-block}
 use Rattle.rules.specs.declared.Site.{Site}
-use Rattle.rules.specs.Site.{siteOn, isTurn, atSendingEnd, atReceivingEnd, blockAhead, blockBefore, nextPost, trainAt, watchedOccupied}
+use Rattle.rules.specs.Site.{siteOn, isTurn, atReceivingEnd, blockAhead, blockBefore, nextPost, trainAt, watchedOccupied}
 use Rattle.rules.specs.Site.{occupancyAt}
-use Rattle.rules.specs.Table.{checks, effect, trainsAfter, trackAfter}
-use Rattle.rules.specs.Indications.{setCount}
-use Rattle.rules.proofs.Facts.{true-T, false-T, notnot, nor-l, nor-r, first-rank}
-use Rattle.rules.proofs.Facts.{not-first-rank, last-rank, not-last-rank, next-rank, far-end, before-is, set-zero}
+use Rattle.rules.specs.Table.{checks, effect, cellsAfter, trackAfter}
+use Rattle.rules.proofs.Facts.{true-T, false-T, notnot, first-rank}
+use Rattle.rules.proofs.Facts.{not-first-rank, last-rank, not-last-rank, next-rank, far-end, set-zero}
 use Rattle.rules.proofs.View.{order, setDevice, announce, acknowledge, key, start, pass, leave, View, walks, runs, notes, releases, flat}
-use Rattle.rules.proofs.Frame.{is-turn, is-settled, still, calm, calm-effect, still-train, trains-length, last-length}
-use Rattle.rules.proofs.Accept.{Passes, moved}
+use Rattle.rules.proofs.Frame.{is-turn, is-settled, movesNoTrain, keepsRunning, running-kept, no-movement, cells-length}
+use Rattle.rules.proofs.Accept.{AcceptedOn, trackAfterStep}
+use Rattle.rules.proofs.Held.{order-held, set-held, key-held, announce-held, acknowledge-held, start-held, pass-held, pass-before}
+use Rattle.rules.proofs.Cleared.{none-below, cleared, cleared-settled, cleared-order, cleared-set, cleared-announced, cleared-acknowledged, cleared-all}
 use Rattle.rules.proofs.Ranges.{rankOn, TurnFits, InRange, announce-next, in-range-kept}
 
 module _ (c : Settings) (b : Bool) where
   -- ## What is kept
 
-  -- the block sections of a rank below this are empty: as many as posts have set in the reversal
-  abbrev pub limit : Bool → Walk → ℕ
-  limit cvt w = setCount (c .posts) (upward b cvt) w
-
-  pub limit-turn : (cvt : Bool) (p : ℕ) (a : Act) → rankOn c b cvt p ≤ limit cvt (Turn p a)
-  unfolding setCount
-  limit-turn cvt p act.Set = omega arith
-  limit-turn cvt p act.Announce = omega arith
-  limit-turn cvt p act.Acknowledge = omega arith
-
-  abbrev pub Low : Bool → Walk → List ℕ → Type 0
-  Low cvt w l = (j : ℕ) → j < limit cvt w → suc j < c .posts → trainAt c b cvt l j ≡ 0
+  -- the block sections that the reversal has cleared hold no train
+  abbrev pub ClearedBelow : Bool → Walk → List ℕ → Type 0
+  ClearedBelow cvt w l = (j : ℕ) → j < cleared c b cvt w → suc j < c .posts → trainAt c b cvt l j ≡ 0
 
   -- a post of that rank may have permission: the sending end, while no reversal is under way
   abbrev pub MayHold : Walk → ℕ → Type 0
@@ -62,19 +54,19 @@ module _ (c : Settings) (b : Bool) where
     pub last : length (t .last) ≡ mostBlocks
 
   pub record Sound (t : Track) : Type 0 where
-    pub low : Low (t .cvt) (t .walk) (t .trains)
+    pub clear : ClearedBelow (t .cvt) (t .walk) (t .trains)
     pub permits : Permits (t .cvt) (t .walk) (t .posts)
     pub sizes : Sizes t
     pub ranges : InRange c b t
 
   module _ (v : Bool) (t : Track) (p : ℕ) where
     abbrev e : Site
-    e = siteOn v b p t
+    e = siteOn b p t
 
     abbrev r : ℕ
     r = rankOn c b (t .cvt) p
 
-    -- ## Low
+    -- ## What is cleared
 
     -- the block section ahead, of a post that is not the last
     pub ahead-free : T (not (isLast (c .posts) (upward b (t .cvt)) p)) → T (not (watchedOccupied c e (t .trains))) → trainAt c b (t .cvt) (t .trains) r ≡ 0
@@ -88,65 +80,67 @@ module _ (c : Settings) (b : Bool) where
         go true x y = absurd x
         go false x y = notnot empty y
 
-    low-set : (last : Bool) → isLast (c .posts) (upward b (t .cvt)) p ≡ last → T (isTurn (t .walk) p act.Set) → T (not (watchedOccupied c e (t .trains)))
-        → Low (t .cvt) (t .walk) (t .trains) → Low (cond last (not (t .cvt)) (t .cvt)) (cond last Settled (Turn p act.Announce)) (t .trains)
-    unfolding setCount
-    low-set true q hw ha low j h k = absurd (omega arith)
-    low-set false q hw ha low j h k = go (ℕ-discrete j r)
+    clear-set : (last : Bool) → isLast (c .posts) (upward b (t .cvt)) p ≡ last → T (isTurn (t .walk) p act.Set) → T (not (watchedOccupied c e (t .trains)))
+        → ClearedBelow (t .cvt) (t .walk) (t .trains) → ClearedBelow (cond last (not (t .cvt)) (t .cvt)) (cond last Settled (Turn p act.Announce)) (t .trains)
+    clear-set true q hw ha clear j h k = absurd (none-below j _ (cleared-settled c b (not (t .cvt))) h)
+    clear-set false q hw ha clear j h k = go (cleared-set c b (t .cvt) p j h)
       where
-        before : Low (t .cvt) (Turn p act.Set) (t .trains)
-        before = subst (λ (w : Walk). Low (t .cvt) w (t .trains)) (is-turn (t .walk) p act.Set hw) low
+        before : ClearedBelow (t .cvt) (Turn p act.Set) (t .trains)
+        before = subst (λ (w : Walk). ClearedBelow (t .cvt) w (t .trains)) (is-turn (t .walk) p act.Set hw) clear
 
-        go : Dec (j ≡ r) → trainAt c b (t .cvt) (t .trains) j ≡ 0
-        go (yes x) = rw x (ahead-free (false-T (isLast (c .posts) (upward b (t .cvt)) p) q) ha)
-        go (no ne) = before j (omega arith) k
+        go : (j ≡ r) ⊎ (j < cleared c b (t .cvt) (Turn p act.Set)) → trainAt c b (t .cvt) (t .trains) j ≡ 0
+        go (inl x) = rw x (ahead-free (false-T (isLast (c .posts) (upward b (t .cvt)) p) q) ha)
+        go (inr l) = before j l k
 
-    -- a train before a post stands at or past the limit
-    pub past-limit : (z : ℕ) → p < c .posts → r ≢ 0 → 0 < z → T (eqb (trainAt c b (t .cvt) (t .trains) (r - 1)) z)
-        → Low (t .cvt) (t .walk) (t .trains) → limit (t .cvt) (t .walk) < r
-    past-limit z p<n r0 z0 hb low = go (decLt (limit (t .cvt) (t .walk)) r)
+    -- a train before a post stands at or past what is cleared
+    pub past-cleared : (z : ℕ) → p < c .posts → r ≢ 0 → 0 < z → trainAt c b (t .cvt) (t .trains) (r - 1) ≡ z
+        → ClearedBelow (t .cvt) (t .walk) (t .trains) → cleared c b (t .cvt) (t .walk) < r
+    past-cleared z p<n r0 z0 hb clear = go (decLt (cleared c b (t .cvt) (t .walk)) r)
       where
-        go : Dec (limit (t .cvt) (t .walk) < r) → limit (t .cvt) (t .walk) < r
+        go : Dec (cleared c b (t .cvt) (t .walk) < r) → cleared c b (t .cvt) (t .walk) < r
         go (yes h) = h
         go (no h) =
             let r<n : r < c .posts = rank-lt (c .posts) (upward b (t .cvt)) p p<n in
-            let e0 : trainAt c b (t .cvt) (t .trains) (r - 1) ≡ 0 = low (r - 1) (omega arith) (omega arith) in
-            let ez : trainAt c b (t .cvt) (t .trains) (r - 1) ≡ z = eqb→eq (trainAt c b (t .cvt) (t .trains) (r - 1)) z hb in
+            let e0 : trainAt c b (t .cvt) (t .trains) (r - 1) ≡ 0 = clear (r - 1) (omega arith) (omega arith) in
             absurd (omega arith)
 
-    low-pass : (z : ℕ) → p < c .posts → r ≢ 0 → suc r < c .posts → 0 < z → T (eqb (trainAt c b (t .cvt) (t .trains) (r - 1)) z)
-        → Low (t .cvt) (t .walk) (t .trains) → Low (t .cvt) (t .walk) (set (set (t .trains) (blockBefore c e) 0) (blockAhead c e) z)
-    low-pass z p<n r0 rn z0 hb low j h k =
-        let lim : limit (t .cvt) (t .walk) < r = past-limit z p<n r0 z0 hb low in
+    clear-pass : (z : ℕ) → p < c .posts → r ≢ 0 → suc r < c .posts → 0 < z → trainAt c b (t .cvt) (t .trains) (r - 1) ≡ z
+        → ClearedBelow (t .cvt) (t .walk) (t .trains) → ClearedBelow (t .cvt) (t .walk) (set (set (t .trains) (blockBefore c e) 0) (blockAhead c e) z)
+    clear-pass z p<n r0 rn z0 hb clear j h k =
+        let lim : cleared c b (t .cvt) (t .walk) < r = past-cleared z p<n r0 z0 hb clear in
         getD-set-other (set (t .trains) (blockBefore c e) 0) (blockAhead c e) (block (c .posts) (upward b (t .cvt)) j) z 0
         (λ q. absurd (omega (arith, block-inj (c .posts) (upward b (t .cvt)) j r k rn q)))
-        ∙ set-zero (t .trains) (blockBefore c e) (block (c .posts) (upward b (t .cvt)) j) (low j h k)
+        ∙ set-zero (t .trains) (blockBefore c e) (block (c .posts) (upward b (t .cvt)) j) (clear j h k)
 
     -- a step that moves no train and leaves walk and direction alone
-    low-calm : (k : View) → T (still k) → T (calm k) → Low (t .cvt) (t .walk) (t .trains)
-        → Low (moved c v b p k t .cvt) (moved c v b p k t .walk) (moved c v b p k t .trains)
-    unfolding trackAfter trainsAfter
-    low-calm k i j low = rw (still-train c p k e i, calm-effect c p k e j .walk, calm-effect c p k e j .cvt) low
+    clear-unmoved : (k : View) → T (movesNoTrain k) → T (keepsRunning k) → ClearedBelow (t .cvt) (t .walk) (t .trains)
+        → ClearedBelow (trackAfterStep c b p k t .cvt) (trackAfterStep c b p k t .walk) (trackAfterStep c b p k t .trains)
+    unfolding trackAfter cellsAfter
+    clear-unmoved k i j clear = rw (no-movement c p k e i, running-kept c p k e j .walk, running-kept c p k e j .cvt) clear
 
-    low-kept : (k : View) → Passes c v b p k t → Low (t .cvt) (t .walk) (t .trains) → TurnFits c b (t .cvt) (t .walk)
-        → Low (moved c v b p k t .cvt) (moved c v b p k t .walk) (moved c v b p k t .trains)
-    unfolding checks occupancyAt trackAfter effect trainsAfter flat setCount
-    low-kept (walks order) h low f = λ j l m. absurd (omega (arith, first-rank (c .posts) (upward b (t .cvt)) p (h .held .1 .0)))
-    low-kept (walks setDevice) h low f = low-set (atReceivingEnd c e) refl (h .held .0) (h .held .1 .0) low
-    low-kept (walks announce) h low f = λ j l m.
-        subst (λ (w : Walk). Low (t .cvt) w (t .trains)) (is-turn (t .walk) p act.Announce (h .held .0)) low j
-        (rw (next-rank (c .posts) (upward b (t .cvt)) p (h .fits .below) (announce-next c b v t p (h .held .0) f)) at l) m
-    low-kept (walks acknowledge) h low f = subst (λ (w : Walk). Low (t .cvt) w (t .trains)) (is-turn (t .walk) p act.Acknowledge (h .held .0)) low
-    low-kept (walks key) h low f = low-set (atReceivingEnd c e) refl (h .held .0) (h .held .1 .1 .0) low
-    low-kept (runs start z) h low f = λ j l m. absurd (omega (arith, rw (is-settled (t .walk) (h .held .0)) at l))
-    low-kept (runs pass z) h low f =
-        let not-sending : T (not (atSendingEnd c e)) = nor-l (atSendingEnd c e) (atReceivingEnd c e) (h .held .0) in
-        low-pass z (h .fits .below) (not-first-rank (c .posts) (upward b (t .cvt)) p not-sending)
-        (not-last-rank (c .posts) (upward b (t .cvt)) p (h .fits .below) (nor-r (atSendingEnd c e) (atReceivingEnd c e) (h .held .0)))
-        (h .fits .number .0) (rw (before-is c e (t .trains) not-sending) at (h .held .1 .0)) low
-    low-kept (runs leave z) h low f = λ j l m. set-zero (t .trains) (blockBefore c e) (block (c .posts) (upward b (t .cvt)) j) (low j l m)
-    low-kept (notes k) h low f = low-calm (notes k) tt tt low
-    low-kept (releases z) h low f = low
+    clear-kept : (k : View) → AcceptedOn c v b p k t → ClearedBelow (t .cvt) (t .walk) (t .trains) → TurnFits c b (t .cvt) (t .walk)
+        → ClearedBelow (trackAfterStep c b p k t .cvt) (trackAfterStep c b p k t .walk) (trackAfterStep c b p k t .trains)
+    unfolding checks occupancyAt trackAfter effect cellsAfter flat
+    clear-kept (walks order) h clear f =
+        λ j l m. absurd (none-below j _ (cleared-order c b (t .cvt) p (first-rank (c .posts) (upward b (t .cvt)) p (order-held h .first))) l)
+    clear-kept (walks setDevice) h clear f = clear-set (atReceivingEnd c e) refl (set-held h .in-turn) (set-held h .free) clear
+    clear-kept (walks announce) h clear f = λ j l m.
+        subst (λ (w : Walk). ClearedBelow (t .cvt) w (t .trains)) (is-turn (t .walk) p act.Announce (announce-held h .in-turn)) clear j
+        (subst (λ (m : ℕ). j < m) (cleared-announced c b (t .cvt) p (nextPost c e)
+        (next-rank (c .posts) (upward b (t .cvt)) p (h .fits .below) (announce-next c b v t p (announce-held h .in-turn) f))) l) m
+    clear-kept (walks acknowledge) h clear f = λ j l m.
+        subst (λ (w : Walk). ClearedBelow (t .cvt) w (t .trains)) (is-turn (t .walk) p act.Acknowledge (acknowledge-held h .in-turn)) clear j
+        (subst (λ (m : ℕ). j < m) (cleared-acknowledged c b (t .cvt) p) l) m
+    clear-kept (walks key) h clear f = clear-set (atReceivingEnd c e) refl (key-held h .in-turn) (key-held h .free) clear
+    clear-kept (runs start z) h clear f =
+        λ j l m. absurd (none-below j _ (cleared-settled c b (t .cvt))
+        (subst (λ (w : Walk). j < cleared c b (t .cvt) w) (is-settled (t .walk) (start-held h .settled)) l))
+    clear-kept (runs pass z) h clear f =
+        clear-pass z (h .fits .below) (not-first-rank (c .posts) (upward b (t .cvt)) p (pass-held h .not-first))
+        (not-last-rank (c .posts) (upward b (t .cvt)) p (h .fits .below) (pass-held h .not-last)) (h .fits .number .0) (pass-before h) clear
+    clear-kept (runs leave z) h clear f = λ j l m. set-zero (t .trains) (blockBefore c e) (block (c .posts) (upward b (t .cvt)) j) (clear j l m)
+    clear-kept (notes k) h clear f = clear-unmoved (notes k) tt tt clear
+    clear-kept (releases z) h clear f = clear
 
     -- ## Permission
 
@@ -191,46 +185,46 @@ module _ (c : Settings) (b : Bool) where
       permit-set false ew p<n hw o eo old q q<n h =
           permit-same o (Turn p act.Announce) p<n (λ u. rw eo at u) (λ r m. subst (λ (v : Walk). MayHold v r) (is-turn (t .walk) p act.Set hw) m) old q q<n h
 
-      permit-calm : (k : View) → Passes c v b p k t → T (calm k) → Permits (t .cvt) (t .walk) (t .posts)
-          → Permits (moved c v b p k t .cvt) (moved c v b p k t .walk) (moved c v b p k t .posts)
+      permit-running : (k : View) → AcceptedOn c v b p k t → T (keepsRunning k) → Permits (t .cvt) (t .walk) (t .posts)
+          → Permits (trackAfterStep c b p k t .cvt) (trackAfterStep c b p k t .walk) (trackAfterStep c b p k t .posts)
       unfolding trackAfter
-      permit-calm k h i old =
-          rw (calm-effect c p k e i .walk, calm-effect c p k e i .cvt)
-          (permit-same (effect c (flat p k) e .own) (t .walk) (h .fits .below) (λ u. rw (calm-effect c p k e i .permission) at u) (λ r m. m) old)
+      permit-running k h i old =
+          rw (running-kept c p k e i .walk, running-kept c p k e i .cvt)
+          (permit-same (effect c (flat p k) e .own) (t .walk) (h .fits .below) (λ u. rw (running-kept c p k e i .permission) at u) (λ r m. m) old)
 
-      permits-kept : (k : View) → Passes c v b p k t → Permits (t .cvt) (t .walk) (t .posts)
-          → Permits (moved c v b p k t .cvt) (moved c v b p k t .walk) (moved c v b p k t .posts)
+      permits-kept : (k : View) → AcceptedOn c v b p k t → Permits (t .cvt) (t .walk) (t .posts)
+          → Permits (trackAfterStep c b p k t .cvt) (trackAfterStep c b p k t .walk) (trackAfterStep c b p k t .posts)
       unfolding checks trackAfter effect flat
       permits-kept (walks order) h old =
           permit-order (effect c (flat p (walks order)) e .own) (Turn p act.Set) (h .fits .below) (λ u. u)
-          (first-rank (c .posts) (upward b (t .cvt)) p (h .held .1 .0)) (is-settled (t .walk) (h .held .0)) old
+          (first-rank (c .posts) (upward b (t .cvt)) p (order-held h .first)) (is-settled (t .walk) (order-held h .settled)) old
       permits-kept (walks setDevice) h old =
-          permit-set (atReceivingEnd c e) refl (h .fits .below) (h .held .0) (effect c (flat p (walks setDevice)) e .own) refl old
+          permit-set (atReceivingEnd c e) refl (h .fits .below) (set-held h .in-turn) (effect c (flat p (walks setDevice)) e .own) refl old
       permits-kept (walks announce) h old =
           permit-same (e .own) (Turn (nextPost c e) act.Acknowledge) (h .fits .below) (λ u. u)
-          (λ r m. subst (λ (v : Walk). MayHold v r) (is-turn (t .walk) p act.Announce (h .held .0)) m) old
+          (λ r m. subst (λ (v : Walk). MayHold v r) (is-turn (t .walk) p act.Announce (announce-held h .in-turn)) m) old
       permits-kept (walks acknowledge) h old =
           permit-same (e .own) (Turn p act.Set) (h .fits .below) (λ u. u)
-          (λ r m. subst (λ (v : Walk). MayHold v r) (is-turn (t .walk) p act.Acknowledge (h .held .0)) m) old
+          (λ r m. subst (λ (v : Walk). MayHold v r) (is-turn (t .walk) p act.Acknowledge (acknowledge-held h .in-turn)) m) old
       permits-kept (walks key) h old =
-          permit-set (atReceivingEnd c e) refl (h .fits .below) (h .held .0) (effect c (flat p (walks key)) e .own) refl old
-      permits-kept (runs m y) h old = permit-calm (runs m y) h tt old
-      permits-kept (notes k) h old = permit-calm (notes k) h tt old
-      permits-kept (releases y) h old = permit-calm (releases y) h tt old
+          permit-set (atReceivingEnd c e) refl (h .fits .below) (key-held h .in-turn) (effect c (flat p (walks key)) e .own) refl old
+      permits-kept (runs m y) h old = permit-running (runs m y) h tt old
+      permits-kept (notes k) h old = permit-running (notes k) h tt old
+      permits-kept (releases y) h old = permit-running (releases y) h tt old
 
     -- ## The whole
 
-    sizes-kept : (k : View) → Sizes t → Sizes (moved c v b p k t)
+    sizes-kept : (k : View) → Sizes t → Sizes (trackAfterStep c b p k t)
     unfolding trackAfter
     sizes-kept k z = record {
       posts = simp length-set (z .posts);
-      trains = trains-length c (effect c (flat p k) e .train) e (t .trains) ∙ z .trains;
-      last = last-length c (effect c (flat p k) e .train) e (t .last) ∙ z .last;
+      trains = cells-length c true (effect c (flat p k) e .train) e (t .trains) ∙ z .trains;
+      last = cells-length c false (effect c (flat p k) e .train) e (t .last) ∙ z .last;
     }
 
-    pub sound-kept : c .posts ≤ mostPosts → (k : View) → Passes c v b p k t → Sound t → Sound (moved c v b p k t)
+    pub sound-kept : c .posts ≤ mostPosts → (k : View) → AcceptedOn c v b p k t → Sound t → Sound (trackAfterStep c b p k t)
     sound-kept n16 k h s = record {
-      low = low-kept k h (s .low) (s .ranges .turn);
+      clear = clear-kept k h (s .clear) (s .ranges .turn);
       permits = permits-kept n16 (s .sizes) k h (s .permits);
       sizes = sizes-kept k (s .sizes);
       ranges = in-range-kept c b v t p k h (s .ranges);
@@ -242,15 +236,14 @@ abbrev pub NoTrain : Settings → Track → Type 0
 NoTrain c t = (i : ℕ) → suc i < c .posts → getD (t .trains) i 0 ≡ 0
 
 pub all-free : (c : Settings) (b : Bool) (t : Track) (p : ℕ) → T (isLast (c .posts) (upward b (t .cvt)) p)
-    → Low c b (t .cvt) (Turn p act.Set) (t .trains) → NoTrain c t
-unfolding setCount
-all-free c b t p hr low i h =
+    → ClearedBelow c b (t .cvt) (Turn p act.Set) (t .trains) → NoTrain c t
+all-free c b t p hr clear i h =
     let e : suc (rankOn c b (t .cvt) p) ≡ c .posts = last-rank (c .posts) (upward b (t .cvt)) p hr in
     let l : suc (block (c .posts) (upward b (t .cvt)) i) < c .posts = block-lt (c .posts) (upward b (t .cvt)) i h in
-    rw (block-block (c .posts) (upward b (t .cvt)) i h) at (low (block (c .posts) (upward b (t .cvt)) i) (omega arith) l)
+    rw (block-block (c .posts) (upward b (t .cvt)) i h) at (clear (block (c .posts) (upward b (t .cvt)) i) (cleared-all c b (t .cvt) p _ e l) l)
 
 -- a turn at the last post, with its act set
 pub last-free : (c : Settings) (b : Bool) (t : Track) (p : ℕ) → T (isLast (c .posts) (upward b (t .cvt)) p) → T (isTurn (t .walk) p act.Set)
-    → Low c b (t .cvt) (t .walk) (t .trains) → NoTrain c t
-last-free c b t p hr hw low =
-    all-free c b t p hr (subst (λ (w : Walk). Low c b (t .cvt) w (t .trains)) (is-turn (t .walk) p act.Set hw) low)
+    → ClearedBelow c b (t .cvt) (t .walk) (t .trains) → NoTrain c t
+last-free c b t p hr hw clear =
+    all-free c b t p hr (subst (λ (w : Walk). ClearedBelow c b (t .cvt) w (t .trains)) (is-turn (t .walk) p act.Set hw) clear)

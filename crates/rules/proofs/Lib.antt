@@ -2,16 +2,17 @@ pub mod View
 pub mod Facts
 pub mod Reading
 pub mod Accept
+pub mod Held
 pub mod Frame
 pub mod CellsNotTested
 pub mod Ranges
 pub mod RangeLaw
+pub mod Cleared
 pub mod Invariant
 pub mod Swap
 pub mod Exchange
 pub mod CellsKept
 pub mod Reached
-pub mod Along
 pub mod Stretches
 pub mod Runs
 pub mod TrainSteps
@@ -21,6 +22,7 @@ pub mod Lists
 pub mod UnderWay
 pub mod Perform
 pub mod Sort
+pub mod Along
 pub mod Starts
 pub mod VoieOccupee
 pub mod Theorem

@@ -1,11 +1,12 @@
--- Lists that hold the same elements, and what is kept of them in sequence.
+-- Lists that hold the same elements, and what is kept of them in sequence: a step put at the end, or before steps none of which has an owner in
+-- common with it, changes no owner's sequence.
 use Prim.Native.Nat.{ℕ}
 use mathlib.Core.Bool.{Bool, true, false, cond, not}
 use mathlib.Core.Path.{_≡_, refl, sym, ap, _∙_}
 use mathlib.Core.List.{List, [], _∷_, _++_, append-nil}
 use mathlib.Core.List.{Perm, Perm·nil, Perm·cons, Perm·symm, Perm·trans, Perm·append-right, perm-append-singleton}
 use lib.Dec.{T}
-use Rattle.rules.specs.Demand3.{Taken, keep, All, isOfPost, isStepOfTrain, isAnnouncement}
+use Rattle.rules.specs.Demand3.{AcceptedStep, keep, All, isOfPost, isStepOfTrain, isAnnouncement}
 
 module _ {A : Type 0} where
   -- ## All
@@ -59,12 +60,12 @@ pub data Owner : Type 0 where
   aTrain : ℕ → Owner
   announcers : Owner
 
-abbrev pub owns : Owner → Taken → Bool
+abbrev pub owns : Owner → AcceptedStep → Bool
 owns (aPost b p) = isOfPost b p
 owns (aTrain z) = isStepOfTrain z
 owns announcers = isAnnouncement
 
-pub record Reordered (ds new : List Taken) : Type 0 where
+pub record Reordered (ds new : List AcceptedStep) : Type 0 where
   pub each-once : Perm new ds
   pub in-sequence : (o : Owner) → keep (owns o) new ≡ keep (owns o) ds
 
@@ -72,14 +73,14 @@ pub reordered-nil : Reordered [] []
 reordered-nil = record { each-once = Perm·nil; in-sequence = λ o. refl }
 
 -- one more step, last in both
-pub reordered-last : (ds new : List Taken) (x : Taken) → Reordered ds new → Reordered (ds ++ x ∷ []) (new ++ x ∷ [])
+pub reordered-last : (ds new : List AcceptedStep) (x : AcceptedStep) → Reordered ds new → Reordered (ds ++ x ∷ []) (new ++ x ∷ [])
 reordered-last ds new x r = record {
   each-once = Perm·append-right (x ∷ []) (r .each-once);
   in-sequence = λ o. keep-append (owns o) new (x ∷ []) ∙ ap (λ l. l ++ keep (owns o) (x ∷ [])) (r .in-sequence o) ∙ sym (keep-append (owns o) ds (x ∷ []));
 }
 
 -- one more step, before the part l, none of which has the same owner
-pub reordered-insert : (ds a l : List Taken) (x : Taken) → ((o : Owner) → T (owns o x) → keep (owns o) l ≡ []) → Reordered ds (a ++ l)
+pub reordered-insert : (ds a l : List AcceptedStep) (x : AcceptedStep) → ((o : Owner) → T (owns o x) → keep (owns o) l ≡ []) → Reordered ds (a ++ l)
     → Reordered (ds ++ x ∷ []) ((a ++ x ∷ []) ++ l)
 reordered-insert ds a l x h r = record {
   each-once = Perm·trans (perm-insert x a l) (Perm·append-right (x ∷ []) (r .each-once));

@@ -1,11 +1,12 @@
--- The ranges of a track, as facts, and that every accepted step keeps them.
-use Prim.Native.Nat.{ℕ, zero, suc, _-_, _≤_, _<_}
+-- The ranges of a track, as facts, and that every accepted step keeps them: it stores a number and a seal count that were tested, and its turn
+-- goes to a post that the section has.
+use Prim.Native.Nat.{ℕ, suc, _-_, _≤_, _<_}
 use mathlib.Core.Bool.{Bool, true, false, cond, not}
 use mathlib.Core.Path.{_≡_, refl, subst}
 use mathlib.Core.List.{List}
 use native.Mathlib.Omega.{arith}
 use lib.ListN.{getD, set}
-use lib.Dec.{T, ltb, leb, ltb→lt, leb→le, lt→ltb, le→leb}
+use lib.Dec.{T, ltb, ltb→lt, lt→ltb}
 use Rattle.section.specs.declared.Settings.{Settings}
 use Rattle.section.specs.declared.Post.{Post}
 use Rattle.section.specs.declared.Act.the-variants as act
@@ -15,48 +16,20 @@ use Rattle.section.specs.declared.Track.{Track}
 use Rattle.section.specs.Geometry.{upward, rank, isFirst, isLast}
 use Rattle.section.specs.Numbers.{mostSeals, largestTrain}
 use Rattle.section.specs.Post.{blank}
-use Rattle.section.specs.Range.{sealsFit, numbersFit, actFits, walkFits, trackFits}
+use Rattle.section.specs.Range.{actInRange, walkInRange, trackInRange}
 use Rattle.section.specs.Store.{postOn}
+use Rattle.section.proofs.Laws.{track-ranges, ranges-hold, set-keeps}
 use Rattle.rules.specs.declared.Site.{Site}
 use Rattle.rules.specs.declared.Movement.{Movement}
 use Rattle.rules.specs.declared.Movement.the-variants.{Stays, Enters, Moves, Leaves}
 use Rattle.rules.specs.Site.{siteOn, isTurn, atReceivingEnd}
-use Rattle.rules.specs.Table.{checks, effect, trainsAfter, lastAfter, trackAfter}
-use Rattle.rules.proofs.Facts.{and-l, and-r, and-i, neqb→ne, false-T, next-rank, next-lt, not-first-rank, rank-not-first, not-last-rank}
-use Rattle.rules.proofs.Facts.{rank-not-last, set-keeps, below-suc}
+use Rattle.rules.specs.Table.{checks, effect, vacated, cellsAfter, trackAfter}
+use Rattle.rules.proofs.Facts.{and-l, and-r, and-i, T-true, true-T, neqb→ne, false-T, next-rank, next-lt, not-first-rank, rank-not-first, not-last-rank}
+use Rattle.rules.proofs.Facts.{rank-not-last}
 use Rattle.rules.proofs.View.{order, setDevice, announce, acknowledge, key, start, pass, leave, View, walks, runs, notes, releases, flat}
-use Rattle.rules.proofs.Frame.{is-turn, calm-effect, still-train}
-use Rattle.rules.proofs.Accept.{Passes, moved}
-
--- ## Tests of the first m cells
-
-seals-in : (m : ℕ) (l : List Post) → T (sealsFit m l) → (p : ℕ) → p < m → getD l p blank .seals ≤ mostSeals
-unfolding sealsFit
-seals-in zero l h = λ p k. absurd (omega arith)
-seals-in (suc m) l h =
-    below-suc (λ p. getD l p blank .seals ≤ mostSeals) m
-    (leb→le (getD l m blank .seals) mostSeals (and-l (leb (getD l m blank .seals) mostSeals) (sealsFit m l) h))
-    (seals-in m l (and-r (leb (getD l m blank .seals) mostSeals) (sealsFit m l) h))
-
-seals-out : (m : ℕ) (l : List Post) → ((p : ℕ) → p < m → getD l p blank .seals ≤ mostSeals) → T (sealsFit m l)
-unfolding sealsFit
-seals-out zero l h = tt
-seals-out (suc m) l h =
-    and-i (leb (getD l m blank .seals) mostSeals) (sealsFit m l) (le→leb (getD l m blank .seals) mostSeals (h m (omega arith)))
-    (seals-out m l (λ p k. h p (omega arith)))
-
-numbers-in : (m : ℕ) (l : List ℕ) → T (numbersFit m l) → (i : ℕ) → i < m → getD l i 0 ≤ largestTrain
-unfolding numbersFit
-numbers-in zero l h = λ i k. absurd (omega arith)
-numbers-in (suc m) l h =
-    below-suc (λ i. getD l i 0 ≤ largestTrain) m (leb→le (getD l m 0) largestTrain (and-l (leb (getD l m 0) largestTrain) (numbersFit m l) h))
-    (numbers-in m l (and-r (leb (getD l m 0) largestTrain) (numbersFit m l) h))
-
-numbers-out : (m : ℕ) (l : List ℕ) → ((i : ℕ) → i < m → getD l i 0 ≤ largestTrain) → T (numbersFit m l)
-unfolding numbersFit
-numbers-out zero l h = tt
-numbers-out (suc m) l h =
-    and-i (leb (getD l m 0) largestTrain) (numbersFit m l) (le→leb (getD l m 0) largestTrain (h m (omega arith))) (numbers-out m l (λ i k. h i (omega arith)))
+use Rattle.rules.proofs.Frame.{is-turn, running-kept, no-movement}
+use Rattle.rules.proofs.Accept.{AcceptedOn, trackAfterStep}
+use Rattle.rules.proofs.Held.{key-held, announce-held}
 
 module _ (c : Settings) (b : Bool) where
   -- the rank of post p on the track
@@ -71,8 +44,8 @@ module _ (c : Settings) (b : Bool) where
   TurnFits cvt (Turn p act.Announce) = (p < c .posts) × (suc (rankOn cvt p) < c .posts)
   TurnFits cvt (Turn p act.Acknowledge) = (p < c .posts) × (0 < rankOn cvt p)
 
-  turn-in : (cvt : Bool) (w : Walk) → T (walkFits (c .posts) (upward b cvt) w) → TurnFits cvt w
-  unfolding walkFits actFits
+  turn-in : (cvt : Bool) (w : Walk) → T (walkInRange (c .posts) (upward b cvt) w) → TurnFits cvt w
+  unfolding walkInRange actInRange
   turn-in cvt Settled h = tt
   turn-in cvt (Turn p act.Set) h = ltb→lt p (c .posts) (and-l (ltb p (c .posts)) true h)
   turn-in cvt (Turn p act.Announce) h =
@@ -83,8 +56,8 @@ module _ (c : Settings) (b : Bool) where
     omega (arith, not-first-rank (c .posts) (upward b cvt) p (and-r (ltb p (c .posts)) (not (isFirst (c .posts) (upward b cvt) p)) h)),
   )
 
-  turn-out : (cvt : Bool) (w : Walk) → TurnFits cvt w → T (walkFits (c .posts) (upward b cvt) w)
-  unfolding walkFits actFits
+  turn-out : (cvt : Bool) (w : Walk) → TurnFits cvt w → T (walkInRange (c .posts) (upward b cvt) w)
+  unfolding walkInRange actInRange
   turn-out cvt Settled h = tt
   turn-out cvt (Turn p act.Set) h = and-i (ltb p (c .posts)) true (lt→ltb p (c .posts) h) tt
   turn-out cvt (Turn p act.Announce) h =
@@ -101,24 +74,15 @@ module _ (c : Settings) (b : Bool) where
     pub last : (i : ℕ) → i < c .posts - 1 → getD (t .last) i 0 ≤ largestTrain
     pub turn : TurnFits (t .cvt) (t .walk)
 
-  pub track-in : (t : Track) → T (trackFits (c .posts) b t) → InRange t
-  unfolding trackFits
+  pub track-in : (t : Track) → trackInRange (c .posts) b t ≡ true → InRange t
   track-in t h =
-      let h₁ = and-r (sealsFit (c .posts) (t .posts)) _ h in
-      let h₂ = and-r (numbersFit (c .posts - 1) (t .trains)) _ h₁ in
-      record {
-        seals = seals-in (c .posts) (t .posts) (and-l (sealsFit (c .posts) (t .posts)) _ h);
-        trains = numbers-in (c .posts - 1) (t .trains) (and-l (numbersFit (c .posts - 1) (t .trains)) _ h₁);
-        last = numbers-in (c .posts - 1) (t .last) (and-l (numbersFit (c .posts - 1) (t .last)) _ h₂);
-        turn = turn-in (t .cvt) (t .walk) (and-r (numbersFit (c .posts - 1) (t .last)) _ h₂);
-      }
+      let r = track-ranges (c .posts) b t h in
+      record { seals = r .seals; trains = r .trains; last = r .last; turn = turn-in (t .cvt) (t .walk) (true-T _ (r .walk)) }
 
-  pub track-out : (t : Track) → InRange t → T (trackFits (c .posts) b t)
-  unfolding trackFits
+  pub track-out : (t : Track) → InRange t → trackInRange (c .posts) b t ≡ true
   track-out t r =
-      and-i (sealsFit (c .posts) (t .posts)) _ (seals-out (c .posts) (t .posts) (r .seals))
-      (and-i (numbersFit (c .posts - 1) (t .trains)) _ (numbers-out (c .posts - 1) (t .trains) (r .trains))
-      (and-i (numbersFit (c .posts - 1) (t .last)) _ (numbers-out (c .posts - 1) (t .last) (r .last)) (turn-out (t .cvt) (t .walk) (r .turn))))
+      ranges-hold (c .posts) b t
+      (record { seals = r .seals; trains = r .trains; last = r .last; walk = T-true _ (turn-out (t .cvt) (t .walk) (r .turn)) })
 
   -- ## Kept by an accepted step
 
@@ -136,43 +100,40 @@ module _ (c : Settings) (b : Bool) where
   unfolding AllFit
   set-fits l j z h f i k = set-keeps (λ (w : ℕ). w ≤ largestTrain) l j i z 0 (f i k) h
 
-  trains-fit : (m : Movement) (e : Site) (l : List ℕ) → MovementFits m → AllFit l → AllFit (trainsAfter c m e l)
-  unfolding trainsAfter MovementFits
-  trains-fit Stays e l h f = f
-  trains-fit (Enters z) e l h f = set-fits l _ _ h f
-  trains-fit (Moves z) e l h f = set-fits _ _ _ h (set-fits l _ _ (omega arith) f)
-  trains-fit Leaves e l h f = set-fits l _ _ (omega arith) f
+  vacated-fits : (clears : Bool) (e : Site) (l : List ℕ) → AllFit l → AllFit (vacated c clears e l)
+  vacated-fits true e l f = set-fits l _ _ (omega arith) f
+  vacated-fits false e l f = f
 
-  last-fit : (m : Movement) (e : Site) (l : List ℕ) → MovementFits m → AllFit l → AllFit (lastAfter c m e l)
-  unfolding lastAfter MovementFits
-  last-fit Stays e l h f = f
-  last-fit (Enters z) e l h f = set-fits l _ _ h f
-  last-fit (Moves z) e l h f = set-fits l _ _ h f
-  last-fit Leaves e l h f = f
+  cells-in-range : (clears : Bool) (m : Movement) (e : Site) (l : List ℕ) → MovementFits m → AllFit l → AllFit (cellsAfter c clears m e l)
+  unfolding cellsAfter MovementFits
+  cells-in-range clears Stays e l h f = f
+  cells-in-range clears (Enters z) e l h f = set-fits l _ _ h f
+  cells-in-range clears (Moves z) e l h f = set-fits _ _ _ h (vacated-fits clears e l f)
+  cells-in-range clears Leaves e l h f = vacated-fits clears e l f
 
   module _ (v : Bool) (t : Track) (p : ℕ) where
     abbrev e : Site
-    e = siteOn v b p t
+    e = siteOn b p t
 
-    movement-fits : (k : View) → Passes c v b p k t → MovementFits (effect c (flat p k) e .train)
+    movement-fits : (k : View) → AcceptedOn c v b p k t → MovementFits (effect c (flat p k) e .train)
     unfolding MovementFits effect flat
-    movement-fits (walks r) h = rw (still-train c p (walks r) e tt) tt
+    movement-fits (walks r) h = rw (no-movement c p (walks r) e tt) tt
     movement-fits (runs start z) h = h .fits .number .1
     movement-fits (runs pass z) h = h .fits .number .1
     movement-fits (runs leave z) h = tt
-    movement-fits (notes k) h = rw (still-train c p (notes k) e tt) tt
+    movement-fits (notes k) h = rw (no-movement c p (notes k) e tt) tt
     movement-fits (releases z) h = tt
 
     -- a key is refused at 999
-    seals-fit : (k : View) → Passes c v b p k t → e .own .seals ≤ mostSeals → effect c (flat p k) e .own .seals ≤ mostSeals
+    seals-fit : (k : View) → AcceptedOn c v b p k t → e .own .seals ≤ mostSeals → effect c (flat p k) e .own .seals ≤ mostSeals
     unfolding checks effect flat
     seals-fit (walks order) h o = o
     seals-fit (walks setDevice) h o = o
     seals-fit (walks announce) h o = o
     seals-fit (walks acknowledge) h o = o
-    seals-fit (walks key) h o = omega (arith, neqb→ne (e .own .seals) mostSeals (h .held .1 .1 .1 .1 .1 .0))
-    seals-fit (runs m z) h o = rw (calm-effect c p (runs m z) e tt .seals) o
-    seals-fit (notes k) h o = rw (calm-effect c p (notes k) e tt .seals) o
+    seals-fit (walks key) h o = omega (arith, neqb→ne (e .own .seals) mostSeals (key-held h .seal-left))
+    seals-fit (runs m z) h o = rw (running-kept c p (runs m z) e tt .seals) o
+    seals-fit (notes k) h o = rw (running-kept c p (notes k) e tt .seals) o
     seals-fit (releases z) h o = o
 
     -- set or key: announce is next, unless it was at the last post
@@ -185,25 +146,25 @@ module _ (c : Settings) (b : Bool) where
     pub announce-next : T (isTurn (t .walk) p act.Announce) → TurnFits (t .cvt) (t .walk) → suc (rankOn (t .cvt) p) < c .posts
     announce-next h f = (subst (TurnFits (t .cvt)) (is-turn (t .walk) p act.Announce h) f) .1
 
-    turn-kept : (k : View) → Passes c v b p k t → TurnFits (t .cvt) (t .walk) → TurnFits (effect c (flat p k) e .cvt) (effect c (flat p k) e .walk)
+    turn-kept : (k : View) → AcceptedOn c v b p k t → TurnFits (t .cvt) (t .walk) → TurnFits (effect c (flat p k) e .cvt) (effect c (flat p k) e .walk)
     unfolding checks effect flat
     turn-kept (walks order) h f = h .fits .below
     turn-kept (walks setDevice) h f = set-turn (atReceivingEnd c e) refl (h .fits .below)
     turn-kept (walks announce) h f =
-        let n : suc (rankOn (t .cvt) p) < c .posts = announce-next (h .held .0) f in
+        let n : suc (rankOn (t .cvt) p) < c .posts = announce-next (announce-held h .in-turn) f in
         (next-lt (c .posts) (upward b (t .cvt)) p (h .fits .below) n, omega (arith, next-rank (c .posts) (upward b (t .cvt)) p (h .fits .below) n))
     turn-kept (walks acknowledge) h f = h .fits .below
     turn-kept (walks key) h f = set-turn (atReceivingEnd c e) refl (h .fits .below)
-    turn-kept (runs m z) h f = rw (calm-effect c p (runs m z) e tt .walk, calm-effect c p (runs m z) e tt .cvt) f
-    turn-kept (notes k) h f = rw (calm-effect c p (notes k) e tt .walk, calm-effect c p (notes k) e tt .cvt) f
+    turn-kept (runs m z) h f = rw (running-kept c p (runs m z) e tt .walk, running-kept c p (runs m z) e tt .cvt) f
+    turn-kept (notes k) h f = rw (running-kept c p (notes k) e tt .walk, running-kept c p (notes k) e tt .cvt) f
     turn-kept (releases z) h f = f
 
-    pub in-range-kept : (k : View) → Passes c v b p k t → InRange t → InRange (moved c v b p k t)
+    pub in-range-kept : (k : View) → AcceptedOn c v b p k t → InRange t → InRange (trackAfterStep c b p k t)
     unfolding trackAfter AllFit
     in-range-kept k h r = record {
       seals = λ q q<n. set-keeps (λ (o : Post). o .seals ≤ mostSeals) (t .posts) p q (effect c (flat p k) e .own) blank (r .seals q q<n)
           (seals-fit k h (r .seals p (h .fits .below)));
-      trains = trains-fit (effect c (flat p k) e .train) e (t .trains) (movement-fits k h) (r .trains);
-      last = last-fit (effect c (flat p k) e .train) e (t .last) (movement-fits k h) (r .last);
+      trains = cells-in-range true (effect c (flat p k) e .train) e (t .trains) (movement-fits k h) (r .trains);
+      last = cells-in-range false (effect c (flat p k) e .train) e (t .last) (movement-fits k h) (r .last);
       turn = turn-kept k h (r .turn);
     }

@@ -1,4 +1,5 @@
--- The invariant of the sections that are reached from a fresh one.
+-- The invariant of the sections that are reached from a fresh one: each track is sound, and at most one is not settled on VNS. The fresh section
+-- has it, an accepted step keeps it, and it implies the ranges.
 use Prim.Native.Nat.{ℕ, _-_, _≤_, _<_}
 use mathlib.Core.Bool.{Bool, true, false, cond, not, _||_}
 use mathlib.Core.Path.{_≡_, refl, _∙_}
@@ -14,30 +15,26 @@ use Rattle.section.specs.declared.Act.the-variants as act
 use Rattle.section.specs.declared.Walk.the-variants.{Settled}
 use Rattle.section.specs.declared.Track.{Track}
 use Rattle.section.specs.declared.Section.{Section}
-use Rattle.section.specs.Bytes.{within}
 use Rattle.section.specs.Fresh.{freshTrack, freshSection}
 use Rattle.section.specs.Geometry.{upward, rank}
 use Rattle.section.specs.Numbers.{leastPosts, mostPosts, mostBlocks, mostSeals, largestTrain}
 use Rattle.section.specs.Post.{blank, permitted}
 use Rattle.section.specs.Range.{inRange}
-use Rattle.section.specs.Settings.{settingsRight}
+use Rattle.section.specs.Settings.{settingsInRange}
 use Rattle.section.specs.Store.{trackOf}
-use Rattle.rules.specs.Site.{settledOnVns, otherSettledOnVns}
-use Rattle.rules.specs.Table.{checks, effect, trackAfter}
-use Rattle.rules.specs.Indications.{setCount}
+use Rattle.section.proofs.Laws.{posts-right, set-keeps}
+use Rattle.rules.specs.Site.{settledOnVns, otherSettledOnVns, occupancyAt}
+use Rattle.rules.specs.Table.{effect, trackAfter}
 use Rattle.rules.specs.Judge.{judge}
-use Rattle.rules.proofs.Facts.{and-l, true-T, or-right, or-swap, within→, by-track, set-keeps, replicate-keeps}
+use Rattle.rules.proofs.Facts.{or-right, or-swap, by-track, replicate-keeps}
 use Rattle.rules.proofs.View.{order, setDevice, announce, acknowledge, key, View, walks, runs, notes, releases, flat, Seen}
 use Rattle.rules.proofs.Frame.{is-turn, is-settled}
-use Rattle.rules.proofs.Accept.{Passes, moved, Ok, next, Judged, refused, accepted, judged}
+use Rattle.rules.proofs.Accept.{AcceptedOn, trackAfterStep, AcceptedIn, sectionAfterStep, Judged, refused, accepted, judged}
+use Rattle.rules.proofs.Held.{order-held, set-held, key-held, announce-held, acknowledge-held}
 use Rattle.rules.proofs.RangeLaw.{section-out}
+use Rattle.rules.proofs.Cleared.{none-below, cleared-settled}
 use Rattle.rules.proofs.Invariant.{Sound, sound-kept}
-use Rattle.rules.proofs.Exchange.{here-after, there-after, settings-after, calm-vns}
-
--- the number of posts of settings in their ranges
-pub posts-right : (c : Settings) → settingsRight c ≡ true → (leastPosts ≤ c .posts) × (c .posts ≤ mostPosts)
-unfolding settingsRight
-posts-right c h = within→ leastPosts mostPosts (c .posts) (and-l (within leastPosts mostPosts (c .posts)) _ (true-T (settingsRight c) h))
+use Rattle.rules.proofs.Exchange.{here-after, there-after, settings-after, vns-kept}
 
 module _ (c : Settings) where
   pub record Reached (s : Section) : Type 0 where
@@ -48,32 +45,35 @@ module _ (c : Settings) where
 
   -- ## Kept by every accepted step
 
-  single-kept : (v b : Bool) (p : ℕ) (k : View) (t : Track) → Passes c v b p k t → T (settledOnVns t || v) → T (settledOnVns (moved c v b p k t) || v)
-  unfolding checks trackAfter effect flat
-  single-kept v b p (walks order) t h o = go (t .cvt) (h .held .1 .1 .0) (rw (is-settled (t .walk) (h .held .0)) at o)
+  single-kept : (v b : Bool) (p : ℕ) (k : View) (t : Track) → AcceptedOn c v b p k t → T (settledOnVns t || v)
+      → T (settledOnVns (trackAfterStep c b p k t) || v)
+  unfolding trackAfter effect flat occupancyAt
+  single-kept v b p (walks order) t h o = go (t .cvt) (order-held h .allowed) (rw (is-settled (t .walk) (order-held h .settled)) at o)
     where
       go : (d : Bool) → T (d || v) → T (not d || v) → T v
       go true u w = w
       go false u w = u
-  single-kept v b p (walks setDevice) t h o = or-right (settledOnVns (moved c v b p (walks setDevice) t)) v (rw (is-turn (t .walk) p act.Set (h .held .0)) at o)
-  single-kept v b p (walks announce) t h o = rw (is-turn (t .walk) p act.Announce (h .held .0)) at o
-  single-kept v b p (walks acknowledge) t h o = rw (is-turn (t .walk) p act.Acknowledge (h .held .0)) at o
-  single-kept v b p (walks key) t h o = or-right (settledOnVns (moved c v b p (walks key) t)) v (rw (is-turn (t .walk) p act.Set (h .held .0)) at o)
-  single-kept v b p (runs m z) t h o = rw (calm-vns c v b p (runs m z) t tt) o
-  single-kept v b p (notes k) t h o = rw (calm-vns c v b p (notes k) t tt) o
+  single-kept v b p (walks setDevice) t h o =
+      or-right (settledOnVns (trackAfterStep c b p (walks setDevice) t)) v (rw (is-turn (t .walk) p act.Set (set-held h .in-turn)) at o)
+  single-kept v b p (walks announce) t h o = rw (is-turn (t .walk) p act.Announce (announce-held h .in-turn)) at o
+  single-kept v b p (walks acknowledge) t h o = rw (is-turn (t .walk) p act.Acknowledge (acknowledge-held h .in-turn)) at o
+  single-kept v b p (walks key) t h o =
+      or-right (settledOnVns (trackAfterStep c b p (walks key) t)) v (rw (is-turn (t .walk) p act.Set (key-held h .in-turn)) at o)
+  single-kept v b p (runs m z) t h o = rw (vns-kept c b p (runs m z) t tt) o
+  single-kept v b p (notes k) t h o = rw (vns-kept c b p (notes k) t tt) o
   single-kept v b p (releases z) t h o = o
 
   other-other : (s : Section) (b : Bool) → trackOf s (not (not b)) ≡ trackOf s b
   other-other s true = refl
   other-other s false = refl
 
-  pub reached-kept : c .posts ≤ mostPosts → (s : Section) (x : Seen) → Ok c s x → Reached s → Reached (next c s x)
-  unfolding Ok
+  pub reached-kept : c .posts ≤ mostPosts → (s : Section) (x : Seen) → AcceptedIn c s x → Reached s → Reached (sectionAfterStep c s x)
+  unfolding AcceptedIn
   reached-kept n16 s x h r = record {
     settings = settings-after c s x ∙ r .settings;
     sound = by-track (λ d. Sound c d (trackOf after d)) b (rw here (sound-kept c b v (trackOf s b) p n16 k h (r .sound b))) (rw there (r .sound (not b)));
     single = by-track (λ d. T (settledOnVns (trackOf after d) || otherSettledOnVns after d)) b (rw (here, there) one)
-        (rw (other-other after b, here, there) (or-swap (settledOnVns (moved c v b p k (trackOf s b))) v one));
+        (rw (other-other after b, here, there) (or-swap (settledOnVns (trackAfterStep c b p k (trackOf s b))) v one));
   }
     where
       b : Bool
@@ -89,15 +89,15 @@ module _ (c : Settings) where
       v = otherSettledOnVns s b
 
       after : Section
-      after = next c s x
+      after = sectionAfterStep c s x
 
-      here : trackOf after b ≡ moved c v b p k (trackOf s b)
+      here : trackOf after b ≡ trackAfterStep c b p k (trackOf s b)
       here = here-after c s b p k
 
       there : trackOf after (not b) ≡ trackOf s (not b)
       there = there-after c s b p k
 
-      one : T (settledOnVns (moved c v b p k (trackOf s b)) || v)
+      one : T (settledOnVns (trackAfterStep c b p k (trackOf s b)) || v)
       one = single-kept v b p k (trackOf s b) h (r .single b)
 
   -- ## The fresh section
@@ -116,9 +116,9 @@ module _ (c : Settings) where
     fresh-permits true p p<n h = omega (arith, fresh-only (c .posts - 1) p (permitted true blank) (omega arith) h)
 
     fresh-sound : (b : Bool) → Sound c b (freshTrack (c .posts) b)
-    unfolding freshTrack setCount
+    unfolding freshTrack
     fresh-sound b = record {
-      low = λ j h k. absurd (omega arith);
+      clear = λ j h k. absurd (none-below j _ (cleared-settled c b false) h);
       permits = λ p p<n h. fresh-permits b p p<n h;
       sizes = record { posts = length-set (replicate mostPosts blank) (cond b (c .posts - 1) 0) (permitted true blank); trains = refl; last = refl };
       ranges = record {
@@ -150,11 +150,11 @@ module _ (c : Settings) where
 
   -- ## Judging
 
-  pub reached-in-range : settingsRight c ≡ true → (s : Section) → Reached s → inRange s ≡ true
+  pub reached-in-range : settingsInRange c ≡ true → (s : Section) → Reached s → inRange s ≡ true
   reached-in-range w s r =
-      section-out s (record { settings = rw (r .settings) (true-T (settingsRight c) w); tracks = rw (r .settings) (λ b. r .sound b .ranges) })
+      section-out s (record { settings = rw (r .settings) w; tracks = rw (r .settings) (λ b. r .sound b .ranges) })
 
-  pub reached-judge : settingsRight c ≡ true → (s : Section) (bytes : List ℕ) → Reached s → Reached (judge s bytes .section)
+  pub reached-judge : settingsInRange c ≡ true → (s : Section) (bytes : List ℕ) → Reached s → Reached (judge s bytes .section)
   reached-judge w s bytes r = go (judged c s (r .settings) (reached-in-range w s r) bytes)
     where
       go : Judged c s (r .settings) (reached-in-range w s r) bytes → Reached (judge s bytes .section)

@@ -14,7 +14,7 @@ use Rattle.section.specs.declared.Settings.{Settings}
 use Rattle.section.specs.declared.Track.{Track}
 use Rattle.section.specs.Geometry.{upward, rank, block}
 use Rattle.section.proofs.Laws.{block-lt, block-block}
-use Rattle.rules.specs.Demand3.{Taken, All, Run, notePass, noteLeave, latest, runsOf, hasEnded, OneAfterAnother, otherEnd}
+use Rattle.rules.specs.Demand3.{AcceptedStep, All, Run, notePass, noteLeave, latest, runsOf, hasEnded, OneAfterAnother, otherEnd}
 use Rattle.rules.specs.Demand3.{placeOf, BetweenThePosts, TrainThere, inTurn, LeftAtTheFarEnd, Fate}
 use Rattle.rules.specs.Site.{trainAt}
 use Rattle.rules.proofs.Facts.{neqb→ne, ne→neqb, T-false, true-T, false-T}
@@ -78,23 +78,23 @@ module _ (c : Settings) (n2 : 2 ≤ c .posts) where
 
   -- the runs of train z, where trains run upward or not, and f is the track by ranks
   pub data Follows (up : Bool) (f : ℕ → ℕ) (z : ℕ) (runs : List Run) : Type 0 where
-    away : ((j : ℕ) → suc j < c .posts → f j ≢ z) → All Gone runs → Follows up f z runs
-    aboard : (m : ℕ) (earlier : List Run) → runs ≡ openRun up m ∷ earlier → suc m < c .posts → f m ≡ z
+    offTrack : ((j : ℕ) → suc j < c .posts → f j ≢ z) → All Gone runs → Follows up f z runs
+    onTrack : (m : ℕ) (earlier : List Run) → runs ≡ openRun up m ∷ earlier → suc m < c .posts → f m ≡ z
         → ((j : ℕ) → suc j < c .posts → f j ≡ z → j ≡ m) → All Gone earlier → Follows up f z runs
 
   -- the track is empty, before and after a change of direction
   pub empty-follows : (up up′ : Bool) (f g : ℕ → ℕ) (z : ℕ) (runs : List Run) → z ≢ 0
       → ((j : ℕ) → suc j < c .posts → f j ≡ 0) → ((j : ℕ) → suc j < c .posts → g j ≡ 0) → Follows up f z runs → Follows up′ g z runs
-  empty-follows up up′ f g z runs nz ef eg (away h a) = away (λ j k e. nz (sym e ∙ eg j k)) a
-  empty-follows up up′ f g z runs nz ef eg (aboard m earlier e h q u a) = absurd (nz (sym q ∙ ef m h))
+  empty-follows up up′ f g z runs nz ef eg (offTrack h a) = offTrack (λ j k e. nz (sym e ∙ eg j k)) a
+  empty-follows up up′ f g z runs nz ef eg (onTrack m earlier e h q u a) = absurd (nz (sym q ∙ ef m h))
 
   -- ## Train y's own steps
 
   module _ (up : Bool) (f g : ℕ → ℕ) (y : ℕ) (runs : List Run) where
     entered-follows : (p : ℕ) → p ≡ rank (c .posts) up 0 → TrainEnters (c .posts) f g y → Follows up f y runs
         → Follows up g y (noteMotion start p runs)
-    entered-follows p ep t (away h a) =
-        aboard 0 runs (ap (λ q. record { from = q; passed = []; left = none } ∷ runs) ep) (omega arith) (t .entered) only a
+    entered-follows p ep t (offTrack h a) =
+        onTrack 0 runs (ap (λ q. record { from = q; passed = []; left = none } ∷ runs) ep) (omega arith) (t .entered) only a
       where
         only : (j : ℕ) → suc j < c .posts → g j ≡ y → j ≡ 0
         only j k e = go (ℕ-discrete j 0)
@@ -102,13 +102,13 @@ module _ (c : Settings) (n2 : 2 ≤ c .posts) where
             go : Dec (j ≡ 0) → j ≡ 0
             go (yes q) = q
             go (no ne) = absurd (h j k (sym (t .others j k ne) ∙ e))
-    entered-follows p ep t (aboard m earlier e h q u a) = absurd (t .absent m h q)
+    entered-follows p ep t (onTrack m earlier e h q u a) = absurd (t .absent m h q)
 
     moved-follows : (p q : ℕ) → y ≢ 0 → p ≡ rank (c .posts) up (suc q) → TrainMoves (c .posts) f g y q → Follows up f y runs
         → Follows up g y (noteMotion pass p runs)
-    moved-follows p q ny ep t (away h a) = absurd (h q (omega (arith, t .inside)) (t .before))
-    moved-follows p q ny ep t (aboard m earlier e h x u a) =
-        aboard (suc m) earlier (ap (noteMotion pass p) e ∙ ap (λ v. record { from = from; passed = inTurn c from m ++ v ∷ []; left = none } ∷ earlier) there)
+    moved-follows p q ny ep t (offTrack h a) = absurd (h q (omega (arith, t .inside)) (t .before))
+    moved-follows p q ny ep t (onTrack m earlier e h x u a) =
+        onTrack (suc m) earlier (ap (noteMotion pass p) e ∙ ap (λ v. record { from = from; passed = inTurn c from m ++ v ∷ []; left = none } ∷ earlier) there)
         (omega (arith, t .inside, at)) (rw (← at) (t .entered)) only a
       where
         from : ℕ
@@ -130,8 +130,8 @@ module _ (c : Settings) (n2 : 2 ≤ c .posts) where
 
     left-follows : (p q : ℕ) → y ≢ 0 → p ≡ rank (c .posts) up (suc q) → TrainLeaves (c .posts) f g y q → Follows up f y runs
         → Follows up g y (noteMotion leave p runs)
-    left-follows p q ny ep t (away h a) = absurd (h q (omega (arith, t .final)) (t .before))
-    left-follows p q ny ep t (aboard m earlier e h x u a) = away gone (subst (All Gone) (sym (ap (noteMotion leave p) e)) (done, a))
+    left-follows p q ny ep t (offTrack h a) = absurd (h q (omega (arith, t .final)) (t .before))
+    left-follows p q ny ep t (onTrack m earlier e h x u a) = offTrack gone (subst (All Gone) (sym (ap (noteMotion leave p) e)) (done, a))
       where
         at : q ≡ m
         at = u q (omega (arith, t .final)) (t .before)
@@ -185,9 +185,9 @@ module _ (c : Settings) (n2 : 2 ≤ c .posts) where
       go (inr d) = neither (d .0)
 
   other-follows : (up : Bool) (f g : ℕ → ℕ) (y z : ℕ) (runs : List Run) → z ≢ 0 → y ≢ z → Apart y f g → Follows up f z runs → Follows up g z runs
-  other-follows up f g y z runs nz ne t (away h a) = away (λ j k e. h j k (still-there y z g f nz ne (turned-about y f g t) j k e)) a
-  other-follows up f g y z runs nz ne t (aboard m earlier e h q u a) =
-      aboard m earlier e h (still-there y z f g nz ne t m h q) (λ j k x. u j k (still-there y z g f nz ne (turned-about y f g t) j k x)) a
+  other-follows up f g y z runs nz ne t (offTrack h a) = offTrack (λ j k e. h j k (still-there y z g f nz ne (turned-about y f g t) j k e)) a
+  other-follows up f g y z runs nz ne t (onTrack m earlier e h q u a) =
+      onTrack m earlier e h (still-there y z f g nz ne t m h q) (λ j k x. u j k (still-there y z g f nz ne (turned-about y f g t) j k x)) a
 
   entered-apart : (f g : ℕ → ℕ) (y : ℕ) → TrainEnters (c .posts) f g y → Apart y f g
   entered-apart f g y t j k = go (ℕ-discrete j 0)
@@ -259,8 +259,8 @@ module _ (c : Settings) (n2 : 2 ≤ c .posts) where
   gone-in-turn (r ∷ runs) h = gone-ended runs (h .1)
 
   pub follows-in-turn : (up : Bool) (f : ℕ → ℕ) (z : ℕ) (runs : List Run) → Follows up f z runs → OneAfterAnother runs
-  follows-in-turn up f z runs (away h a) = gone-in-turn runs a
-  follows-in-turn up f z runs (aboard m earlier e h q u a) = subst OneAfterAnother (sym e) (gone-ended earlier a)
+  follows-in-turn up f z runs (offTrack h a) = gone-in-turn runs a
+  follows-in-turn up f z runs (onTrack m earlier e h q u a) = subst OneAfterAnother (sym e) (gone-ended earlier a)
 
   -- block section i by its rank
   by-rank : (up : Bool) (l : List ℕ) (i : ℕ) → suc i < c .posts → getD l (block (c .posts) up (block (c .posts) up i)) 0 ≡ getD l i 0
@@ -288,14 +288,14 @@ module _ (c : Settings) (n2 : 2 ≤ c .posts) where
     }
 
     pub follows-fates : (z : ℕ) (runs : List Run) → Follows up cells z runs → All (λ (r : Run). Fate c b t z r (r .left)) runs
-    follows-fates z runs (away h a) = gone-fates b t z runs a
-    follows-fates z runs (aboard m earlier e h q u a) = rw e (open-fate z m h q u, gone-fates b t z earlier a)
+    follows-fates z runs (offTrack h a) = gone-fates b t z runs a
+    follows-fates z runs (onTrack m earlier e h q u a) = rw e (open-fate z m h q u, gone-fates b t z earlier a)
 
-    pub follows-there : (ds : List Taken) (i z : ℕ) → suc i < c .posts → getD (t .trains) i 0 ≡ z → Follows up cells z (runsOf b z ds)
+    pub follows-there : (ds : List AcceptedStep) (i z : ℕ) → suc i < c .posts → getD (t .trains) i 0 ≡ z → Follows up cells z (runsOf b z ds)
         → TrainThere c b t ds i
-    follows-there ds i z k e (away h a) =
+    follows-there ds i z k e (offTrack h a) =
         absurd (h (block (c .posts) up i) (block-lt (c .posts) up i k) (by-rank up (t .trains) i k ∙ e))
-    follows-there ds i z k e (aboard m earlier re h q u a) = record {
+    follows-there ds i z k e (onTrack m earlier re h q u a) = record {
       train = z;
       run = openRun up m;
       earlier = earlier;

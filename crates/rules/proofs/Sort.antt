@@ -1,4 +1,6 @@
--- The accepted steps put in the new order: the steps of a reversal under way are held back, all else goes before them.
+-- The accepted steps put in the new order: the steps of a reversal under way are held back, all else goes before them. A train that rolls on is
+-- past the turn's post, a condition concerns its own post, so each changes places with the steps held back. At the last set the track is empty,
+-- and they are performed.
 use Prim.Native.Nat.{ℕ, _≤_, _<_}
 use mathlib.Core.Bool.{Bool, true, false, cond, not, _&&_, _||_, Bool·beq}
 use mathlib.Core.Path.{_≡_, refl, sym, ap, ap₂, _∙_, subst}
@@ -17,25 +19,27 @@ use Rattle.section.specs.declared.Section.{Section}
 use Rattle.section.specs.Fresh.{freshSection}
 use Rattle.section.specs.Geometry.{upward}
 use Rattle.section.specs.Store.{trackOf}
-use Rattle.rules.specs.Site.{isSettled, isTurn, siteOn, otherSettledOnVns, atSendingEnd, atReceivingEnd, nextPost}
+use Rattle.rules.specs.Site.{isSettled, isTurn, siteOn, otherSettledOnVns, atSendingEnd, atReceivingEnd, nextPost, occupancyAt}
 use Rattle.rules.specs.Table.{checks, effect, trackAfter}
-use Rattle.rules.specs.Demand3.{Taken, All, keep, isOfPost, isStepOfTrain, isSpoken}
+use Rattle.rules.specs.Demand3.{AcceptedStep, All, keep, isOfPost, isStepOfTrain, isSpoken}
 use Rattle.rules.proofs.Facts.{and-l, and-r, or-false, true-T, ne→neqb, by-track, next-rank}
 use Rattle.rules.proofs.View.{Reversal, order, setDevice, announce, acknowledge, key, Motion, start, pass, leave, Condition, View, walks, runs}
 use Rattle.rules.proofs.View.{notes, releases, flat, post-flat, on}
-use Rattle.rules.proofs.Frame.{is-turn, is-settled, still, calm, onward}
-use Rattle.rules.proofs.Accept.{Passes, moved, Ok, word, next}
+use Rattle.rules.proofs.Frame.{is-turn, is-settled, movesNoTrain, keepsRunning, onward}
+use Rattle.rules.proofs.Accept.{AcceptedOn, trackAfterStep, AcceptedIn, saidIn, sectionAfterStep}
+use Rattle.rules.proofs.Held.{order-held, set-held, key-held, announce-held, acknowledge-held, start-held, release-held}
 use Rattle.rules.proofs.Ranges.{rankOn, announce-next}
-use Rattle.rules.proofs.Invariant.{limit, limit-turn, Sound, past-limit, NoTrain, last-free}
+use Rattle.rules.proofs.Cleared.{cleared, cleared-turn}
+use Rattle.rules.proofs.Invariant.{Sound, past-cleared, NoTrain, last-free}
 use Rattle.rules.proofs.Swap.{onward-facts}
-use Rattle.rules.proofs.Exchange.{here-after, there-after, calm-walk, calm-cvt, calm-walks, calm-cvts, calm-word, Exchanged, exchange-note}
+use Rattle.rules.proofs.Exchange.{here-after, there-after, walk-kept, cvt-kept, walks-kept, cvts-kept, says-nothing, Exchanged, exchange-note}
 use Rattle.rules.proofs.Exchange.{exchange-onward, exchange-other}
 use Rattle.rules.proofs.Reached.{Reached, fresh-settled}
 use Rattle.rules.proofs.TrainSteps.{ofTrain, own-test}
 use Rattle.rules.proofs.Lists.{all-last, all-map, keep-none, Owner, aPost, aTrain, announcers, owns, Reordered, reordered-nil, reordered-last}
 use Rattle.rules.proofs.Lists.{reordered-insert}
-use Rattle.rules.proofs.Perform.{AcceptedStep, stepOf, takenOf, taken-last, taken-all, Performed, done, performed-append, performed-one}
-use Rattle.rules.proofs.Perform.{LateStep, Late, late-last, late-still, late-performed, goes-first}
+use Rattle.rules.proofs.Perform.{DecodedStep, stepOf, allAccepted, accepted-last, accepted-all, Performed, done, performed-append, performed-one}
+use Rattle.rules.proofs.Perform.{LateStep, Late, late-last, late-unmoved, late-performed, goes-first}
 
 pub turn-post : (w : Walk) (p q : ℕ) (a a′ : Act) → w ≡ Turn p a → w ≡ Turn q a′ → q ≡ p
 turn-post w p q a a′ e f = cc
@@ -43,14 +47,14 @@ turn-post w p q a a′ e f = cc
 module _ (c : Settings) where
   -- ## What an accepted step can be
 
-  -- on a settled track: a calm one, or an order
-  settled-kind : (v b : Bool) (p : ℕ) (k : View) (t : Track) → Passes c v b p k t → t .walk ≡ Settled → T (calm k) ⊎ (k ≡ walks order)
+  -- on a settled track: one that leaves walk and direction, or an order
+  settled-kind : (v b : Bool) (p : ℕ) (k : View) (t : Track) → AcceptedOn c v b p k t → t .walk ≡ Settled → T (keepsRunning k) ⊎ (k ≡ walks order)
   unfolding checks flat
   settled-kind v b p (walks order) t h e = inr refl
-  settled-kind v b p (walks setDevice) t h e = absurd (rw e at (h .held .0))
-  settled-kind v b p (walks announce) t h e = absurd (rw e at (h .held .0))
-  settled-kind v b p (walks acknowledge) t h e = absurd (rw e at (h .held .0))
-  settled-kind v b p (walks key) t h e = absurd (rw e at (h .held .0))
+  settled-kind v b p (walks setDevice) t h e = absurd (rw e at (set-held h .in-turn))
+  settled-kind v b p (walks announce) t h e = absurd (rw e at (announce-held h .in-turn))
+  settled-kind v b p (walks acknowledge) t h e = absurd (rw e at (acknowledge-held h .in-turn))
+  settled-kind v b p (walks key) t h e = absurd (rw e at (key-held h .in-turn))
   settled-kind v b p (runs m z) t h e = inl tt
   settled-kind v b p (notes k) t h e = inl tt
   settled-kind v b p (releases z) t h e = inl tt
@@ -60,108 +64,110 @@ module _ (c : Settings) where
   pub data Does (v b : Bool) (t : Track) (p q : ℕ) (k : View) : Type 0 where
     movesOn : (m : Motion) (z : ℕ) → k ≡ runs m z → T (onward m) → rankOn c b (t .cvt) p < rankOn c b (t .cvt) q → Does v b t p q k
     notesCondition : (n : Condition) → k ≡ notes n → Does v b t p q k
-    actsInTurn : T (still k) → q ≡ p → (p′ : ℕ) (a′ : Act) → moved c v b q k t .walk ≡ Turn p′ a′ → moved c v b q k t .cvt ≡ t .cvt
+    actsInTurn : T (movesNoTrain k) → q ≡ p → (p′ : ℕ) (a′ : Act) → trackAfterStep c b q k t .walk ≡ Turn p′ a′ → trackAfterStep c b q k t .cvt ≡ t .cvt
         → rankOn c b (t .cvt) p ≤ rankOn c b (t .cvt) p′ → Does v b t p q k
-    endsReversal : moved c v b q k t .walk ≡ Settled → NoTrain c t → Does v b t p q k
+    endsReversal : trackAfterStep c b q k t .walk ≡ Settled → NoTrain c t → Does v b t p q k
 
   module _ (v b : Bool) (n2 : 2 ≤ c .posts) (t : Track) (p : ℕ) (a : Act) (e : t .walk ≡ Turn p a) (so : Sound c b t) where
-    does-set : (q : ℕ) (k : Reversal) (last : Bool) → atReceivingEnd c (siteOn v b q t) ≡ last → T (isTurn (t .walk) q act.Set)
-        → moved c v b q (walks k) t .walk ≡ cond (atReceivingEnd c (siteOn v b q t)) Settled (Turn q act.Announce)
-        → moved c v b q (walks k) t .cvt ≡ cond (atReceivingEnd c (siteOn v b q t)) (not (t .cvt)) (t .cvt) → Does v b t p q (walks k)
+    does-set : (q : ℕ) (k : Reversal) (last : Bool) → atReceivingEnd c (siteOn b q t) ≡ last → T (isTurn (t .walk) q act.Set)
+        → trackAfterStep c b q (walks k) t .walk ≡ cond (atReceivingEnd c (siteOn b q t)) Settled (Turn q act.Announce)
+        → trackAfterStep c b q (walks k) t .cvt ≡ cond (atReceivingEnd c (siteOn b q t)) (not (t .cvt)) (t .cvt) → Does v b t p q (walks k)
     does-set q k true er hw ew ec =
         endsReversal (ew ∙ ap (λ r. cond r Settled (Turn q act.Announce)) er)
-        (last-free c b t q (true-T (atReceivingEnd c (siteOn v b q t)) er) hw (so .low))
+        (last-free c b t q (true-T (atReceivingEnd c (siteOn b q t)) er) hw (so .clear))
     does-set q k false er hw ew ec =
         let eq : q ≡ p = turn-post (t .walk) p q a act.Set e (is-turn (t .walk) q act.Set hw) in
         actsInTurn tt eq q act.Announce (ew ∙ ap (λ r. cond r Settled (Turn q act.Announce)) er)
         (ec ∙ ap (λ r. cond r (not (t .cvt)) (t .cvt)) er) (omega (arith, ap (rankOn c b (t .cvt)) eq))
 
-    does-onward : (q : ℕ) (m : Motion) (z : ℕ) → T (onward m) → Passes c v b q (runs m z) t → Does v b t p q (runs m z)
+    does-onward : (q : ℕ) (m : Motion) (z : ℕ) → T (onward m) → AcceptedOn c v b q (runs m z) t → Does v b t p q (runs m z)
     does-onward q m z o h =
         let f = onward-facts c v b n2 m z q t o h in
-        let l : rankOn c b (t .cvt) p ≤ limit c b (t .cvt) (t .walk) =
-        subst (λ (w : Walk). rankOn c b (t .cvt) p ≤ limit c b (t .cvt) w) (sym e) (limit-turn c b (t .cvt) p a) in
-        let g : limit c b (t .cvt) (t .walk) < rankOn c b (t .cvt) q = past-limit c b v t q z (f .below) (f .not-first) (f .number) (f .before) (so .low) in
-        movesOn m z refl o (before (rankOn c b (t .cvt) p) (limit c b (t .cvt) (t .walk)) (rankOn c b (t .cvt) q) l g)
+        let l : rankOn c b (t .cvt) p ≤ cleared c b (t .cvt) (t .walk) =
+        subst (λ (w : Walk). rankOn c b (t .cvt) p ≤ cleared c b (t .cvt) w) (sym e) (cleared-turn c b (t .cvt) p a) in
+        let g : cleared c b (t .cvt) (t .walk) < rankOn c b (t .cvt) q =
+        past-cleared c b v t q z (f .below) (f .not-first) (f .number) (f .before) (so .clear) in
+        movesOn m z refl o (before (rankOn c b (t .cvt) p) (cleared c b (t .cvt) (t .walk)) (rankOn c b (t .cvt) q) l g)
       where
         before : (x y z : ℕ) → x ≤ y → y < z → x < z
         before x y z h k = omega arith
 
-    pub release-turn : (q : ℕ) → T (isTurn (t .walk) q act.Set || (isSettled (t .walk) && atSendingEnd c (siteOn v b q t))) → q ≡ p
+    pub release-turn : (q : ℕ) → T (isTurn (t .walk) q act.Set || (isSettled (t .walk) && atSendingEnd c (siteOn b q t))) → q ≡ p
     release-turn q h =
         let g : T (isTurn (Turn p a) q act.Set || false) = rw e at h in
         turn-post (Turn p a) p q a act.Set refl (is-turn (Turn p a) q act.Set (or-false (isTurn (Turn p a) q act.Set) g))
 
-    does : (k : View) (q : ℕ) → Passes c v b q k t → Does v b t p q k
+    does : (k : View) (q : ℕ) → AcceptedOn c v b q k t → Does v b t p q k
     unfolding checks trackAfter effect flat
-    does (walks order) q h = absurd (rw e at (h .held .0))
-    does (walks setDevice) q h = does-set q setDevice (atReceivingEnd c (siteOn v b q t)) refl (h .held .0) refl refl
+    does (walks order) q h = absurd (rw e at (order-held h .settled))
+    does (walks setDevice) q h = does-set q setDevice (atReceivingEnd c (siteOn b q t)) refl (set-held h .in-turn) refl refl
     does (walks announce) q h =
-        let eq : q ≡ p = turn-post (t .walk) p q a act.Announce e (is-turn (t .walk) q act.Announce (h .held .0)) in
-        let n = next-rank (c .posts) (upward b (t .cvt)) q (h .fits .below) (announce-next c b v t q (h .held .0) (so .ranges .turn)) in
-        actsInTurn tt eq (nextPost c (siteOn v b q t)) act.Acknowledge refl refl (omega (arith, n, ap (rankOn c b (t .cvt)) eq))
+        let eq : q ≡ p = turn-post (t .walk) p q a act.Announce e (is-turn (t .walk) q act.Announce (announce-held h .in-turn)) in
+        let n = next-rank (c .posts) (upward b (t .cvt)) q (h .fits .below) (announce-next c b v t q (announce-held h .in-turn) (so .ranges .turn)) in
+        actsInTurn tt eq (nextPost c (siteOn b q t)) act.Acknowledge refl refl (omega (arith, n, ap (rankOn c b (t .cvt)) eq))
     does (walks acknowledge) q h =
-        let eq : q ≡ p = turn-post (t .walk) p q a act.Acknowledge e (is-turn (t .walk) q act.Acknowledge (h .held .0)) in
+        let eq : q ≡ p = turn-post (t .walk) p q a act.Acknowledge e (is-turn (t .walk) q act.Acknowledge (acknowledge-held h .in-turn)) in
         actsInTurn tt eq q act.Set refl refl (omega (arith, ap (rankOn c b (t .cvt)) eq))
-    does (walks key) q h = does-set q key (atReceivingEnd c (siteOn v b q t)) refl (h .held .0) refl refl
-    does (runs start z) q h = absurd (rw e at (h .held .0))
+    does (walks key) q h = does-set q key (atReceivingEnd c (siteOn b q t)) refl (key-held h .in-turn) refl refl
+    does (runs start z) q h = absurd (rw e at (start-held h .settled))
     does (runs pass z) q h = does-onward q pass z tt h
     does (runs leave z) q h = does-onward q leave z tt h
     does (notes k) q h = notesCondition k refl
-    does (releases z) q h = actsInTurn tt (release-turn q (h .held .0)) p a e refl (omega arith)
+    does (releases z) q h = actsInTurn tt (release-turn q (release-held h .in-turn)) p a e refl (omega arith)
 
   -- ## The order so far
 
   -- a reversal is under way: `first` is performed with no reversal, and then `late`, its steps at posts up to the turn's
-  pub record Reversing (s : Section) (ds : List Taken) : Type 0 where
+  pub record Reversing (s : Section) (ds : List AcceptedStep) : Type 0 where
     pub track : Bool
     pub post : ℕ
     pub act : Act
-    pub first : List Taken
-    pub late : List (AcceptedStep c track)
+    pub first : List AcceptedStep
+    pub late : List (DecodedStep c track)
     pub base : Section
     pub performed : Performed c (freshSection c) first base
     pub settled-before : (b : Bool) → trackOf base b .walk ≡ Settled
     pub held : Late c track base late s
     pub turns : trackOf s track .walk ≡ Turn post act
-    pub under : All (λ (i : AcceptedStep c track). rankOn c track (trackOf s track .cvt) (i .post) ≤ rankOn c track (trackOf s track .cvt) post) late
-    pub kept : Reordered ds (first ++ takenOf c track late)
+    pub under : All (λ (i : DecodedStep c track). rankOn c track (trackOf s track .cvt) (i .post) ≤ rankOn c track (trackOf s track .cvt) post) late
+    pub kept : Reordered ds (first ++ allAccepted c track late)
 
-  pub data Progress (s : Section) (ds : List Taken) : Type 0 where
-    settled : (first : List Taken) → Performed c (freshSection c) first s → Reordered ds first → ((b : Bool) → trackOf s b .walk ≡ Settled) → Progress s ds
+  pub data Progress (s : Section) (ds : List AcceptedStep) : Type 0 where
+    settled : (first : List AcceptedStep) → Performed c (freshSection c) first s → Reordered ds first → ((b : Bool) → trackOf s b .walk ≡ Settled)
+        → Progress s ds
     reversing : Reversing s ds → Progress s ds
 
   -- what is proved of each accepted step
-  abbrev Onward : Section → List Taken → (b : Bool) → AcceptedStep c b → Type 0
-  Onward s ds b i = Progress (next c s (stepOf c b i)) (ds ++ i .taken ∷ [])
+  abbrev Onward : Section → List AcceptedStep → (b : Bool) → DecodedStep c b → Type 0
+  Onward s ds b i = Progress (sectionAfterStep c s (stepOf c b i)) (ds ++ i .as-accepted ∷ [])
 
   -- ## No owner in common
 
-  post-test : (b : Bool) (i : AcceptedStep c b) (b′ : Bool) (p′ : ℕ) → isOfPost b′ p′ (i .taken) ≡ (Bool·beq b b′ && eqb (i .post) p′)
+  post-test : (b : Bool) (i : DecodedStep c b) (b′ : Bool) (p′ : ℕ) → isOfPost b′ p′ (i .as-accepted) ≡ (Bool·beq b b′ && eqb (i .post) p′)
   post-test b i b′ p′ =
       ap₂ (λ w q. Bool·beq w b′ && eqb q p′) (sym (i .says .track-is)) (sym (i .says .fields .post-is) ∙ post-flat (i .post) (i .kind))
 
-  still-no-train : (b : Bool) (i : AcceptedStep c b) → T (still (i .kind)) → (z : ℕ) → T (not (isStepOfTrain z (i .taken)))
-  still-no-train b i j z = rw (own-test (c .posts) (i .taken) (stepOf c b i) (i .says) z) (go (i .kind) j)
+  still-no-train : (b : Bool) (i : DecodedStep c b) → T (movesNoTrain (i .kind)) → (z : ℕ) → T (not (isStepOfTrain z (i .as-accepted)))
+  still-no-train b i j z = rw (own-test (c .posts) (i .as-accepted) (stepOf c b i) (i .says) z) (go (i .kind) j)
     where
-      go : (k : View) → T (still k) → T (not (ofTrain z k))
+      go : (k : View) → T (movesNoTrain k) → T (not (ofTrain z k))
       go (walks r) j = tt
       go (runs m y) j = absurd j
       go (notes k) j = tt
       go (releases y) j = tt
 
   -- a step is of another post, or of another track, than a late one
-  abbrev Apart : (b : Bool) → AcceptedStep c b → (d : Bool) → AcceptedStep c d → Type 0
-  Apart b x d i = (b′ : Bool) (p′ : ℕ) → T (isOfPost b′ p′ (x .taken)) → T (not (isOfPost b′ p′ (i .taken)))
+  abbrev Apart : (b : Bool) → DecodedStep c b → (d : Bool) → DecodedStep c d → Type 0
+  Apart b x d i = (b′ : Bool) (p′ : ℕ) → T (isOfPost b′ p′ (x .as-accepted)) → T (not (isOfPost b′ p′ (i .as-accepted)))
 
-  pub apart-post : (b : Bool) (x i : AcceptedStep c b) → i .post ≢ x .post → Apart b x b i
+  pub apart-post : (b : Bool) (x i : DecodedStep c b) → i .post ≢ x .post → Apart b x b i
   apart-post b x i ne b′ p′ t = rw (post-test b i b′ p′) (go (Bool·beq b b′) (rw (post-test b x b′ p′) at t))
     where
       go : (w : Bool) → T (w && eqb (x .post) p′) → T (not (w && eqb (i .post) p′))
       go true u = ne→neqb (i .post) p′ (λ e. ne (e ∙ sym (eqb→eq (x .post) p′ u)))
       go false u = tt
 
-  pub apart-track : (b : Bool) (x : AcceptedStep c (not b)) (i : AcceptedStep c b) → Apart (not b) x b i
+  pub apart-track : (b : Bool) (x : DecodedStep c (not b)) (i : DecodedStep c b) → Apart (not b) x b i
   apart-track b x i b′ p′ t = rw (post-test b i b′ p′) (go b b′ (eqb (x .post) p′) (eqb (i .post) p′) (rw (post-test (not b) x b′ p′) at t))
     where
       go : (b b′ u w : Bool) → T (Bool·beq (not b) b′ && u) → T (not (Bool·beq b b′ && w))
@@ -170,56 +176,60 @@ module _ (c : Settings) where
       go false true u w t = tt
       go false false u w t = absurd t
 
-  module _ (s : Section) (ds : List Taken) (g : Reversing s ds) where
-    -- a calm step has no owner in common with the late ones
-    pub no-owner : (b : Bool) (x : AcceptedStep c b) → T (calm (x .kind)) → word c s (stepOf c b x) ≡ x .taken .said → All (Apart b x (g .track)) (g .late)
-        → (o : Owner) → T (owns o (x .taken)) → keep (owns o) (takenOf c (g .track) (g .late)) ≡ []
+  module _ (s : Section) (ds : List AcceptedStep) (g : Reversing s ds) where
+    -- a step that leaves walk and direction has no owner in common with the late ones
+    pub no-owner : (b : Bool) (x : DecodedStep c b) → T (keepsRunning (x .kind)) → saidIn c s (stepOf c b x) ≡ x .as-accepted .said
+        → All (Apart b x (g .track)) (g .late)
+        → (o : Owner) → T (owns o (x .as-accepted)) → keep (owns o) (allAccepted c (g .track) (g .late)) ≡ []
     no-owner b x j said h (aPost b′ p′) t =
-        keep-none (isOfPost b′ p′) (takenOf c (g .track) (g .late))
-        (taken-all c (g .track) (Apart b x (g .track)) (λ d. T (not (isOfPost b′ p′ d))) (λ i f. f b′ p′ t) (g .late) h)
+        keep-none (isOfPost b′ p′) (allAccepted c (g .track) (g .late))
+        (accepted-all c (g .track) (Apart b x (g .track)) (λ d. T (not (isOfPost b′ p′ d))) (λ i f. f b′ p′ t) (g .late) h)
     no-owner b x j said h (aTrain z) t =
-        keep-none (isStepOfTrain z) (takenOf c (g .track) (g .late))
-        (taken-all c (g .track) (λ (i : AcceptedStep c (g .track)). T (still (i .kind))) (λ d. T (not (isStepOfTrain z d)))
+        keep-none (isStepOfTrain z) (allAccepted c (g .track) (g .late))
+        (accepted-all c (g .track) (λ (i : DecodedStep c (g .track)). T (movesNoTrain (i .kind))) (λ d. T (not (isStepOfTrain z d)))
         (λ i f. still-no-train (g .track) i f z) (g .late)
-        (late-still c (g .track) (g .late) (g .base) s (g .held)))
+        (late-unmoved c (g .track) (g .late) (g .base) s (g .held)))
     no-owner b x j said h announcers t =
-        absurd (subst (λ w. T (isSpoken w)) (sym said ∙ calm-word c s b (x .post) (x .kind) j) t)
+        absurd (subst (λ w. T (isSpoken w)) (sym said ∙ says-nothing c s b (x .post) (x .kind) j) t)
 
     -- ## A step goes before the late ones, or is held back with them
 
-    goes-before : (b : Bool) (x : AcceptedStep c b) → T (calm (x .kind)) → word c s (stepOf c b x) ≡ x .taken .said → All (Apart b x (g .track)) (g .late)
-        → Ok c (g .base) (stepOf c b x) × Late c (g .track) (next c (g .base) (stepOf c b x)) (g .late) (next c s (stepOf c b x)) → Onward s ds b x
+    goes-before : (b : Bool) (x : DecodedStep c b) → T (keepsRunning (x .kind)) → saidIn c s (stepOf c b x) ≡ x .as-accepted .said
+        → All (Apart b x (g .track)) (g .late)
+        → AcceptedIn c (g .base) (stepOf c b x) × Late c (g .track) (sectionAfterStep c (g .base) (stepOf c b x)) (g .late)
+        (sectionAfterStep c s (stepOf c b x)) → Onward s ds b x
     goes-before b x j said al r = reversing (record {
       track = g .track;
       post = g .post;
       act = g .act;
-      first = g .first ++ x .taken ∷ [];
+      first = g .first ++ x .as-accepted ∷ [];
       late = g .late;
-      base = next c (g .base) (stepOf c b x);
-      performed = performed-append c (x .taken ∷ []) (g .performed)
-          (performed-one c (g .base) b x (r .0) (calm-word c (g .base) b (x .post) (x .kind) j ∙ sym (calm-word c s b (x .post) (x .kind) j) ∙ said) ws);
+      base = sectionAfterStep c (g .base) (stepOf c b x);
+      performed = performed-append c (x .as-accepted ∷ []) (g .performed)
+          (performed-one c (g .base) b x (r .0) (says-nothing c (g .base) b (x .post) (x .kind) j ∙ sym (says-nothing c s b (x .post) (x .kind) j) ∙ said) ws);
       settled-before = ws;
       held = r .1;
-      turns = calm-walks c s b (x .post) (x .kind) j (g .track) ∙ g .turns;
-      under = rw (calm-cvts c s b (x .post) (x .kind) j (g .track)) (g .under);
-      kept = reordered-insert ds (g .first) (takenOf c (g .track) (g .late)) (x .taken) (no-owner b x j said al) (g .kept);
+      turns = walks-kept c s b (x .post) (x .kind) j (g .track) ∙ g .turns;
+      under = rw (cvts-kept c s b (x .post) (x .kind) j (g .track)) (g .under);
+      kept = reordered-insert ds (g .first) (allAccepted c (g .track) (g .late)) (x .as-accepted) (no-owner b x j said al) (g .kept);
     })
       where
-        ws : (d : Bool) → trackOf (next c (g .base) (stepOf c b x)) d .walk ≡ Settled
-        ws d = calm-walks c (g .base) b (x .post) (x .kind) j d ∙ g .settled-before d
+        ws : (d : Bool) → trackOf (sectionAfterStep c (g .base) (stepOf c b x)) d .walk ≡ Settled
+        ws d = walks-kept c (g .base) b (x .post) (x .kind) j d ∙ g .settled-before d
 
     -- ranks on the track that reverses
     abbrev rk : ℕ → ℕ
     rk p = rankOn c (g .track) (trackOf s (g .track) .cvt) p
 
     -- at a post of rank up to that of p
-    abbrev UpTo : ℕ → AcceptedStep c (g .track) → Type 0
+    abbrev UpTo : ℕ → DecodedStep c (g .track) → Type 0
     UpTo p i = rk (i .post) ≤ rk p
 
-    abbrev after : AcceptedStep c (g .track) → Track
-    after x = moved c (otherSettledOnVns s (g .track)) (g .track) (x .post) (x .kind) (trackOf s (g .track))
+    abbrev after : DecodedStep c (g .track) → Track
+    after x = trackAfterStep c (g .track) (x .post) (x .kind) (trackOf s (g .track))
 
-    held-back : (x : AcceptedStep c (g .track)) → T (still (x .kind)) → Ok c s (stepOf c (g .track) x) → word c s (stepOf c (g .track) x) ≡ x .taken .said
+    held-back : (x : DecodedStep c (g .track)) → T (movesNoTrain (x .kind)) → AcceptedIn c s (stepOf c (g .track) x)
+        → saidIn c s (stepOf c (g .track) x) ≡ x .as-accepted .said
         → (p′ : ℕ) (a′ : Act) → after x .walk ≡ Turn p′ a′ → after x .cvt ≡ trackOf s (g .track) .cvt → rk (g .post) ≤ rk p′ → rk (x .post) ≤ rk (g .post)
         → Onward s ds (g .track) x
     held-back x j h said p′ a′ ew ec le ql = reversing (record {
@@ -234,11 +244,11 @@ module _ (c : Settings) where
       held = late-last c (g .track) (g .late) (g .base) s x (g .held) (record { ok = h; said = said; moves-none = j; cvt-kept = ed });
       turns = ap (λ t. t .walk) (here-after c s (g .track) (x .post) (x .kind)) ∙ ew;
       under = rw ed (all-last (UpTo p′) (g .late) x (all-map (UpTo (g .post)) (UpTo p′) (g .late) (λ i u. omega arith) (g .under)) (omega arith));
-      kept = rw (taken-last c (g .track) (g .late) x, ← (append-assoc (g .first) (takenOf c (g .track) (g .late)) (x .taken ∷ [])))
-          (reordered-last ds (g .first ++ takenOf c (g .track) (g .late)) (x .taken) (g .kept));
+      kept = rw (accepted-last c (g .track) (g .late) x, ← (append-assoc (g .first) (allAccepted c (g .track) (g .late)) (x .as-accepted ∷ [])))
+          (reordered-last ds (g .first ++ allAccepted c (g .track) (g .late)) (x .as-accepted) (g .kept));
     })
       where
-        ed : trackOf (next c s (stepOf c (g .track) x)) (g .track) .cvt ≡ trackOf s (g .track) .cvt
+        ed : trackOf (sectionAfterStep c s (stepOf c (g .track) x)) (g .track) .cvt ≡ trackOf s (g .track) .cvt
         ed = ap (λ t. t .cvt) (here-after c s (g .track) (x .post) (x .kind)) ∙ ec
 
   -- ## While one track is reversing, the other is settled on VNS
@@ -255,11 +265,11 @@ module _ (c : Settings) where
 
   -- so no order is accepted there
   pub no-second : (s : Section) (b : Bool) (p : ℕ) (a : Act) (q : ℕ) (k : View) → k ≡ walks order → trackOf s b .walk ≡ Turn p a → T (otherSettledOnVns s b)
-      → Ok c s (on (not b) q k) → ⊥
-  unfolding Ok checks flat
+      → AcceptedIn c s (on (not b) q k) → ⊥
+  unfolding AcceptedIn occupancyAt
   no-second s b p a q k ek w v h =
-      let g : Ok c s (on (not b) q (walks order)) = rw ek at h in
-      let u : T (trackOf s (not b) .cvt || otherSettledOnVns s (not b)) = g .held .1 .1 .0 in
+      let g : AcceptedIn c s (on (not b) q (walks order)) = rw ek at h in
+      let u : T (trackOf s (not b) .cvt || otherSettledOnVns s (not b)) = order-held g .allowed in
       refuse (trackOf s (not b) .cvt) (and-r (isSettled (trackOf s (not b) .walk)) (not (trackOf s (not b) .cvt)) v) u
     where
       back : (b : Bool) → trackOf s b .walk ≡ Turn p a → T (otherSettledOnVns s (not b)) → ⊥
@@ -272,37 +282,38 @@ module _ (c : Settings) where
 
   -- ## Each accepted step
 
-  pub order-moves : (v b : Bool) (p : ℕ) (t : Track) → (moved c v b p (walks order) t .walk ≡ Turn p act.Set) × (moved c v b p (walks order) t .cvt ≡ t .cvt)
+  pub order-moves : (b : Bool) (p : ℕ) (t : Track)
+      → (trackAfterStep c b p (walks order) t .walk ≡ Turn p act.Set) × (trackAfterStep c b p (walks order) t .cvt ≡ t .cvt)
   unfolding trackAfter effect flat
-  order-moves v b p t = (refl, refl)
+  order-moves b p t = (refl, refl)
 
-  module _ (n2 : 2 ≤ c .posts) (s : Section) (ds : List Taken) (r : Reached c s) where
+  module _ (n2 : 2 ≤ c .posts) (s : Section) (ds : List AcceptedStep) (r : Reached c s) where
     module _ (g : Reversing s ds) where
-      abbrev Under : AcceptedStep c (g .track) → Type 0
+      abbrev Under : DecodedStep c (g .track) → Type 0
       Under i = UpTo s ds g (g .post) i
 
       -- the last set or key joins first and late
-      closes : (x : AcceptedStep c (g .track)) → Ok c s (stepOf c (g .track) x) → word c s (stepOf c (g .track) x) ≡ x .taken .said
+      closes : (x : DecodedStep c (g .track)) → AcceptedIn c s (stepOf c (g .track) x) → saidIn c s (stepOf c (g .track) x) ≡ x .as-accepted .said
           → after s ds g x .walk ≡ Settled → NoTrain c (trackOf s (g .track)) → Onward s ds (g .track) x
       closes x h said ew free =
-          settled ((g .first ++ takenOf c (g .track) (g .late)) ++ x .taken ∷ [])
-          (performed-append c (x .taken ∷ []) (performed-append c (takenOf c (g .track) (g .late)) (g .performed) late)
+          settled ((g .first ++ allAccepted c (g .track) (g .late)) ++ x .as-accepted ∷ [])
+          (performed-append c (x .as-accepted ∷ []) (performed-append c (allAccepted c (g .track) (g .late)) (g .performed) late)
           (performed-one c s (g .track) x h said ws))
-          (reordered-last ds (g .first ++ takenOf c (g .track) (g .late)) (x .taken) (g .kept)) ws
+          (reordered-last ds (g .first ++ allAccepted c (g .track) (g .late)) (x .as-accepted) (g .kept)) ws
         where
-          late : Performed c (g .base) (takenOf c (g .track) (g .late)) s
+          late : Performed c (g .base) (allAccepted c (g .track) (g .late)) s
           late = late-performed c (g .track) (g .late) (g .base) s (g .held) (g .settled-before (not (g .track))) free
 
-          ws : (d : Bool) → trackOf (next c s (stepOf c (g .track) x)) d .walk ≡ Settled
-          ws = by-track (λ d. trackOf (next c s (stepOf c (g .track) x)) d .walk ≡ Settled) (g .track)
+          ws : (d : Bool) → trackOf (sectionAfterStep c s (stepOf c (g .track) x)) d .walk ≡ Settled
+          ws = by-track (λ d. trackOf (sectionAfterStep c s (stepOf c (g .track) x)) d .walk ≡ Settled) (g .track)
               (ap (λ t. t .walk) (here-after c s (g .track) (x .post) (x .kind)) ∙ ew)
               (ap (λ t. t .walk) (there-after c s (g .track) (x .post) (x .kind))
               ∙ other-settled s (g .track) (other-vns s (g .track) (g .post) (g .act) r (g .turns)))
 
       -- a step on the track that reverses
-      same-track : (x : AcceptedStep c (g .track)) → Ok c s (stepOf c (g .track) x) → word c s (stepOf c (g .track) x) ≡ x .taken .said
+      same-track : (x : DecodedStep c (g .track)) → AcceptedIn c s (stepOf c (g .track) x) → saidIn c s (stepOf c (g .track) x) ≡ x .as-accepted .said
           → Onward s ds (g .track) x
-      unfolding Ok
+      unfolding AcceptedIn
       same-track x h said =
           go (does (otherSettledOnVns s (g .track)) (g .track) n2 (trackOf s (g .track)) (g .post) (g .act) (g .turns) (r .sound (g .track))
           (x .kind) (x .post) h)
@@ -310,15 +321,16 @@ module _ (c : Settings) where
           q : ℕ
           q = x .post
 
-          differ : rk s ds g (g .post) < rk s ds g q → (i : AcceptedStep c (g .track)) → Under i → i .post ≢ q
+          differ : rk s ds g (g .post) < rk s ds g q → (i : DecodedStep c (g .track)) → Under i → i .post ≢ q
           differ lt i u e = omega (arith, ap (rk s ds g) e)
 
           -- a step of the kind k may go before the late step i
-          May : View → Section → AcceptedStep c (g .track) → Type 0
-          May k s₀ i = Ok c (next c s₀ (stepOf c (g .track) i)) (on (g .track) q k) → Exchanged c s₀ (stepOf c (g .track) i) (on (g .track) q k)
+          May : View → Section → DecodedStep c (g .track) → Type 0
+          May k s₀ i =
+              AcceptedIn c (sectionAfterStep c s₀ (stepOf c (g .track) i)) (on (g .track) q k) → Exchanged c s₀ (stepOf c (g .track) i) (on (g .track) q k)
 
-          before : (k : View) → x .kind ≡ k → T (calm k) → rk s ds g (g .post) < rk s ds g q
-              → ((s₀ : Section) (i : AcceptedStep c (g .track)) → Under i → LateStep c (g .track) s₀ i → May k s₀ i) → Onward s ds (g .track) x
+          before : (k : View) → x .kind ≡ k → T (keepsRunning k) → rk s ds g (g .post) < rk s ds g q
+              → ((s₀ : Section) (i : DecodedStep c (g .track)) → Under i → LateStep c (g .track) s₀ i → May k s₀ i) → Onward s ds (g .track) x
           before k e j lt f =
               goes-before s ds g (g .track) x (rw e j) said
               (all-map Under (Apart (g .track) x (g .track)) (g .late) (λ i u. apart-post (g .track) x i (differ lt i u)) (g .under))
@@ -334,8 +346,8 @@ module _ (c : Settings) where
               decide : Dec (rk s ds g q ≤ rk s ds g (g .post)) → Onward s ds (g .track) x
               decide (yes le) =
                   held-back s ds g x (rw e tt) h said (g .post) (g .act)
-                  (calm-walk c (otherSettledOnVns s (g .track)) (g .track) q (x .kind) (trackOf s (g .track)) (rw e tt) ∙ g .turns)
-                  (calm-cvt c (otherSettledOnVns s (g .track)) (g .track) q (x .kind) (trackOf s (g .track)) (rw e tt)) (omega arith) le
+                  (walk-kept c (g .track) q (x .kind) (trackOf s (g .track)) (rw e tt) ∙ g .turns)
+                  (cvt-kept c (g .track) q (x .kind) (trackOf s (g .track)) (rw e tt)) (omega arith) le
               decide (no nle) =
                   before (notes n) e tt (omega arith)
                   (λ s₀ i u st. exchange-note c (g .track) s₀ (i .post) (i .kind) q n (differ (omega arith) i u) (st .ok))
@@ -343,9 +355,10 @@ module _ (c : Settings) where
           go (endsReversal ew free) = closes x h said ew free
 
       -- a step on the other track
-      other-track : (x : AcceptedStep c (not (g .track))) → Ok c s (stepOf c (not (g .track)) x) → word c s (stepOf c (not (g .track)) x) ≡ x .taken .said
+      other-track : (x : DecodedStep c (not (g .track))) → AcceptedIn c s (stepOf c (not (g .track)) x)
+          → saidIn c s (stepOf c (not (g .track)) x) ≡ x .as-accepted .said
           → Onward s ds (not (g .track)) x
-      unfolding Ok
+      unfolding AcceptedIn
       other-track x h said =
           go (settled-kind (otherSettledOnVns s (not (g .track))) (not (g .track)) (x .post) (x .kind) (trackOf s (not (g .track))) h
           (other-settled s (g .track) vns))
@@ -353,7 +366,7 @@ module _ (c : Settings) where
           vns : T (otherSettledOnVns s (g .track))
           vns = other-vns s (g .track) (g .post) (g .act) r (g .turns)
 
-          go : T (calm (x .kind)) ⊎ (x .kind ≡ walks order) → Onward s ds (not (g .track)) x
+          go : T (keepsRunning (x .kind)) ⊎ (x .kind ≡ walks order) → Onward s ds (not (g .track)) x
           go (inl j) =
               goes-before s ds g (not (g .track)) x j said
               (all-map Under (Apart (not (g .track)) x (g .track)) (g .late) (λ i u. apart-track (g .track) x i) (g .under))
@@ -363,8 +376,9 @@ module _ (c : Settings) where
           go (inr e) = absurd (no-second s (g .track) (g .post) (g .act) (x .post) (x .kind) e (g .turns) vns h)
 
     -- an order
-    begins : (first : List Taken) → Performed c (freshSection c) first s → Reordered ds first → ((b : Bool) → trackOf s b .walk ≡ Settled)
-        → (b : Bool) (x : AcceptedStep c b) → x .kind ≡ walks order → Ok c s (stepOf c b x) → word c s (stepOf c b x) ≡ x .taken .said → Onward s ds b x
+    begins : (first : List AcceptedStep) → Performed c (freshSection c) first s → Reordered ds first → ((b : Bool) → trackOf s b .walk ≡ Settled)
+        → (b : Bool) (x : DecodedStep c b) → x .kind ≡ walks order → AcceptedIn c s (stepOf c b x) → saidIn c s (stepOf c b x) ≡ x .as-accepted .said
+        → Onward s ds b x
     begins first pf kp ws b x e h said = reversing (record {
       track = b;
       post = x .post;
@@ -375,40 +389,41 @@ module _ (c : Settings) where
       performed = pf;
       settled-before = ws;
       held = (record { ok = h; said = said; moves-none = rw e tt; cvt-kept = cvt-same }, refl);
-      turns = ap (λ t. t .walk) (here-after c s b (x .post) (x .kind)) ∙ rw e (order-moves (otherSettledOnVns s b) b (x .post) (trackOf s b) .0);
+      turns = ap (λ t. t .walk) (here-after c s b (x .post) (x .kind)) ∙ rw e (order-moves b (x .post) (trackOf s b) .0);
       under = (omega arith, tt);
-      kept = reordered-last ds first (x .taken) kp;
+      kept = reordered-last ds first (x .as-accepted) kp;
     })
       where
-        cvt-same : trackOf (next c s (stepOf c b x)) b .cvt ≡ trackOf s b .cvt
-        cvt-same = ap (λ t. t .cvt) (here-after c s b (x .post) (x .kind)) ∙ rw e (order-moves (otherSettledOnVns s b) b (x .post) (trackOf s b) .1)
+        cvt-same : trackOf (sectionAfterStep c s (stepOf c b x)) b .cvt ≡ trackOf s b .cvt
+        cvt-same = ap (λ t. t .cvt) (here-after c s b (x .post) (x .kind)) ∙ rw e (order-moves b (x .post) (trackOf s b) .1)
 
-    unfoldable pub progress : (b : Bool) (x : AcceptedStep c b) → Ok c s (stepOf c b x) → word c s (stepOf c b x) ≡ x .taken .said → Progress s ds →
+    unfoldable pub progress : (b : Bool) (x : DecodedStep c b) → AcceptedIn c s (stepOf c b x) → saidIn c s (stepOf c b x) ≡ x .as-accepted .said
+        → Progress s ds →
         Onward s ds b x
-    unfolding Ok by-track settled-kind begins same-track other-track does does-set does-onward goes-before held-back closes
+    unfolding AcceptedIn by-track settled-kind begins same-track other-track does does-set does-onward goes-before held-back closes
     progress b x h said (settled first pf kp ws) = go (settled-kind (otherSettledOnVns s b) b (x .post) (x .kind) (trackOf s b) h (ws b))
       where
-        still-settled : T (calm (x .kind)) → (d : Bool) → trackOf (next c s (stepOf c b x)) d .walk ≡ Settled
-        still-settled j d = calm-walks c s b (x .post) (x .kind) j d ∙ ws d
+        still-settled : T (keepsRunning (x .kind)) → (d : Bool) → trackOf (sectionAfterStep c s (stepOf c b x)) d .walk ≡ Settled
+        still-settled j d = walks-kept c s b (x .post) (x .kind) j d ∙ ws d
 
-        go : T (calm (x .kind)) ⊎ (x .kind ≡ walks order) → Onward s ds b x
+        go : T (keepsRunning (x .kind)) ⊎ (x .kind ≡ walks order) → Onward s ds b x
         go (inl j) =
-            settled (first ++ x .taken ∷ []) (performed-append c (x .taken ∷ []) pf (performed-one c s b x h said (still-settled j)))
-            (reordered-last ds first (x .taken) kp) (still-settled j)
+            settled (first ++ x .as-accepted ∷ []) (performed-append c (x .as-accepted ∷ []) pf (performed-one c s b x h said (still-settled j)))
+            (reordered-last ds first (x .as-accepted) kp) (still-settled j)
         go (inr e) = begins first pf kp ws b x e h said
     progress b x h said (reversing g) =
-        by-track (λ d. (x : AcceptedStep c d) → Ok c s (stepOf c d x) → word c s (stepOf c d x) ≡ x .taken .said → Onward s ds d x) (g .track)
+        by-track (λ d. (x : DecodedStep c d) → AcceptedIn c s (stepOf c d x) → saidIn c s (stepOf c d x) ≡ x .as-accepted .said → Onward s ds d x) (g .track)
         (same-track g) (other-track g) b x h said
 
   -- ## The new order
 
-  pub record Sorted (s : Section) (ds : List Taken) : Type 0 where
-    pub order : List Taken
+  pub record Sorted (s : Section) (ds : List AcceptedStep) : Type 0 where
+    pub order : List AcceptedStep
     pub performed : Performed c (freshSection c) order s
     pub kept : Reordered ds order
 
   -- with no reversal under way
-  unfoldable pub sorted : (s : Section) (ds : List Taken) → Progress s ds → ((b : Bool) → isSettled (trackOf s b .walk) ≡ true) → Sorted s ds
+  unfoldable pub sorted : (s : Section) (ds : List AcceptedStep) → Progress s ds → ((b : Bool) → isSettled (trackOf s b .walk) ≡ true) → Sorted s ds
   sorted s ds (settled first pf kp ws) h = record { order = first; performed = pf; kept = kp }
   sorted s ds (reversing g) h = absurd (no-turn (trackOf s (g .track) .walk) (g .turns) (h (g .track)))
     where

@@ -1,9 +1,11 @@
--- At most one post of a track may start trains: the sending end.
+-- At most one post of a track may start trains: the sending end. Only a sending end has permission or is let through by the checks of a start,
+-- and only while its track is settled; a post of rank 0 is the only one.
 use Prim.Native.Nat.{ℕ, _<_}
 use mathlib.Core.Bool.{Bool, true, false, not}
 use mathlib.Core.Path.{_≡_, refl, sym, ap, _∙_, subst}
 use native.Mathlib.Omega.{arith}
 use lib.Dec.{T}
+use Rattle.section.specs.Numbers.{startKind}
 use Rattle.section.specs.declared.Settings.{Settings}
 use Rattle.section.specs.declared.Said.{Said}
 use Rattle.section.specs.declared.Verdict.{Verdict}
@@ -13,27 +15,28 @@ use Rattle.section.specs.declared.Walk.the-variants.{Settled, Turn}
 use Rattle.section.specs.declared.Track.{Track}
 use Rattle.section.specs.declared.Section.{Section}
 use Rattle.section.specs.Geometry.{upward, rank}
-use Rattle.section.specs.Settings.{settingsRight}
+use Rattle.section.specs.Settings.{settingsInRange}
 use Rattle.section.specs.Step.{kindOf}
 use Rattle.section.specs.Store.{trackOf}
 use Rattle.section.proofs.Laws.{rank-rank, rank-inj}
 use Rattle.rules.specs.Site.{isSettled, otherSettledOnVns}
 use Rattle.rules.specs.Table.{checks}
 use Rattle.rules.specs.Judge.{judge}
-use Rattle.rules.specs.Demand3.{Taken, track, post, kind, sendingEnd, MayStart, permission, start}
+use Rattle.rules.specs.Demand3.{AcceptedStep, track, post, kind, sendingEnd, MayStart, permission, start}
 use Rattle.rules.proofs.Facts.{first-rank}
 use Rattle.rules.proofs.View.{order, setDevice, announce, acknowledge, key, pass, leave, measures, fault, View, walks, runs, notes, releases}
 use Rattle.rules.proofs.View.{flat, post-flat, Seen, shown}
 use Rattle.rules.proofs.View as view
 use Rattle.rules.proofs.Reading.{Says, decoded-says}
-use Rattle.rules.proofs.Accept.{Passes, Ok, Judged, refused, accepted, judged}
+use Rattle.rules.proofs.Accept.{AcceptedOn, AcceptedIn, Judged, refused, accepted, judged}
+use Rattle.rules.proofs.Held.{start-held}
 use Rattle.rules.proofs.Ranges.{rankOn}
 use Rattle.rules.proofs.Invariant.{MayHold}
 use Rattle.rules.proofs.Reached.{Reached, reached-in-range}
 
 module _ (c : Settings) where
   -- a step of kind 5 is a start
-  start-first : (v b : Bool) (p : ℕ) (k : View) (t : Track) → kindOf (flat p k) ≡ 5 → Passes c v b p k t
+  start-first : (v b : Bool) (p : ℕ) (k : View) (t : Track) → kindOf (flat p k) ≡ startKind → AcceptedOn c v b p k t
       → (rankOn c b (t .cvt) p ≡ 0) × T (isSettled (t .walk))
   unfolding checks flat kindOf
   start-first v b p (walks order) t e h = absurd (omega arith)
@@ -41,7 +44,7 @@ module _ (c : Settings) where
   start-first v b p (walks announce) t e h = absurd (omega arith)
   start-first v b p (walks acknowledge) t e h = absurd (omega arith)
   start-first v b p (walks key) t e h = absurd (omega arith)
-  start-first v b p (runs view.start z) t e h = (first-rank (c .posts) (upward b (t .cvt)) p (h .held .1 .0), h .held .0)
+  start-first v b p (runs view.start z) t e h = (first-rank (c .posts) (upward b (t .cvt)) p (start-held h .first), start-held h .settled)
   start-first v b p (runs pass z) t e h = absurd (omega arith)
   start-first v b p (runs leave z) t e h = absurd (omega arith)
   start-first v b p (notes (measures true)) t e h = absurd (omega arith)
@@ -56,13 +59,14 @@ module _ (c : Settings) where
   not-refused : (v : Verdict) (w : Said) (k : ℕ) → v ≡ Accepted w → v ≡ Refused k → ⊥
   not-refused v w k e f = let z : _≡_ {A = ℕ} 0 1 = cc in omega arith
 
-  start-sends : (s : Section) (d : Taken) (x : Seen) → kind d ≡ 5 → Says (c .posts) (d .bytes) (shown x) → Ok c s x → Sends s (track d) (post d)
-  unfolding Ok
+  start-sends : (s : Section) (d : AcceptedStep) (x : Seen) → kind d ≡ startKind → Says (c .posts) (d .bytes) (shown x) → AcceptedIn c s x
+      → Sends s (track d) (post d)
+  unfolding AcceptedIn
   start-sends s d x e h ok =
       subst (λ b. Sends s b (post d)) (h .track-is) (subst (Sends s (x .track)) (sym (post-flat (x .post) (x .kind)) ∙ h .fields .post-is)
       (ok .fits .below, start-first (otherSettledOnVns s (x .track)) (x .track) (x .post) (x .kind) (trackOf s (x .track)) (h .fields .kind-is ∙ e) ok))
 
-  may-start-sends : settingsRight c ≡ true → (s : Section) (b : Bool) (p : ℕ) → Reached c s → MayStart c s b p → Sends s b p
+  may-start-sends : settingsInRange c ≡ true → (s : Section) (b : Bool) (p : ℕ) → Reached c s → MayStart c s b p → Sends s b p
   may-start-sends right s b p r (permission p<n h) = (p<n, go (trackOf s b .walk) (r .sound b .permits p p<n h))
     where
       go : (w : Walk) → MayHold c b w (rankOn c b (trackOf s b .cvt) p) → (rankOn c b (trackOf s b .cvt) p ≡ 0) × T (isSettled w)
@@ -75,14 +79,14 @@ module _ (c : Settings) where
       go (refused k e) = absurd (not-refused (judge s (d .bytes) .verdict) (d .said) k ev (ap (λ a. a .verdict) e))
       go (accepted x q ok e) = start-sends s d x ek (decoded-says (c .posts) (d .bytes) (shown x) q) ok
 
-  pub one-starter : settingsRight c ≡ true → (s : Section) (b : Bool) → Reached c s → (p q : ℕ) → MayStart c s b p → MayStart c s b q → p ≡ q
+  pub one-starter : settingsInRange c ≡ true → (s : Section) (b : Bool) → Reached c s → (p q : ℕ) → MayStart c s b p → MayStart c s b q → p ≡ q
   one-starter right s b r p q f g =
       let a = may-start-sends right s b p r f in
       let d = may-start-sends right s b q r g in
       rank-inj (c .posts) (upward b (trackOf s b .cvt)) p q (a .0) (d .0) (a .1 .0 ∙ sym (d .1 .0))
 
   -- the sending end, on a settled track
-  pub starter : settingsRight c ≡ true → (s : Section) (b : Bool) → Reached c s → (p : ℕ) → MayStart c s b p
+  pub starter : settingsInRange c ≡ true → (s : Section) (b : Bool) → Reached c s → (p : ℕ) → MayStart c s b p
       → {under : Bool} → under ≡ not (isSettled (trackOf s b .walk)) → (p ≡ sendingEnd c b (trackOf s b)) × (under ≡ false)
   starter right s b r p f agrees =
       let a = may-start-sends right s b p r f in (

@@ -1,5 +1,5 @@
--- Two steps on one track at different posts change places, where the first moves no train and the second notes a condition, passes or
--- leaves.
+-- Two steps on one track at different posts change places, where the first moves no train and the second notes a condition, passes or leaves.
+-- The second sees nothing that the first changes. The first finds the same or fewer trains where it looks, so its checks still hold.
 use Prim.Native.Nat.{ℕ, suc, _-_, _≤_, _<_}
 use mathlib.Core.Bool.{Bool, true, false, cond, not, _&&_}
 use mathlib.Core.Path.{_≡_, refl, sym, ap, ap₂, _∙_, subst}
@@ -15,19 +15,21 @@ use Rattle.section.specs.declared.Track.{Track}
 use Rattle.section.specs.Geometry.{upward, isLast}
 use Rattle.section.specs.Post.{blank}
 use Rattle.section.specs.Settings.{isMaterialised}
-use Rattle.section.specs.Step.{numberOf}
 use Rattle.section.specs.Store.{postOn, withPost}
 use Rattle.section.proofs.Laws.{rank-lt, rank-inj, block-inj, block-lt}
 use Rattle.rules.specs.declared.Site.{Site}
-use Rattle.rules.specs.Site.{siteOn, Occupancy, occupancyAt, anyTrain, watchedOccupied, atSendingEnd, atReceivingEnd, blockAhead, blockBefore}
+use Rattle.rules.specs.Site.{siteOn, Occupancy, isTrain, anyOf, occupancyAt, watchedOccupied, atReceivingEnd, blockAhead, blockBefore}
 use Rattle.rules.specs.Site.{trainAt, trainBefore}
-use Rattle.rules.specs.Table.{checks, effect, trainsAfter, lastAfter, trackAfter}
-use Rattle.rules.proofs.Facts.{eq→eqb, nor-l, nor-r, notnot, T-true, false-T, not-first-rank, last-not-first}
-use Rattle.rules.proofs.Facts.{not-last-rank, before-is, entered-is, set-zero, any-zero}
+use Rattle.rules.specs.Table.{checks, effect, cellsAfter, trackAfter}
+use Rattle.rules.proofs.Facts.{eq→eqb, notnot, T-true, false-T, not-first-rank}
+use Rattle.rules.proofs.Facts.{not-last-rank, entered-is, set-zero, any-zero}
 use Rattle.rules.proofs.View.{order, setDevice, announce, acknowledge, key, Motion, start, pass, leave, Condition, measures, fault, View}
 use Rattle.rules.proofs.View.{walks, runs, notes, releases, flat}
-use Rattle.rules.proofs.Frame.{still, onward, calm-effect, still-train}
-use Rattle.rules.proofs.Accept.{AllHold, Passes, moved}
+use Rattle.rules.proofs.Frame.{movesNoTrain, onward, running-kept, no-movement}
+use Rattle.rules.proofs.Accept.{AllHold, occupancyOn, AcceptedOn, trackAfterStep}
+use Rattle.rules.proofs.Held.{order-held, order-accepted, set-held, set-accepted, key-held, key-accepted, announce-held, announce-accepted}
+use Rattle.rules.proofs.Held.{acknowledge-held, acknowledge-accepted, release-held, release-accepted}
+use Rattle.rules.proofs.Held.{pass-held, pass-before, leave-not-first, leave-before}
 use Rattle.rules.proofs.Ranges.{rankOn}
 
 -- a track with other trains
@@ -37,30 +39,30 @@ withTrains t trains last = record { posts = t .posts; trains = trains; last = la
 module _ (c : Settings) (v b : Bool) where
   -- the step l at q, then x at p: they may change places
   pub record Swapped (q : ℕ) (l : View) (p : ℕ) (x : View) (t : Track) : Type 0 where
-    pub x-first : Passes c v b p x t
-    pub l-then : Passes c v b q l (moved c v b p x t)
-    pub same-end : moved c v b q l (moved c v b p x t) ≡ moved c v b p x (moved c v b q l t)
-    pub l-says : effect c (flat q l) (siteOn v b q (moved c v b p x t)) .said ≡ effect c (flat q l) (siteOn v b q t) .said
+    pub x-first : AcceptedOn c v b p x t
+    pub l-then : AcceptedOn c v b q l (trackAfterStep c b p x t)
+    pub same-end : trackAfterStep c b q l (trackAfterStep c b p x t) ≡ trackAfterStep c b p x (trackAfterStep c b q l t)
+    pub l-says : effect c (flat q l) (siteOn b q (trackAfterStep c b p x t)) .said ≡ effect c (flat q l) (siteOn b q t) .said
 
   -- ## Another post's record
 
   own-other : (t : Track) (p r : ℕ) (o : Post) → p ≢ r → postOn (withPost t r o) p ≡ postOn t p
   own-other t p r o h = getD-set-other (t .posts) r p o blank h
 
-  passes-own : (k : View) (t : Track) (p r : ℕ) (o : Post) → p ≢ r → Passes c v b p k t → Passes c v b p k (withPost t r o)
-  passes-own k t p r o h k′ = record { fits = k′ .fits; held = rw (own-other t p r o h) (k′ .held) }
+  accepted-own : (k : View) (t : Track) (p r : ℕ) (o : Post) → p ≢ r → AcceptedOn c v b p k t → AcceptedOn c v b p k (withPost t r o)
+  accepted-own k t p r o h k′ = record { fits = k′ .fits; held = rw (own-other t p r o h) (k′ .held) }
 
   says-own : (k : View) (t : Track) (p r : ℕ) (o : Post) → p ≢ r
-      → effect c (flat p k) (siteOn v b p (withPost t r o)) .said ≡ effect c (flat p k) (siteOn v b p t) .said
+      → effect c (flat p k) (siteOn b p (withPost t r o)) .said ≡ effect c (flat p k) (siteOn b p t) .said
   says-own k t p r o h = rw (own-other t p r o h) refl
 
-  moved-own : (k : View) (t : Track) (p r : ℕ) (o : Post) → p ≢ r → moved c v b p k (withPost t r o) ≡ withPost (moved c v b p k t) r o
+  track-own : (k : View) (t : Track) (p r : ℕ) (o : Post) → p ≢ r → trackAfterStep c b p k (withPost t r o) ≡ withPost (trackAfterStep c b p k t) r o
   unfolding trackAfter
-  moved-own k t p r o h = rw (own-other t p r o h, set-comm (t .posts) r p o (effect c (flat p k) (siteOn v b p t) .own) (λ e. h (sym e))) refl
+  track-own k t p r o h = rw (own-other t p r o h, set-comm (t .posts) r p o (effect c (flat p k) (siteOn b p t) .own) (λ e. h (sym e))) refl
 
-  own-kept : (l : View) (t : Track) (q p : ℕ) → q ≢ p → postOn (moved c v b q l t) p ≡ postOn t p
+  own-kept : (l : View) (t : Track) (q p : ℕ) → q ≢ p → postOn (trackAfterStep c b q l t) p ≡ postOn t p
   unfolding trackAfter
-  own-kept l t q p h = own-other t p q (effect c (flat q l) (siteOn v b q t) .own) (λ e. h (sym e))
+  own-kept l t q p h = own-other t p q (effect c (flat q l) (siteOn b q t) .own) (λ e. h (sym e))
 
   -- ## A condition noted at p: it looks at the post's own record alone
 
@@ -80,195 +82,229 @@ module _ (c : Settings) (v b : Bool) where
   note-own (fault false f) p e e′ q = rw q refl
 
   abbrev noted : Condition → ℕ → Track → Post
-  noted k p t = effect c (flat p (notes k)) (siteOn v b p t) .own
+  noted k p t = effect c (flat p (notes k)) (siteOn b p t) .own
 
-  note-moved : (k : Condition) (p : ℕ) (t : Track) → moved c v b p (notes k) t ≡ withPost t p (noted k p t)
-  unfolding trackAfter trainsAfter lastAfter
+  note-moved : (k : Condition) (p : ℕ) (t : Track) → trackAfterStep c b p (notes k) t ≡ withPost t p (noted k p t)
+  unfolding trackAfter cellsAfter
   note-moved k p t =
-      let same = calm-effect c p (notes k) (siteOn v b p t) tt in
-      rw (still-train c p (notes k) (siteOn v b p t) tt, same .walk, same .cvt) refl
+      let same = running-kept c p (notes k) (siteOn b p t) tt in
+      rw (no-movement c p (notes k) (siteOn b p t) tt, same .walk, same .cvt) refl
 
   pub swap-note : (q : ℕ) (l : View) (p : ℕ) (k : Condition) (t : Track) → q ≢ p
-      → Passes c v b q l t → Passes c v b p (notes k) (moved c v b q l t) → Swapped q l p (notes k) t
+      → AcceptedOn c v b q l t → AcceptedOn c v b p (notes k) (trackAfterStep c b q l t) → Swapped q l p (notes k) t
   swap-note q l p k t h hl hx = record {
     x-first = record {
       fits = hx .fits;
-      held = note-checks k p (siteOn v b p (moved c v b q l t)) (siteOn v b p t) _ _ (own-kept l t q p h) (hx .held);
+      held = note-checks k p (siteOn b p (trackAfterStep c b q l t)) (siteOn b p t) _ _ (own-kept l t q p h) (hx .held);
     };
-    l-then = rw (note-moved k p t) (passes-own l t q p (noted k p t) h hl);
+    l-then = rw (note-moved k p t) (accepted-own l t q p (noted k p t) h hl);
     same-end =
-        ap (moved c v b q l) (note-moved k p t) ∙ moved-own l t q p (noted k p t) h
-        ∙ ap (withPost (moved c v b q l t) p) (note-own k p (siteOn v b p t) (siteOn v b p (moved c v b q l t)) (sym (own-kept l t q p h)))
-        ∙ sym (note-moved k p (moved c v b q l t));
-    l-says = ap (λ u. effect c (flat q l) (siteOn v b q u) .said) (note-moved k p t) ∙ says-own l t q p (noted k p t) h;
+        ap (trackAfterStep c b q l) (note-moved k p t) ∙ track-own l t q p (noted k p t) h
+        ∙ ap (withPost (trackAfterStep c b q l t) p) (note-own k p (siteOn b p t) (siteOn b p (trackAfterStep c b q l t)) (sym (own-kept l t q p h)))
+        ∙ sym (note-moved k p (trackAfterStep c b q l t));
+    l-says = ap (λ u. effect c (flat q l) (siteOn b q u) .said) (note-moved k p t) ∙ says-own l t q p (noted k p t) h;
   }
 
   -- ## A pass or a leave at p: it looks at the direction and the trains alone
 
   onward-checks : (m : Motion) (z p : ℕ) (t t′ : Track) → T (onward m) → t .cvt ≡ t′ .cvt → t .trains ≡ t′ .trains
-      → Passes c v b p (runs m z) t → Passes c v b p (runs m z) t′
+      → AcceptedOn c v b p (runs m z) t → AcceptedOn c v b p (runs m z) t′
   unfolding checks occupancyAt trainBefore flat
   onward-checks start z p t t′ i ec et h = absurd i
   onward-checks pass z p t t′ i ec et h = record { fits = h .fits; held = rw (ec, et) at (h .held) }
   onward-checks leave z p t t′ i ec et h = record { fits = h .fits; held = rw (ec, et) at (h .held) }
 
   abbrev trainsOf : Motion → ℕ → ℕ → Track → List ℕ
-  trainsOf m z p t = moved c v b p (runs m z) t .trains
+  trainsOf m z p t = trackAfterStep c b p (runs m z) t .trains
 
   abbrev lastOf : Motion → ℕ → ℕ → Track → List ℕ
-  lastOf m z p t = moved c v b p (runs m z) t .last
+  lastOf m z p t = trackAfterStep c b p (runs m z) t .last
 
-  onward-moved : (m : Motion) (z p : ℕ) (t : Track) → T (onward m) → moved c v b p (runs m z) t ≡ withTrains t (trainsOf m z p t) (lastOf m z p t)
+  onward-moved : (m : Motion) (z p : ℕ) (t : Track) → T (onward m) → trackAfterStep c b p (runs m z) t ≡ withTrains t (trainsOf m z p t) (lastOf m z p t)
   unfolding trackAfter effect flat
   onward-moved start z p t i = absurd i
   onward-moved pass z p t i = rw (set-getD (t .posts) p blank) refl
   onward-moved leave z p t i = rw (set-getD (t .posts) p blank) refl
 
+  onward-cells : (clears : Bool) (m : Motion) (z p : ℕ) (t t′ : Track) (l l′ : List ℕ) → T (onward m) → t .cvt ≡ t′ .cvt → l ≡ l′
+      → cellsAfter c clears (effect c (flat p (runs m z)) (siteOn b p t) .train) (siteOn b p t) l
+      ≡ cellsAfter c clears (effect c (flat p (runs m z)) (siteOn b p t′) .train) (siteOn b p t′) l′
+  unfolding effect flat cellsAfter
+  onward-cells clears start z p t t′ l l′ i ec el = absurd i
+  onward-cells clears pass z p t t′ l l′ i ec el = rw (ec, el) refl
+  onward-cells clears leave z p t t′ l l′ i ec el = rw (ec, el) refl
+
   onward-trains : (m : Motion) (z p : ℕ) (t t′ : Track) → T (onward m) → t .cvt ≡ t′ .cvt → t .trains ≡ t′ .trains → trainsOf m z p t ≡ trainsOf m z p t′
-  unfolding trackAfter effect flat trainsAfter
-  onward-trains start z p t t′ i ec et = absurd i
-  onward-trains pass z p t t′ i ec et = rw (ec, et) refl
-  onward-trains leave z p t t′ i ec et = rw (ec, et) refl
+  unfolding trackAfter
+  onward-trains m z p t t′ i ec et = onward-cells true m z p t t′ (t .trains) (t′ .trains) i ec et
 
   onward-last : (m : Motion) (z p : ℕ) (t t′ : Track) → T (onward m) → t .cvt ≡ t′ .cvt → t .last ≡ t′ .last → lastOf m z p t ≡ lastOf m z p t′
-  unfolding trackAfter effect flat lastAfter
-  onward-last start z p t t′ i ec el = absurd i
-  onward-last pass z p t t′ i ec el = rw (ec, el) refl
-  onward-last leave z p t t′ i ec el = rw el refl
+  unfolding trackAfter
+  onward-last m z p t t′ i ec el = onward-cells false m z p t t′ (t .last) (t′ .last) i ec el
 
   -- a step that moves no train stays acceptable where the trains that it asks for are fewer
-  fewer-trains : (l : View) (p : ℕ) (e : Site) (g g′ : Occupancy) → T (still l)
-      → (T (not (g .watched)) → T (not (g′ .watched))) → (T (not (g .anywhere)) → T (not (g′ .anywhere)))
-      → (T (not (atReceivingEnd c e)) → g .entered ≡ g′ .entered) → AllHold (checks c (flat p l) e g) → AllHold (checks c (flat p l) e g′)
-  unfolding checks flat
-  fewer-trains (walks order) p e g g′ i fa fy fe h = (h .0, (h .1 .0, (h .1 .1 .0, (go (isMaterialised c) (h .1 .1 .1 .0), tt))))
-    where
-      go : (m : Bool) → T (not (cond m (g .watched) (g .anywhere))) → T (not (cond m (g′ .watched) (g′ .anywhere)))
-      go true u = fa u
-      go false u = fy u
-  fewer-trains (walks setDevice) p e g g′ i fa fy fe h = (h .0, (fa (h .1 .0), h .1 .1))
-  fewer-trains (walks announce) p e g g′ i fa fy fe h = h
-  fewer-trains (walks acknowledge) p e g g′ i fa fy fe h = h
-  fewer-trains (walks key) p e g g′ i fa fy fe h = (h .0, (h .1 .0, (fa (h .1 .1 .0), h .1 .1 .1)))
-  fewer-trains (runs m z) p e g g′ i fa fy fe h = absurd i
-  fewer-trains (notes k) p e g g′ i fa fy fe h = note-checks k p e e g g′ refl h
-  fewer-trains (releases z) p e g g′ i fa fy fe h = (h .0, (h .1 .0, (h .1 .1 .0, (fa (h .1 .1 .1 .0), rw (fe (h .1 .0)) at (h .1 .1 .1 .1)))))
+  pub record Fewer (e : Site) (g g′ : Occupancy) : Type 0 where
+    pub watched : T (not (g .watched)) → T (not (g′ .watched))
+    pub anywhere : T (not (g .anywhere)) → T (not (g′ .anywhere))
+    pub last-ahead : T (not (atReceivingEnd c e)) → g .lastAhead ≡ g′ .lastAhead
+
+  order-fewer : (e : Site) (g g′ : Occupancy) → Fewer e g g′ → (m : Bool) → T (not (cond m (g .watched) (g .anywhere)))
+      → T (not (cond m (g′ .watched) (g′ .anywhere)))
+  order-fewer e g g′ f true u = f .watched u
+  order-fewer e g g′ f false u = f .anywhere u
+
+  fewer-trains : (l : View) (p : ℕ) (t : Track) (trains last : List ℕ) → T (movesNoTrain l)
+      → Fewer (siteOn b p t) (occupancyOn c v b p l t) (occupancyOn c v b p l (withTrains t trains last))
+      → AcceptedOn c v b p l t → AcceptedOn c v b p l (withTrains t trains last)
+  unfolding occupancyAt
+  fewer-trains (walks order) p t trains last i f h =
+      let k = order-held h in
+      order-accepted (h .fits) (record {
+        settled = k .settled;
+        first = k .first;
+        allowed = k .allowed;
+        free = order-fewer (siteOn b p t) _ _ f (isMaterialised c) (k .free);
+      })
+  fewer-trains (walks setDevice) p t trains last i f h =
+      let k = set-held h in
+      set-accepted (h .fits) (record {
+        in-turn = k .in-turn;
+        free = f .watched (k .free);
+        fault1-confirmed = k .fault1-confirmed;
+        measures-suffice = k .measures-suffice;
+        no-fault2 = k .no-fault2;
+      })
+  fewer-trains (walks announce) p t trains last i f h = announce-accepted (h .fits) (record { in-turn = announce-held h .in-turn })
+  fewer-trains (walks acknowledge) p t trains last i f h = acknowledge-accepted (h .fits) (record { in-turn = acknowledge-held h .in-turn })
+  fewer-trains (walks key) p t trains last i f h =
+      let k = key-held h in
+      key-accepted (h .fits) (record {
+        in-turn = k .in-turn;
+        fault2 = k .fault2;
+        free = f .watched (k .free);
+        fault1-confirmed = k .fault1-confirmed;
+        measures-suffice = k .measures-suffice;
+        seal-left = k .seal-left;
+      })
+  fewer-trains (runs m z) p t trains last i f h = absurd i
+  fewer-trains (notes k) p t trains last i f h =
+      record { fits = h .fits; held = note-checks k p (siteOn b p t) (siteOn b p t) _ _ refl (h .held) }
+  fewer-trains (releases z) p t trains last i f h =
+      let k = release-held h in
+      release-accepted (h .fits) (record {
+        in-turn = k .in-turn;
+        not-last = k .not-last;
+        fault1 = k .fault1;
+        free = f .watched (k .free);
+        last-train = rw (f .last-ahead (k .not-last)) at (k .last-train);
+      })
 
   -- a pass or a leave is not at the sending end, and its train stands before the post
   pub record Onward (z p : ℕ) (t : Track) : Type 0 where
     pub below : p < c .posts
     pub not-first : rankOn c b (t .cvt) p ≢ 0
     pub number : 0 < z
-    pub before : T (eqb (trainAt c b (t .cvt) (t .trains) (rankOn c b (t .cvt) p - 1)) z)
+    pub before : trainAt c b (t .cvt) (t .trains) (rankOn c b (t .cvt) p - 1) ≡ z
 
-  pub onward-facts : 2 ≤ c .posts → (m : Motion) (z p : ℕ) (t : Track) → T (onward m) → Passes c v b p (runs m z) t → Onward z p t
-  unfolding checks occupancyAt flat
+  pub onward-facts : 2 ≤ c .posts → (m : Motion) (z p : ℕ) (t : Track) → T (onward m) → AcceptedOn c v b p (runs m z) t → Onward z p t
   onward-facts n2 start z p t o h = absurd o
-  onward-facts n2 pass z p t o h =
-      let not-sending : T (not (atSendingEnd c (siteOn v b p t))) = nor-l (atSendingEnd c (siteOn v b p t)) (atReceivingEnd c (siteOn v b p t)) (h .held .0) in
-      record {
-        below = h .fits .below;
-        not-first = not-first-rank (c .posts) (upward b (t .cvt)) p not-sending;
-        number = h .fits .number .0;
-        before = rw (before-is c (siteOn v b p t) (t .trains) not-sending) at (h .held .1 .0);
-      }
-  onward-facts n2 leave z p t o h =
-      let not-sending : T (not (atSendingEnd c (siteOn v b p t))) = last-not-first (c .posts) (upward b (t .cvt)) p n2 (h .held .0) in
-      record {
-        below = h .fits .below;
-        not-first = not-first-rank (c .posts) (upward b (t .cvt)) p not-sending;
-        number = h .fits .number .0;
-        before = rw (before-is c (siteOn v b p t) (t .trains) not-sending) at (h .held .1 .0);
-      }
+  onward-facts n2 pass z p t o h = record {
+    below = h .fits .below;
+    not-first = not-first-rank (c .posts) (upward b (t .cvt)) p (pass-held h .not-first);
+    number = h .fits .number .0;
+    before = pass-before h;
+  }
+  onward-facts n2 leave z p t o h = record {
+    below = h .fits .below;
+    not-first = not-first-rank (c .posts) (upward b (t .cvt)) p (leave-not-first n2 h);
+    number = h .fits .number .0;
+    before = leave-before n2 h;
+  }
 
   -- so a train is on the track
-  not-empty : (z p : ℕ) (t : Track) → Onward z p t → T (not (anyTrain (c .posts - 1) (t .trains))) → ⊥
+  not-empty : (z p : ℕ) (t : Track) → Onward z p t → T (not (anyOf isTrain (c .posts - 1) (t .trains))) → ⊥
   not-empty z p t w hy =
       let r<n : rankOn c b (t .cvt) p < c .posts = rank-lt (c .posts) (upward b (t .cvt)) p (w .below) in
-      let i<n : suc (blockBefore c (siteOn v b p t)) < c .posts =
+      let i<n : suc (blockBefore c (siteOn b p t)) < c .posts =
       block-lt (c .posts) (upward b (t .cvt)) (rankOn c b (t .cvt) p - 1) (omega (arith, w .not-first)) in
       let e0 : trainAt c b (t .cvt) (t .trains) (rankOn c b (t .cvt) p - 1) ≡ 0 =
-      any-zero (c .posts - 1) (t .trains) hy (blockBefore c (siteOn v b p t)) (omega arith) in
-      let ez : trainAt c b (t .cvt) (t .trains) (rankOn c b (t .cvt) p - 1) ≡ z =
-      eqb→eq (trainAt c b (t .cvt) (t .trains) (rankOn c b (t .cvt) p - 1)) z (w .before) in
-      omega (arith, w .number)
+      any-zero (c .posts - 1) (t .trains) hy (blockBefore c (siteOn b p t)) (omega arith) in
+      omega (arith, w .number, w .before)
 
   -- a block section that is not ahead of p stays empty, and keeps its last train
   abbrev NotAhead : ℕ → Track → ℕ → Type 0
-  NotAhead p t i = T (not (isLast (c .posts) (upward b (t .cvt)) p)) → i ≢ blockAhead c (siteOn v b p t)
+  NotAhead p t i = T (not (isLast (c .posts) (upward b (t .cvt)) p)) → i ≢ blockAhead c (siteOn b p t)
 
   stays-empty : (m : Motion) (z p : ℕ) (t : Track) (i : ℕ) → T (onward m) → NotAhead p t i
-      → Passes c v b p (runs m z) t → getD (t .trains) i 0 ≡ 0 → getD (trainsOf m z p t) i 0 ≡ 0
-  unfolding checks trackAfter effect flat trainsAfter
+      → AcceptedOn c v b p (runs m z) t → getD (t .trains) i 0 ≡ 0 → getD (trainsOf m z p t) i 0 ≡ 0
+  unfolding checks trackAfter effect flat cellsAfter
   stays-empty start z p t i o ne h e = absurd o
   stays-empty pass z p t i o ne h e =
-      getD-set-other (set (t .trains) (blockBefore c (siteOn v b p t)) 0) (blockAhead c (siteOn v b p t)) i z 0
-      (ne (nor-r (atSendingEnd c (siteOn v b p t)) (atReceivingEnd c (siteOn v b p t)) (h .held .0)))
-      ∙ set-zero (t .trains) (blockBefore c (siteOn v b p t)) i e
-  stays-empty leave z p t i o ne h e = set-zero (t .trains) (blockBefore c (siteOn v b p t)) i e
+      getD-set-other (set (t .trains) (blockBefore c (siteOn b p t)) 0) (blockAhead c (siteOn b p t)) i z 0
+      (ne (pass-held h .not-last))
+      ∙ set-zero (t .trains) (blockBefore c (siteOn b p t)) i e
+  stays-empty leave z p t i o ne h e = set-zero (t .trains) (blockBefore c (siteOn b p t)) i e
 
   stays-last : (m : Motion) (z p : ℕ) (t : Track) (i : ℕ) → T (onward m) → NotAhead p t i
-      → Passes c v b p (runs m z) t → getD (t .last) i 0 ≡ getD (lastOf m z p t) i 0
-  unfolding checks trackAfter effect flat lastAfter
+      → AcceptedOn c v b p (runs m z) t → getD (t .last) i 0 ≡ getD (lastOf m z p t) i 0
+  unfolding checks trackAfter effect flat cellsAfter
   stays-last start z p t i o ne h = absurd o
   stays-last pass z p t i o ne h =
-      sym (getD-set-other (t .last) (blockAhead c (siteOn v b p t)) i z 0
-      (ne (nor-r (atSendingEnd c (siteOn v b p t)) (atReceivingEnd c (siteOn v b p t)) (h .held .0))))
+      sym (getD-set-other (t .last) (blockAhead c (siteOn b p t)) i z 0
+      (ne (pass-held h .not-last)))
   stays-last leave z p t i o ne h = refl
 
   -- what a step that moves no train leaves as it was
-  pub still-trains : (l : View) (q : ℕ) (t : Track) → T (still l) → moved c v b q l t .trains ≡ t .trains
-  unfolding trackAfter trainsAfter
-  still-trains l q t i = rw (still-train c q l (siteOn v b q t) i) refl
+  pub trains-unmoved : (l : View) (q : ℕ) (t : Track) → T (movesNoTrain l) → trackAfterStep c b q l t .trains ≡ t .trains
+  unfolding trackAfter cellsAfter
+  trains-unmoved l q t i = rw (no-movement c q l (siteOn b q t) i) refl
 
-  still-last : (l : View) (q : ℕ) (t : Track) → T (still l) → moved c v b q l t .last ≡ t .last
-  unfolding trackAfter lastAfter
-  still-last l q t i = rw (still-train c q l (siteOn v b q t) i) refl
+  last-unmoved : (l : View) (q : ℕ) (t : Track) → T (movesNoTrain l) → trackAfterStep c b q l t .last ≡ t .last
+  unfolding trackAfter cellsAfter
+  last-unmoved l q t i = rw (no-movement c q l (siteOn b q t) i) refl
 
-  still-with : (l : View) (q : ℕ) (t : Track) (trains last : List ℕ) → T (still l)
-      → moved c v b q l (withTrains t trains last) ≡ withTrains (moved c v b q l t) trains last
-  unfolding trackAfter trainsAfter lastAfter
-  still-with l q t trains last i = rw (still-train c q l (siteOn v b q t) i) refl
+  unmoved-with : (l : View) (q : ℕ) (t : Track) (trains last : List ℕ) → T (movesNoTrain l)
+      → trackAfterStep c b q l (withTrains t trains last) ≡ withTrains (trackAfterStep c b q l t) trains last
+  unfolding trackAfter cellsAfter
+  unmoved-with l q t trains last i = rw (no-movement c q l (siteOn b q t) i) refl
 
-  module _ (n2 : 2 ≤ c .posts) (q : ℕ) (l : View) (p : ℕ) (m : Motion) (z : ℕ) (t : Track) (o : T (onward m)) (i : T (still l)) (apart : q ≢ p) where
-    elsewhere : q < c .posts → p < c .posts → T (not (isLast (c .posts) (upward b (t .cvt)) q)) → NotAhead p t (blockAhead c (siteOn v b q t))
+  module _ (n2 : 2 ≤ c .posts) (q : ℕ) (l : View) (p : ℕ) (m : Motion) (z : ℕ) (t : Track) (o : T (onward m)) (i : T (movesNoTrain l)) (apart : q ≢ p) where
+    elsewhere : q < c .posts → p < c .posts → T (not (isLast (c .posts) (upward b (t .cvt)) q)) → NotAhead p t (blockAhead c (siteOn b q t))
     elsewhere q<n p<n u w e =
         apart (rank-inj (c .posts) (upward b (t .cvt)) q p q<n p<n
         (block-inj (c .posts) (upward b (t .cvt)) (rankOn c b (t .cvt) q) (rankOn c b (t .cvt) p)
         (not-last-rank (c .posts) (upward b (t .cvt)) q q<n u) (not-last-rank (c .posts) (upward b (t .cvt)) p p<n w) e))
 
-    watched-less : (last : Bool) → isLast (c .posts) (upward b (t .cvt)) q ≡ last → q < c .posts → Passes c v b p (runs m z) t
-        → T (not (not last && not (eqb (getD (t .trains) (blockAhead c (siteOn v b q t)) 0) 0)))
-        → T (not (not last && not (eqb (getD (trainsOf m z p t) (blockAhead c (siteOn v b q t)) 0) 0)))
+    watched-less : (last : Bool) → isLast (c .posts) (upward b (t .cvt)) q ≡ last → q < c .posts → AcceptedOn c v b p (runs m z) t
+        → T (not (not last && not (eqb (getD (t .trains) (blockAhead c (siteOn b q t)) 0) 0)))
+        → T (not (not last && not (eqb (getD (trainsOf m z p t) (blockAhead c (siteOn b q t)) 0) 0)))
     watched-less true e q<n hx u = tt
     watched-less false e q<n hx u =
-        subst (λ (w : Bool). T (not (not w))) (sym (T-true (eqb (getD (trainsOf m z p t) (blockAhead c (siteOn v b q t)) 0) 0)
-        (eq→eqb (getD (trainsOf m z p t) (blockAhead c (siteOn v b q t)) 0) 0
-        (stays-empty m z p t (blockAhead c (siteOn v b q t)) o (elsewhere q<n (hx .fits .below) (false-T (isLast (c .posts) (upward b (t .cvt)) q) e)) hx
-        (eqb→eq (getD (t .trains) (blockAhead c (siteOn v b q t)) 0) 0 (notnot (eqb (getD (t .trains) (blockAhead c (siteOn v b q t)) 0) 0) u)))))) tt
+        subst (λ (w : Bool). T (not (not w))) (sym (T-true (eqb (getD (trainsOf m z p t) (blockAhead c (siteOn b q t)) 0) 0)
+        (eq→eqb (getD (trainsOf m z p t) (blockAhead c (siteOn b q t)) 0) 0
+        (stays-empty m z p t (blockAhead c (siteOn b q t)) o (elsewhere q<n (hx .fits .below) (false-T (isLast (c .posts) (upward b (t .cvt)) q) e)) hx
+        (eqb→eq (getD (t .trains) (blockAhead c (siteOn b q t)) 0) 0 (notnot (eqb (getD (t .trains) (blockAhead c (siteOn b q t)) 0) 0) u)))))) tt
 
-    onward-light : Passes c v b q l t → Passes c v b p (runs m z) t → Passes c v b q l (withTrains t (trainsOf m z p t) (lastOf m z p t))
+    onward-light : AcceptedOn c v b q l t → AcceptedOn c v b p (runs m z) t → AcceptedOn c v b q l (withTrains t (trainsOf m z p t) (lastOf m z p t))
     unfolding occupancyAt watchedOccupied
-    onward-light hl hx = record {
-      fits = hl .fits;
-      held = fewer-trains l q (siteOn v b q t) (occupancyAt c (siteOn v b q t) (numberOf (flat q l)) (t .trains) (t .last))
-          (occupancyAt c (siteOn v b q t) (numberOf (flat q l)) (trainsOf m z p t) (lastOf m z p t)) i
-          (watched-less (atReceivingEnd c (siteOn v b q t)) refl (hl .fits .below) hx)
-          (λ y. absurd (not-empty z p t (onward-facts n2 m z p t o hx) y))
-          (λ u. rw (entered-is c (siteOn v b q t) (t .last) u, entered-is c (siteOn v b q t) (lastOf m z p t) u)
-          (stays-last m z p t (blockAhead c (siteOn v b q t)) o (elsewhere (hl .fits .below) (hx .fits .below) u) hx)) (hl .held);
-    }
+    onward-light hl hx = fewer-trains l q t (trainsOf m z p t) (lastOf m z p t) i (record {
+      watched = watched-less (atReceivingEnd c (siteOn b q t)) refl (hl .fits .below) hx;
+      anywhere = λ y. absurd (not-empty z p t (onward-facts n2 m z p t o hx) y);
+      last-ahead = λ u. rw (entered-is c (siteOn b q t) (t .last) u, entered-is c (siteOn b q t) (lastOf m z p t) u)
+          (stays-last m z p t (blockAhead c (siteOn b q t)) o (elsewhere (hl .fits .below) (hx .fits .below) u) hx);
+    }) hl
 
-    pub swap-onward : moved c v b q l t .cvt ≡ t .cvt → Passes c v b q l t → Passes c v b p (runs m z) (moved c v b q l t) → Swapped q l p (runs m z) t
+    pub swap-onward : trackAfterStep c b q l t .cvt ≡ t .cvt → AcceptedOn c v b q l t → AcceptedOn c v b p (runs m z) (trackAfterStep c b q l t)
+        → Swapped q l p (runs m z) t
     swap-onward ec hl hx =
-        let x1 : Passes c v b p (runs m z) t = onward-checks m z p (moved c v b q l t) t o ec (still-trains l q t i) hx in
+        let x1 : AcceptedOn c v b p (runs m z) t = onward-checks m z p (trackAfterStep c b q l t) t o ec (trains-unmoved l q t i) hx in
         record {
           x-first = x1;
           l-then = rw (onward-moved m z p t o) (onward-light hl x1);
           same-end =
-              ap (moved c v b q l) (onward-moved m z p t o) ∙ still-with l q t (trainsOf m z p t) (lastOf m z p t) i
-              ∙ ap₂ (withTrains (moved c v b q l t)) (onward-trains m z p t (moved c v b q l t) o (sym ec) (sym (still-trains l q t i)))
-              (onward-last m z p t (moved c v b q l t) o (sym ec) (sym (still-last l q t i)))
-              ∙ sym (onward-moved m z p (moved c v b q l t) o);
-          l-says = ap (λ u. effect c (flat q l) (siteOn v b q u) .said) (onward-moved m z p t o);
+              ap (trackAfterStep c b q l) (onward-moved m z p t o) ∙ unmoved-with l q t (trainsOf m z p t) (lastOf m z p t) i
+              ∙ ap₂ (withTrains (trackAfterStep c b q l t)) (onward-trains m z p t (trackAfterStep c b q l t) o (sym ec) (sym (trains-unmoved l q t i)))
+              (onward-last m z p t (trackAfterStep c b q l t) o (sym ec) (sym (last-unmoved l q t i)))
+              ∙ sym (onward-moved m z p (trackAfterStep c b q l t) o);
+          l-says = ap (λ u. effect c (flat q l) (siteOn b q u) .said) (onward-moved m z p t o);
         }

@@ -1,12 +1,13 @@
--- A train's own steps, as the statement of demand 3 reads them off the bytes, in terms of the step's view.
+-- A train's own steps, as the statement of demand 3 reads them off the bytes, in terms of the step's view: the bytes of a well-formed step give
+-- its kind, track, post and number back, so each test of the statement is a test of the view.
 use Prim.Native.Nat.{ℕ}
 use mathlib.Core.Bool.{Bool, true, false, cond, _&&_, Bool·beq}
 use mathlib.Core.Path.{_≡_, refl, sym, ap, _∙_}
 use mathlib.Core.List.{List}
-use lib.Dec.{T, eqb}
+use lib.Dec.{eqb}
 use Rattle.section.specs.Bytes.{within}
-use Rattle.section.specs.Step.{kindOf, numberOf}
-use Rattle.rules.specs.Demand3.{Taken, kind, post, number, isStepOfTrain, isOfTrain, Run, noteStep}
+use Rattle.section.specs.Step.{isTrainKind, kindOf, numberOf}
+use Rattle.rules.specs.Demand3.{AcceptedStep, kind, post, number, isStepOfTrain, isOfTrain, Run, noteStep}
 use Rattle.rules.proofs.View.{order, setDevice, announce, acknowledge, key, Motion, start, pass, leave, measures, fault}
 use Rattle.rules.proofs.View.{View, walks, runs, notes, releases, flat, post-flat, Seen, shown}
 use Rattle.rules.proofs.Reading.{Says}
@@ -33,30 +34,28 @@ note-kind p pass y rs = refl
 note-kind p leave y rs = refl
 
 -- kinds 5 to 7 are the motions
-train-kind : (p z number : ℕ) (k : View) → (T (within 5 7 (kindOf (flat p k))) → numberOf (flat p k) ≡ number)
-    → (within 5 7 (kindOf (flat p k)) && eqb number z) ≡ ofTrain z k
+train-kind : (p z number : ℕ) (k : View) → numberOf (flat p k) ≡ number → (isTrainKind (kindOf (flat p k)) && eqb number z) ≡ ofTrain z k
 unfolding within kindOf numberOf flat
 train-kind p z number (walks order) e = refl
 train-kind p z number (walks setDevice) e = refl
 train-kind p z number (walks announce) e = refl
 train-kind p z number (walks acknowledge) e = refl
 train-kind p z number (walks key) e = refl
-train-kind p z number (runs start y) e = rw (e tt) refl
-train-kind p z number (runs pass y) e = rw (e tt) refl
-train-kind p z number (runs leave y) e = rw (e tt) refl
+train-kind p z number (runs start y) e = rw e refl
+train-kind p z number (runs pass y) e = rw e refl
+train-kind p z number (runs leave y) e = rw e refl
 train-kind p z number (notes (measures true)) e = refl
 train-kind p z number (notes (measures false)) e = refl
 train-kind p z number (notes (fault true f)) e = refl
 train-kind p z number (notes (fault false f)) e = refl
 train-kind p z number (releases y) e = refl
 
-module _ (n : ℕ) (d : Taken) (x : Seen) (h : Says n (d .bytes) (shown x)) where
+module _ (n : ℕ) (d : AcceptedStep) (x : Seen) (h : Says n (d .bytes) (shown x)) where
   post-said : post d ≡ x .post
   post-said = sym (h .fields .post-is) ∙ post-flat (x .post) (x .kind)
 
   pub own-test : (z : ℕ) → isStepOfTrain z d ≡ ofTrain z (x .kind)
-  own-test z =
-      rw (← h .fields .kind-is) (train-kind (x .post) z (number d) (x .kind) (rw (← h .fields .kind-is) at (h .fields .number-is)))
+  own-test z = rw (← h .fields .kind-is) (train-kind (x .post) z (number d) (x .kind) (h .fields .number-is))
 
   pub train-test : (b : Bool) (z : ℕ) → isOfTrain b z d ≡ (Bool·beq (x .track) b && ofTrain z (x .kind))
   train-test b z = rw (← h .track-is) (ap (λ w. Bool·beq (x .track) b && w) (own-test z))

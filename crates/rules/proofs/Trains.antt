@@ -1,4 +1,5 @@
--- Every accepted step keeps the trains of its track a stretch apart, and the runs in step with the cells.
+-- Every accepted step keeps the trains of its track a stretch apart, and the runs in step with the cells. A start, a pass and a leave move one
+-- train by one block section, by rank; the last set finds the track empty; every other step leaves the trains.
 use Prim.Native.Nat.{ℕ, suc, _-_, _≤_, _<_}
 use mathlib.Core.Bool.{Bool, true, false, cond, not}
 use mathlib.Core.Path.{_≡_, refl, sym, ap, _∙_, subst}
@@ -7,7 +8,7 @@ use mathlib.Core.List.{List}
 use native.Mathlib.Omega.{arith}
 use lib.ListN.{getD, set, length, length-set}
 use lib.Seq.{getD-set-other, getD-set-same}
-use lib.Dec.{T, eqb, eqb→eq}
+use lib.Dec.{T, eqb}
 use Rattle.section.specs.declared.Settings.{Settings}
 use Rattle.section.specs.declared.Act.the-variants as act
 use Rattle.section.specs.declared.Track.{Track}
@@ -16,16 +17,17 @@ use Rattle.section.specs.Numbers.{mostPosts, mostBlocks}
 use Rattle.section.specs.Step.{numberOf}
 use Rattle.section.proofs.Laws.{rank-rank, block-inj, block-lt}
 use Rattle.rules.specs.declared.Site.{Site}
-use Rattle.rules.specs.Site.{siteOn, isTurn, atSendingEnd, atReceivingEnd, stretchEnds, stretchHolds, trainAt, occupancyAt}
-use Rattle.rules.specs.Table.{checks, effect, trainsAfter, trackAfter}
+use Rattle.rules.specs.Site.{siteOn, isTurn, atReceivingEnd, stretchEnds, stretchHolds, trainAt, occupancyAt}
+use Rattle.rules.specs.Table.{checks, effect, cellsAfter, trackAfter}
 use Rattle.rules.specs.Demand3.{Run}
-use Rattle.rules.proofs.Facts.{nor-l, nor-r, nand-r, true-T, T-false, ne→neqb, first-rank, not-first-rank}
-use Rattle.rules.proofs.Facts.{last-rank, not-last-rank, last-not-first, before-is, number-none}
+use Rattle.rules.proofs.Facts.{nand-r, true-T, T-false, ne→neqb, first-rank, not-first-rank}
+use Rattle.rules.proofs.Facts.{last-rank, not-last-rank, number-none}
 use Rattle.rules.proofs.View.{Reversal, order, setDevice, announce, acknowledge, key, start, pass, leave, View, walks, runs, notes, releases}
 use Rattle.rules.proofs.View.{flat}
-use Rattle.rules.proofs.Frame.{still, calm-effect, still-train}
-use Rattle.rules.proofs.Accept.{Passes, moved}
-use Rattle.rules.proofs.Invariant.{Low, NoTrain, last-free}
+use Rattle.rules.proofs.Frame.{movesNoTrain, running-kept, no-movement}
+use Rattle.rules.proofs.Accept.{AcceptedOn, trackAfterStep}
+use Rattle.rules.proofs.Held.{set-held, key-held, start-held, pass-held, leave-held, pass-before, leave-before}
+use Rattle.rules.proofs.Invariant.{ClearedBelow, NoTrain, last-free}
 use Rattle.rules.proofs.Stretches.{TrainEnters, TrainMoves, TrainLeaves, Spaced, FreeFrom, free-from, free-ahead, free-first, enters-spaced}
 use Rattle.rules.proofs.Stretches.{moves-spaced, leaves-spaced, empty-spaced}
 use Rattle.rules.proofs.Runs.{Follows, empty-follows, enters-follows, moves-follows, leaves-follows}
@@ -59,7 +61,7 @@ module _ (c : Settings) (n2 : 2 ≤ c .posts) (n16 : c .posts ≤ mostPosts) whe
 
     module _ (v : Bool) (t : Track) (p : ℕ) (size : length (t .trains) ≡ mostBlocks) where
       abbrev e : Site
-      e = siteOn v b p t
+      e = siteOn b p t
 
       abbrev up : Bool
       up = upward b (t .cvt)
@@ -75,7 +77,7 @@ module _ (c : Settings) (n2 : 2 ≤ c .posts) (n16 : c .posts ≤ mostPosts) whe
       f = trainAt c b (t .cvt) (t .trains)
 
       abbrev Kept : View → Type 0
-      Kept k = TrainsKept (t .cvt) (t .trains) (moved c v b p k t .cvt) (moved c v b p k t .trains) k p
+      Kept k = TrainsKept (t .cvt) (t .trains) (trackAfterStep c b p k t .cvt) (trackAfterStep c b p k t .trains) k p
 
       -- the post whose rank is one more than that of a block section
       post-past : (q : ℕ) → p < c .posts → suc q ≡ r → p ≡ rank (c .posts) up (suc q)
@@ -83,8 +85,8 @@ module _ (c : Settings) (n2 : 2 ≤ c .posts) (n16 : c .posts ≤ mostPosts) whe
 
       -- ## A start
 
-      start-kept : (y : ℕ) → Passes c v b p (runs start y) t → Kept (runs start y)
-      unfolding checks occupancyAt trackAfter effect trainsAfter flat numberOf
+      start-kept : (y : ℕ) → AcceptedOn c v b p (runs start y) t → Kept (runs start y)
+      unfolding checks occupancyAt trackAfter effect cellsAfter flat numberOf
       start-kept y h = record {
         spaced = enters-spaced (c .posts) ends f g y enters free;
         follows = λ z rs nz sp. enters-follows c n2 up f g y z rs nz p at-first enters;
@@ -94,17 +96,18 @@ module _ (c : Settings) (n2 : 2 ≤ c .posts) (n16 : c .posts ≤ mostPosts) whe
           g = trainAt c b (t .cvt) (set (t .trains) (block (c .posts) up r) y)
 
           first : r ≡ 0
-          first = first-rank (c .posts) up p (h .held .1 .0)
+          first = first-rank (c .posts) up p (start-held h .first)
 
           at-first : p ≡ rank (c .posts) up 0
           at-first = sym (ap (rank (c .posts) up) (sym first) ∙ rank-rank (c .posts) up p (h .fits .below))
 
           free : FreeFrom (c .posts) ends f 0
-          free = subst (FreeFrom (c .posts) ends f) first (free-from (c .posts) ends f r (h .held .1 .1 .1 .0))
+          free = subst (FreeFrom (c .posts) ends f) first (free-from (c .posts) ends f r (start-held h .free))
 
           enters : TrainEnters (c .posts) f g y
           enters = record {
-            absent = λ j k. number-none (c .posts - 1) y (t .trains) (h .held .1 .1 .0) (block (c .posts) up j) (omega (arith, block-lt (c .posts) up j k));
+            absent =
+                λ j k. number-none (c .posts - 1) y (t .trains) (start-held h .number-new) (block (c .posts) up j) (omega (arith, block-lt (c .posts) up j k));
             free = free-first (c .posts) ends f 0 (omega arith) free;
             entered = ap g (sym first) ∙ cell-same up (t .trains) r y size (omega (arith, first));
             others = λ j k ne. cell-other up (t .trains) r y j (omega (arith, first)) k (λ x. ne (x ∙ first));
@@ -112,8 +115,8 @@ module _ (c : Settings) (n2 : 2 ≤ c .posts) (n16 : c .posts ≤ mostPosts) whe
 
       -- ## A pass
 
-      pass-kept : (y : ℕ) → Passes c v b p (runs pass y) t → Kept (runs pass y)
-      unfolding checks occupancyAt trackAfter effect trainsAfter flat
+      pass-kept : (y : ℕ) → AcceptedOn c v b p (runs pass y) t → Kept (runs pass y)
+      unfolding checks occupancyAt trackAfter effect cellsAfter flat
       pass-kept y h = record {
         spaced = λ sp. moves-spaced (c .posts) ends f g y q (moves sp) ny (free sp) sp;
         follows = λ z rs nz sp. moves-follows c n2 up f g y z rs nz p q ny (post-past q (h .fits .below) past) (moves sp);
@@ -131,21 +134,18 @@ module _ (c : Settings) (n2 : 2 ≤ c .posts) (n16 : c .posts ≤ mostPosts) whe
           ny : y ≢ 0
           ny x = omega (arith, h .fits .number .0)
 
-          not-sending : T (not (atSendingEnd c e))
-          not-sending = nor-l (atSendingEnd c e) (atReceivingEnd c e) (h .held .0)
-
           past : suc q ≡ r
-          past = omega (arith, not-first-rank (c .posts) up p not-sending)
+          past = omega (arith, not-first-rank (c .posts) up p (pass-held h .not-first))
 
           inside : suc r < c .posts
-          inside = not-last-rank (c .posts) up p (h .fits .below) (nor-r (atSendingEnd c e) (atReceivingEnd c e) (h .held .0))
+          inside = not-last-rank (c .posts) up p (h .fits .below) (pass-held h .not-last)
 
           before : f q ≡ y
-          before = eqb→eq (f q) y (rw (before-is c e (t .trains) not-sending) at (h .held .1 .0))
+          before = pass-before h
 
           -- 13, at a post that begins a stretch
           check : T (ends r) → FreeFrom (c .posts) ends f r
-          check u = free-from (c .posts) ends f r (nand-r (ends r) (stretchHolds ends f (c .posts - suc r) r) u (h .held .1 .1 .0))
+          check u = free-from (c .posts) ends f r (nand-r (ends r) (stretchHolds ends f (c .posts - suc r) r) u (pass-held h .free))
 
           free : SpacedOn (t .cvt) (t .trains) → FreeFrom (c .posts) ends f (suc q)
           free sp =
@@ -166,8 +166,8 @@ module _ (c : Settings) (n2 : 2 ≤ c .posts) (n16 : c .posts ≤ mostPosts) whe
 
       -- ## A leave
 
-      leave-kept : (y : ℕ) → Passes c v b p (runs leave y) t → Kept (runs leave y)
-      unfolding checks occupancyAt trackAfter effect trainsAfter flat
+      leave-kept : (y : ℕ) → AcceptedOn c v b p (runs leave y) t → Kept (runs leave y)
+      unfolding checks occupancyAt trackAfter effect cellsAfter flat
       leave-kept y h = record {
         spaced = leaves-spaced (c .posts) ends f g y q leaves;
         follows = λ z rs nz sp. leaves-follows c n2 up f g y z rs nz p q ny (post-past q (h .fits .below) past) leaves;
@@ -183,7 +183,7 @@ module _ (c : Settings) (n2 : 2 ≤ c .posts) (n16 : c .posts ≤ mostPosts) whe
           ny x = omega (arith, h .fits .number .0)
 
           final : suc r ≡ c .posts
-          final = last-rank (c .posts) up p (h .held .0)
+          final = last-rank (c .posts) up p (leave-held h .last)
 
           past : suc q ≡ r
           past = omega (arith, final)
@@ -191,7 +191,7 @@ module _ (c : Settings) (n2 : 2 ≤ c .posts) (n16 : c .posts ≤ mostPosts) whe
           leaves : TrainLeaves (c .posts) f g y q
           leaves = record {
             final = omega (arith, final, past);
-            before = eqb→eq (f q) y (rw (before-is c e (t .trains) (last-not-first (c .posts) up p n2 (h .held .0))) at (h .held .1 .0));
+            before = leave-before n2 h;
             vacated = cell-same up (t .trains) q 0 size (omega (arith, final, past));
             others = λ j k n. cell-other up (t .trains) q 0 j (omega (arith, final, past)) k n;
           }
@@ -201,48 +201,48 @@ module _ (c : Settings) (n2 : 2 ≤ c .posts) (n16 : c .posts ≤ mostPosts) whe
       empty-cells : NoTrain c t → (cvt : Bool) (j : ℕ) → suc j < c .posts → trainAt c b cvt (t .trains) j ≡ 0
       empty-cells h cvt j k = h (block (c .posts) (upward b cvt) j) (block-lt (c .posts) (upward b cvt) j k)
 
-      set-kept : (w : Reversal) (last : Bool) → atReceivingEnd c e ≡ last → T (isTurn (t .walk) p act.Set) → Low c b (t .cvt) (t .walk) (t .trains)
+      set-kept : (w : Reversal) (last : Bool) → atReceivingEnd c e ≡ last → T (isTurn (t .walk) p act.Set) → ClearedBelow c b (t .cvt) (t .walk) (t .trains)
           → TrainsKept (t .cvt) (t .trains) (cond last (not (t .cvt)) (t .cvt)) (t .trains) (walks w) p
-      set-kept w true q hw low = record {
+      set-kept w true q hw clear = record {
         spaced = λ sp. empty-spaced (c .posts) (stretchEnds c b (not (t .cvt))) (trainAt c b (not (t .cvt)) (t .trains)) (empty (not (t .cvt)));
         follows = λ z rs nz sp h.
             empty-follows c n2 up (upward b (not (t .cvt))) f (trainAt c b (not (t .cvt)) (t .trains)) z rs nz (empty (t .cvt)) (empty (not (t .cvt))) h;
       }
         where
           empty : (cvt : Bool) (j : ℕ) → suc j < c .posts → trainAt c b cvt (t .trains) j ≡ 0
-          empty = empty-cells (last-free c b t p (true-T (atReceivingEnd c e) q) hw low)
-      set-kept w false q hw low = record { spaced = λ sp. sp; follows = λ z rs nz sp h. h }
+          empty = empty-cells (last-free c b t p (true-T (atReceivingEnd c e) q) hw clear)
+      set-kept w false q hw clear = record { spaced = λ sp. sp; follows = λ z rs nz sp h. h }
 
-      still-other : (z : ℕ) (k : View) → T (still k) → ofTrain z k ≡ false
-      still-other z (walks w) i = refl
-      still-other z (runs m y) i = absurd i
-      still-other z (notes k) i = refl
-      still-other z (releases y) i = refl
+      unmoved-other : (z : ℕ) (k : View) → T (movesNoTrain k) → ofTrain z k ≡ false
+      unmoved-other z (walks w) i = refl
+      unmoved-other z (runs m y) i = absurd i
+      unmoved-other z (notes k) i = refl
+      unmoved-other z (releases y) i = refl
 
-      still-kept : (k : View) → T (still k) → effect c (flat p k) e .cvt ≡ t .cvt → Kept k
-      unfolding trackAfter trainsAfter
-      still-kept k i q = record {
-        spaced = λ sp. rw (q, still-train c p k e i) sp;
-        follows = λ z rs nz sp h. rw (still-other z k i, q, still-train c p k e i) h;
+      unmoved-kept : (k : View) → T (movesNoTrain k) → effect c (flat p k) e .cvt ≡ t .cvt → Kept k
+      unfolding trackAfter cellsAfter
+      unmoved-kept k i q = record {
+        spaced = λ sp. rw (q, no-movement c p k e i) sp;
+        follows = λ z rs nz sp h. rw (unmoved-other z k i, q, no-movement c p k e i) h;
       }
 
       -- ## The whole
 
-      pub trains-kept : (k : View) → Passes c v b p k t → Low c b (t .cvt) (t .walk) (t .trains) → Kept k
-      unfolding checks trackAfter effect trainsAfter flat
-      trains-kept (walks order) h low = still-kept (walks order) tt refl
-      trains-kept (walks setDevice) h low = set-kept setDevice (atReceivingEnd c e) refl (h .held .0) low
-      trains-kept (walks announce) h low = still-kept (walks announce) tt refl
-      trains-kept (walks acknowledge) h low = still-kept (walks acknowledge) tt refl
-      trains-kept (walks key) h low = set-kept key (atReceivingEnd c e) refl (h .held .0) low
-      trains-kept (runs start y) h low = start-kept y h
-      trains-kept (runs pass y) h low = pass-kept y h
-      trains-kept (runs leave y) h low = leave-kept y h
-      trains-kept (notes k) h low = still-kept (notes k) tt (calm-effect c p (notes k) e tt .cvt)
-      trains-kept (releases y) h low = still-kept (releases y) tt refl
+      pub trains-kept : (k : View) → AcceptedOn c v b p k t → ClearedBelow c b (t .cvt) (t .walk) (t .trains) → Kept k
+      unfolding checks trackAfter effect cellsAfter flat
+      trains-kept (walks order) h clear = unmoved-kept (walks order) tt refl
+      trains-kept (walks setDevice) h clear = set-kept setDevice (atReceivingEnd c e) refl (set-held h .in-turn) clear
+      trains-kept (walks announce) h clear = unmoved-kept (walks announce) tt refl
+      trains-kept (walks acknowledge) h clear = unmoved-kept (walks acknowledge) tt refl
+      trains-kept (walks key) h clear = set-kept key (atReceivingEnd c e) refl (key-held h .in-turn) clear
+      trains-kept (runs start y) h clear = start-kept y h
+      trains-kept (runs pass y) h clear = pass-kept y h
+      trains-kept (runs leave y) h clear = leave-kept y h
+      trains-kept (notes k) h clear = unmoved-kept (notes k) tt (running-kept c p (notes k) e tt .cvt)
+      trains-kept (releases y) h clear = unmoved-kept (releases y) tt refl
 
       -- no train has the number 0
-      pub no-zero : (k : View) → Passes c v b p k t → ofTrain 0 k ≡ false
+      pub no-zero : (k : View) → AcceptedOn c v b p k t → ofTrain 0 k ≡ false
       no-zero (walks w) h = refl
       no-zero (runs m y) h = T-false (eqb y 0) (ne→neqb y 0 (omega (arith, h .fits .number .0)))
       no-zero (notes k) h = refl

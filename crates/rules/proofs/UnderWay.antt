@@ -1,4 +1,5 @@
--- A reversal is under way, over the accepted steps, where the walk says so. What is kept names the last post of the reversal too.
+-- A reversal is under way, over the accepted steps, where the walk says so. What is kept names the last post of the reversal too: an order notes
+-- the far end, and the set or key there, and no other, ends it.
 use Prim.Native.Nat.{ℕ, suc, _-_, _≤_, _<_}
 use mathlib.Core.Bool.{Bool, true, false, cond, not, _||_, Bool·beq}
 use mathlib.Core.Path.{_≡_, refl, sym, ap, ap₂, _∙_}
@@ -6,6 +7,7 @@ use mathlib.Core.List.{List, [], _∷_, _++_}
 use mathlib.Core.Option.{Option, none, some}
 use native.Mathlib.Omega.{arith}
 use lib.Dec.{T, eqb}
+use Rattle.section.specs.Numbers.{orderKind, setKind, keyKind}
 use Rattle.section.specs.declared.Settings.{Settings}
 use Rattle.section.specs.declared.Act.{Act}
 use Rattle.section.specs.declared.Act.the-variants as act
@@ -20,15 +22,16 @@ use Rattle.section.specs.Store.{trackOf}
 use Rattle.section.proofs.Laws.{rank-rank}
 use Rattle.rules.specs.Site.{isSettled, isTurn, siteOn, otherSettledOnVns, atReceivingEnd}
 use Rattle.rules.specs.Table.{checks, effect, trackAfter}
-use Rattle.rules.specs.Demand3.{Taken, track, post, kind, keep, otherEnd, endsAt, noteReversal, reversalFrom, runs?, underWay}
+use Rattle.rules.specs.Demand3.{AcceptedStep, track, post, kind, isOnTrack, keep, otherEnd, endsAt, noteReversal, reversalFrom, runs?, underWay}
 use Rattle.rules.proofs.Facts.{T-true, T-false, true-T, false-T, eq→eqb, ne→neqb, by-track, beq-same, beq-other}
 use Rattle.rules.proofs.Facts.{first-rank, last-rank, not-last-rank}
 use Rattle.rules.proofs.View.{order, setDevice, announce, acknowledge, key, start, pass, leave, measures, fault, View, walks, runs, notes}
 use Rattle.rules.proofs.View.{releases, flat, post-flat, Seen, shown}
 use Rattle.rules.proofs.Reading.{Says}
-use Rattle.rules.proofs.Frame.{is-turn, calm}
-use Rattle.rules.proofs.Accept.{Passes, moved, Ok, next}
-use Rattle.rules.proofs.Exchange.{here-after, there-after, calm-walk, calm-cvt}
+use Rattle.rules.proofs.Frame.{is-turn, keepsRunning}
+use Rattle.rules.proofs.Accept.{AcceptedOn, trackAfterStep, AcceptedIn, sectionAfterStep}
+use Rattle.rules.proofs.Held.{order-held, set-held, key-held, announce-held, acknowledge-held}
+use Rattle.rules.proofs.Exchange.{here-after, there-after, walk-kept, cvt-kept}
 use Rattle.rules.proofs.Lists.{keep-append}
 
 -- ## The ends
@@ -52,13 +55,13 @@ is-far-post n up p p<n false e =
 
 -- ## One more step
 
-reversal-append : (n : ℕ) (r : Option ℕ) (a b : List Taken) → reversalFrom n r (a ++ b) ≡ reversalFrom n (reversalFrom n r a) b
+reversal-append : (n : ℕ) (r : Option ℕ) (a b : List AcceptedStep) → reversalFrom n r (a ++ b) ≡ reversalFrom n (reversalFrom n r a) b
 reversal-append n r [] b = refl
 reversal-append n r (d ∷ a) b = reversal-append n (noteReversal n d r) a b
 
 -- a step's kind and post, noted
 abbrev noteAt : ℕ → ℕ → ℕ → Option ℕ → Option ℕ
-noteAt n k p r = cond (eqb k 1) (some (otherEnd n p)) (cond (eqb k 2 || eqb k 13) (endsAt p r) r)
+noteAt n k p r = cond (eqb k orderKind) (some (otherEnd n p)) (cond (eqb k setKind || eqb k keyKind) (endsAt p r) r)
 
 module _ (c : Settings) where
   -- the last post of the reversal that runs by the walk
@@ -66,11 +69,11 @@ module _ (c : Settings) where
   lastPost b cvt Settled = none
   lastPost b cvt (Turn p a) = some (rank (c .posts) (upward b cvt) (c .posts - 1))
 
-  abbrev pub reversalOn : Bool → List Taken → Option ℕ
-  reversalOn b ds = reversalFrom (c .posts) none (keep (λ (d : Taken). Bool·beq (track d) b) ds)
+  abbrev pub reversalOn : Bool → List AcceptedStep → Option ℕ
+  reversalOn b ds = reversalFrom (c .posts) none (keep (isOnTrack b) ds)
 
   -- the accepted steps and the section agree on what is under way
-  abbrev pub Agrees : Section → List Taken → Type 0
+  abbrev pub Agrees : Section → List AcceptedStep → Type 0
   Agrees s ds = (b : Bool) → reversalOn b ds ≡ lastPost b (trackOf s b .cvt) (trackOf s b .walk)
 
   -- ## An accepted step on its own track
@@ -87,53 +90,55 @@ module _ (c : Settings) where
     turn-last : (a : Act) (w : Walk) → T (isTurn w p a) → lastPost b (t .cvt) w ≡ some far
     turn-last a w h = rw (is-turn w p a h) refl
 
-    calm-noted : (k : View) → T (calm k) → noteAt (c .posts) (kindOf (flat p k)) p (lastPost b (t .cvt) (t .walk)) ≡ lastPost b (t .cvt) (t .walk)
+    running-noted : (k : View) → T (keepsRunning k) → noteAt (c .posts) (kindOf (flat p k)) p (lastPost b (t .cvt) (t .walk)) ≡ lastPost b (t .cvt) (t .walk)
     unfolding flat kindOf
-    calm-noted (walks r) i = absurd i
-    calm-noted (runs start z) i = refl
-    calm-noted (runs pass z) i = refl
-    calm-noted (runs leave z) i = refl
-    calm-noted (notes (measures true)) i = refl
-    calm-noted (notes (measures false)) i = refl
-    calm-noted (notes (fault true f)) i = refl
-    calm-noted (notes (fault false f)) i = refl
-    calm-noted (releases z) i = refl
+    running-noted (walks r) i = absurd i
+    running-noted (runs start z) i = refl
+    running-noted (runs pass z) i = refl
+    running-noted (runs leave z) i = refl
+    running-noted (notes (measures true)) i = refl
+    running-noted (notes (measures false)) i = refl
+    running-noted (notes (fault true f)) i = refl
+    running-noted (notes (fault false f)) i = refl
+    running-noted (releases z) i = refl
 
-    calm-kept : (k : View) → T (calm k)
-        → noteAt (c .posts) (kindOf (flat p k)) p (lastPost b (t .cvt) (t .walk)) ≡ lastPost b (moved c v b p k t .cvt) (moved c v b p k t .walk)
-    calm-kept k i = rw (calm-cvt c v b p k t i, calm-walk c v b p k t i) (calm-noted k i)
+    running-agrees : (k : View) → T (keepsRunning k)
+        → noteAt (c .posts) (kindOf (flat p k)) p (lastPost b (t .cvt) (t .walk)) ≡ lastPost b (trackAfterStep c b p k t .cvt) (trackAfterStep c b p k t .walk)
+    running-agrees k i = rw (cvt-kept c b p k t i, walk-kept c b p k t i) (running-noted k i)
 
-    noted : (k : View) → Passes c v b p k t
-        → noteAt (c .posts) (kindOf (flat p k)) p (lastPost b (t .cvt) (t .walk)) ≡ lastPost b (moved c v b p k t .cvt) (moved c v b p k t .walk)
+    noted : (k : View) → AcceptedOn c v b p k t
+        → noteAt (c .posts) (kindOf (flat p k)) p (lastPost b (t .cvt) (t .walk)) ≡ lastPost b (trackAfterStep c b p k t .cvt) (trackAfterStep c b p k t .walk)
     unfolding checks trackAfter effect flat kindOf
     noted (walks order) h =
-        ap some (far-post (c .posts) (upward b (t .cvt)) p n2 (h .fits .below) (first-rank (c .posts) (upward b (t .cvt)) p (h .held .1 .0)))
-    noted (walks setDevice) h = ap (endsAt p) (turn-last act.Set (t .walk) (h .held .0)) ∙ set-noted (atReceivingEnd c (siteOn v b p t)) refl (h .fits .below)
-    noted (walks announce) h = turn-last act.Announce (t .walk) (h .held .0)
-    noted (walks acknowledge) h = turn-last act.Acknowledge (t .walk) (h .held .0)
-    noted (walks key) h = ap (endsAt p) (turn-last act.Set (t .walk) (h .held .0)) ∙ set-noted (atReceivingEnd c (siteOn v b p t)) refl (h .fits .below)
-    noted (runs m z) h = calm-kept (runs m z) tt
-    noted (notes k) h = calm-kept (notes k) tt
-    noted (releases z) h = calm-kept (releases z) tt
+        ap some (far-post (c .posts) (upward b (t .cvt)) p n2 (h .fits .below) (first-rank (c .posts) (upward b (t .cvt)) p (order-held h .first)))
+    noted (walks setDevice) h =
+        ap (endsAt p) (turn-last act.Set (t .walk) (set-held h .in-turn)) ∙ set-noted (atReceivingEnd c (siteOn b p t)) refl (h .fits .below)
+    noted (walks announce) h = turn-last act.Announce (t .walk) (announce-held h .in-turn)
+    noted (walks acknowledge) h = turn-last act.Acknowledge (t .walk) (acknowledge-held h .in-turn)
+    noted (walks key) h = ap (endsAt p) (turn-last act.Set (t .walk) (key-held h .in-turn)) ∙ set-noted (atReceivingEnd c (siteOn b p t)) refl (h .fits .below)
+    noted (runs m z) h = running-agrees (runs m z) tt
+    noted (notes k) h = running-agrees (notes k) tt
+    noted (releases z) h = running-agrees (releases z) tt
 
   -- ## The section
 
-  reversal-one : (w : Bool) (d : Taken) (r : Option ℕ) → reversalFrom (c .posts) r (cond w (d ∷ []) []) ≡ cond w (noteReversal (c .posts) d r) r
+  reversal-one : (w : Bool) (d : AcceptedStep) (r : Option ℕ) → reversalFrom (c .posts) r (cond w (d ∷ []) []) ≡ cond w (noteReversal (c .posts) d r) r
   reversal-one true d r = refl
   reversal-one false d r = refl
 
-  reversal-last : (b : Bool) (ds : List Taken) (d : Taken)
+  reversal-last : (b : Bool) (ds : List AcceptedStep) (d : AcceptedStep)
       → reversalOn b (ds ++ d ∷ []) ≡ cond (Bool·beq (track d) b) (noteReversal (c .posts) d (reversalOn b ds)) (reversalOn b ds)
   reversal-last b ds d =
-      ap (reversalFrom (c .posts) none) (keep-append (λ (d : Taken). Bool·beq (track d) b) ds (d ∷ []))
-      ∙ reversal-append (c .posts) none (keep (λ (d : Taken). Bool·beq (track d) b) ds) (keep (λ (d : Taken). Bool·beq (track d) b) (d ∷ []))
+      ap (reversalFrom (c .posts) none) (keep-append (isOnTrack b) ds (d ∷ []))
+      ∙ reversal-append (c .posts) none (keep (isOnTrack b) ds) (keep (isOnTrack b) (d ∷ []))
       ∙ reversal-one (Bool·beq (track d) b) d (reversalOn b ds)
 
-  pub agrees-kept : 2 ≤ c .posts → (s : Section) (ds : List Taken) (d : Taken) (x : Seen) → Says (c .posts) (d .bytes) (shown x) → Ok c s x
-      → Agrees s ds → Agrees (next c s x) (ds ++ d ∷ [])
-  unfolding Ok
+  pub agrees-kept : 2 ≤ c .posts → (s : Section) (ds : List AcceptedStep) (d : AcceptedStep) (x : Seen) → Says (c .posts) (d .bytes) (shown x)
+      → AcceptedIn c s x
+      → Agrees s ds → Agrees (sectionAfterStep c s x) (ds ++ d ∷ [])
+  unfolding AcceptedIn
   agrees-kept n2 s ds d x h ok a =
-      by-track (λ b. reversalOn b (ds ++ d ∷ []) ≡ lastPost b (trackOf (next c s x) b .cvt) (trackOf (next c s x) b .walk)) (x .track)
+      by-track (λ b. reversalOn b (ds ++ d ∷ []) ≡ lastPost b (trackOf (sectionAfterStep c s x) b .cvt) (trackOf (sectionAfterStep c s x) b .walk)) (x .track)
       (reversal-last (x .track) ds d ∙ whether (x .track) (beq-same (x .track)) ∙ ap (λ r. noteReversal (c .posts) d r) (a (x .track))
       ∙ ap₂ (λ k p. noteAt (c .posts) k p (lastPost (x .track) (trackOf s (x .track) .cvt) (trackOf s (x .track) .walk))) (sym (h .fields .kind-is))
       (sym (h .fields .post-is) ∙ post-flat (x .post) (x .kind))
@@ -155,7 +160,7 @@ module _ (c : Settings) where
 
   -- ## Under way
 
-  pub under-way : (s : Section) (ds : List Taken) → Agrees s ds → (b : Bool) → underWay (c .posts) b ds ≡ not (isSettled (trackOf s b .walk))
+  pub under-way : (s : Section) (ds : List AcceptedStep) → Agrees s ds → (b : Bool) → underWay (c .posts) b ds ≡ not (isSettled (trackOf s b .walk))
   unfolding underWay
   under-way s ds a b = ap runs? (a b) ∙ go (trackOf s b .walk)
     where

@@ -15,9 +15,11 @@ use Rattle.section.specs.declared.Verdict.{Verdict}
 use Rattle.section.specs.declared.Verdict.the-variants.{Accepted, Refused}
 use Rattle.section.specs.declared.Track.{Track}
 use Rattle.section.specs.declared.Section.{Section}
-use Rattle.section.specs.Bytes.{byte, pair, within}
+use Rattle.section.specs.Bytes.{byte, le16}
 use Rattle.section.specs.Fresh.{freshSection}
 use Rattle.section.specs.Geometry.{upward, rank}
+use Rattle.section.specs.Numbers.{orderKind, setKind, startKind, passKind, keyKind}
+use Rattle.section.specs.Step.{isTrainKind}
 use Rattle.section.specs.Store.{trackOf, postOn}
 use Rattle.rules.specs.Judge.{judge}
 use Rattle.rules.specs.Site.{isSettled}
@@ -30,44 +32,48 @@ stateAfter s [] = s
 stateAfter s (bytes ∷ offered) = stateAfter (judge s bytes .section) offered
 
 -- an accepted step: the bytes offered, and what was said
-pub record Taken : Type 0 where
+pub record AcceptedStep : Type 0 where
   pub bytes : List ℕ
   pub said : Said
 
 -- by the answer alone
-abbrev pub taken : List ℕ → Verdict → List Taken
-taken bytes (Accepted said) = record { bytes = bytes; said = said } ∷ []
-taken bytes (Refused k) = []
+abbrev pub acceptedOf : List ℕ → Verdict → List AcceptedStep
+acceptedOf bytes (Accepted said) = record { bytes = bytes; said = said } ∷ []
+acceptedOf bytes (Refused k) = []
 
-unfoldable pub acceptedSteps : Section → List (List ℕ) → List Taken
+unfoldable pub acceptedSteps : Section → List (List ℕ) → List AcceptedStep
 acceptedSteps s [] = []
-acceptedSteps s (bytes ∷ offered) = taken bytes (judge s bytes .verdict) ++ acceptedSteps (judge s bytes .section) offered
+acceptedSteps s (bytes ∷ offered) = acceptedOf bytes (judge s bytes .verdict) ++ acceptedSteps (judge s bytes .section) offered
 
 -- ## What the bytes of a step say: its kind, its track (true for B), its post and its number
 
-abbrev pub kind : Taken → ℕ
+abbrev pub kind : AcceptedStep → ℕ
 kind d = byte (d .bytes) 0
 
-abbrev pub track : Taken → Bool
+abbrev pub track : AcceptedStep → Bool
 track d = eqb (byte (d .bytes) 1) 1
 
-abbrev pub post : Taken → ℕ
+abbrev pub post : AcceptedStep → ℕ
 post d = byte (d .bytes) 2
 
-abbrev pub number : Taken → ℕ
-number d = pair (byte (d .bytes) 4) (byte (d .bytes) 5)
+abbrev pub number : AcceptedStep → ℕ
+number d = le16 (byte (d .bytes) 4) (byte (d .bytes) 5)
+
+-- on one track
+abbrev pub isOnTrack : Bool → AcceptedStep → Bool
+isOnTrack b d = Bool·beq (track d) b
 
 -- "A train's own steps are its starts, passes and leaves"
-abbrev pub isStepOfTrain : ℕ → Taken → Bool
-isStepOfTrain z d = within 5 7 (kind d) && eqb (number d) z
+abbrev pub isStepOfTrain : ℕ → AcceptedStep → Bool
+isStepOfTrain z d = isTrainKind (kind d) && eqb (number d) z
 
 -- those on one track
-abbrev pub isOfTrain : Bool → ℕ → Taken → Bool
-isOfTrain b z d = Bool·beq (track d) b && isStepOfTrain z d
+abbrev pub isOfTrain : Bool → ℕ → AcceptedStep → Bool
+isOfTrain b z d = isOnTrack b d && isStepOfTrain z d
 
 -- "every step, these too, is its post's own": on one track
-abbrev pub isOfPost : Bool → ℕ → Taken → Bool
-isOfPost b p d = Bool·beq (track d) b && eqb (post d) p
+abbrev pub isOfPost : Bool → ℕ → AcceptedStep → Bool
+isOfPost b p d = isOnTrack b d && eqb (post d) p
 
 -- an announcement: something is said
 abbrev pub isSpoken : Said → Bool
@@ -77,7 +83,7 @@ isSpoken Cvtz = true
 isSpoken Vns = true
 isSpoken Vnsz = true
 
-abbrev pub isAnnouncement : Taken → Bool
+abbrev pub isAnnouncement : AcceptedStep → Bool
 isAnnouncement d = isSpoken (d .said)
 
 -- ## Lists
@@ -115,16 +121,16 @@ latest f (r ∷ earlier) = f r ∷ earlier
 -- a step of the train, noted in its runs, the latest first: kind 5 starts one, 6 passes, 7 leaves
 abbrev pub noteStep : ℕ → ℕ → List Run → List Run
 noteStep k p runs =
-    cond (eqb k 5) (record { from = p; passed = []; left = none } ∷ runs)
-    (cond (eqb k 6) (latest (λ r. notePass p (r .left) r) runs)
+    cond (eqb k startKind) (record { from = p; passed = []; left = none } ∷ runs)
+    (cond (eqb k passKind) (latest (λ r. notePass p (r .left) r) runs)
     (latest (λ r. noteLeave p (r .left) r) runs))
 
-abbrev pub runsFrom : List Run → List Taken → List Run
+abbrev pub runsFrom : List Run → List AcceptedStep → List Run
 runsFrom runs [] = runs
 runsFrom runs (d ∷ ds) = runsFrom (noteStep (kind d) (post d) runs) ds
 
 -- the runs of the train z on a track, the latest first
-unfoldable pub runsOf : Bool → ℕ → List Taken → List Run
+unfoldable pub runsOf : Bool → ℕ → List AcceptedStep → List Run
 runsOf b z ds = runsFrom [] (keep (isOfTrain b z) ds)
 
 abbrev pub hasEnded : Option ℕ → Bool
@@ -148,12 +154,12 @@ abbrev pub endsAt : ℕ → Option ℕ → Option ℕ
 endsAt p none = none
 endsAt p (some q) = cond (eqb p q) none (some q)
 
-abbrev pub noteReversal : ℕ → Taken → Option ℕ → Option ℕ
+abbrev pub noteReversal : ℕ → AcceptedStep → Option ℕ → Option ℕ
 noteReversal n d r =
-    cond (eqb (kind d) 1) (some (otherEnd n (post d)))
-    (cond (eqb (kind d) 2 || eqb (kind d) 13) (endsAt (post d) r) r)
+    cond (eqb (kind d) orderKind) (some (otherEnd n (post d)))
+    (cond (eqb (kind d) setKind || eqb (kind d) keyKind) (endsAt (post d) r) r)
 
-abbrev pub reversalFrom : ℕ → Option ℕ → List Taken → Option ℕ
+abbrev pub reversalFrom : ℕ → Option ℕ → List AcceptedStep → Option ℕ
 reversalFrom n r [] = r
 reversalFrom n r (d ∷ ds) = reversalFrom n (noteReversal n d r) ds
 
@@ -162,8 +168,8 @@ runs? none = false
 runs? (some p) = true
 
 -- a reversal is under way on the track after these accepted steps
-unfoldable pub underWay : ℕ → Bool → List Taken → Bool
-underWay n b ds = runs? (reversalFrom n none (keep (λ (d : Taken). Bool·beq (track d) b) ds))
+unfoldable pub underWay : ℕ → Bool → List AcceptedStep → Bool
+underWay n b ds = runs? (reversalFrom n none (keep (isOnTrack b) ds))
 
 module _ (c : Settings) where
   -- ## Between the posts
@@ -186,7 +192,7 @@ module _ (c : Settings) where
     pub only : (i : ℕ) → suc i < c .posts → getD (t .trains) i 0 ≡ z → i ≡ placeOf (r .from) (length (r .passed))
 
   -- "one without such a train keeps 0": block section i keeps 0, or the number of a train that is there
-  pub record TrainThere (b : Bool) (t : Track) (ds : List Taken) (i : ℕ) : Type 0 where
+  pub record TrainThere (b : Bool) (t : Track) (ds : List AcceptedStep) (i : ℕ) : Type 0 where
     pub train : ℕ
     pub run : Run
     pub earlier : List Run
@@ -218,11 +224,11 @@ module _ (c : Settings) where
   -- "if it has start permission, or if a start with some number, offered there next, would be accepted"
   pub data MayStart (s : Section) (b : Bool) (p : ℕ) : Type 0 where
     permission : p < c .posts → T (postOn (trackOf s b) p .permission) → MayStart s b p
-    start : (d : Taken) → kind d ≡ 5 → track d ≡ b → post d ≡ p → judge s (d .bytes) .verdict ≡ Accepted (d .said) → MayStart s b p
+    start : (d : AcceptedStep) → kind d ≡ startKind → track d ≡ b → post d ≡ p → judge s (d .bytes) .verdict ≡ Accepted (d .said) → MayStart s b p
 
   -- ## The claim for one track
 
-  pub record OnTrack (s : Section) (ds : List Taken) (b : Bool) : Type 0 where
+  pub record OnTrack (s : Section) (ds : List AcceptedStep) (b : Bool) : Type 0 where
     pub fates : (z : ℕ) → All (λ (r : Run). Fate b (trackOf s b) z r (r .left)) (runsOf b z ds)
     pub one-after-another : (z : ℕ) → OneAfterAnother (runsOf b z ds)
     pub kept : (i : ℕ) → suc i < c .posts → (getD (trackOf s b .trains) i 0 ≡ 0) ⊎ TrainThere b (trackOf s b) ds i
@@ -235,20 +241,20 @@ module _ (c : Settings) where
   -- ## The new order
 
   -- "after each step a track on which a reversal then runs holds no train"
-  pub record NoTrainInReversal (done : List Taken) (s : Section) : Type 0 where
+  pub record NoTrainInReversal (done : List AcceptedStep) (s : Section) : Type 0 where
     pub empty :
         (b : Bool) → underWay (c .posts) b done ≡ true → (i : ℕ) → suc i < c .posts → getD (trackOf s b .trains) i 0 ≡ 0
 
   -- from s, after the steps `done`, each step is accepted and says what it said; the end is `end`
-  unfoldable pub Performs : Section → List Taken → List Taken → Section → Type 0
+  unfoldable pub Performs : Section → List AcceptedStep → List AcceptedStep → Section → Type 0
   Performs s done [] end = s ≡ end
   Performs s done (d ∷ ds) end =
       (judge s (d .bytes) .verdict ≡ Accepted (d .said))
       × NoTrainInReversal (done ++ (d ∷ [])) (judge s (d .bytes) .section)
       × Performs (judge s (d .bytes) .section) (done ++ (d ∷ [])) ds end
 
-  pub record NewOrder (ds : List Taken) (s : Section) : Type 0 where
-    pub order : List Taken
+  pub record NewOrder (ds : List AcceptedStep) (s : Section) : Type 0 where
+    pub order : List AcceptedStep
     -- "each accepted step stands once and nothing else does": `Perm` of the library, the same elements, each as often
     pub each-once : Perm order ds
     -- per track, each post's own steps in sequence
@@ -262,7 +268,7 @@ module _ (c : Settings) where
 
   -- ## The whole claim
 
-  pub record Claim (s : Section) (ds : List Taken) : Type 0 where
+  pub record Claim (s : Section) (ds : List AcceptedStep) : Type 0 where
     pub tracks : (b : Bool) → OnTrack s ds b
     pub reordered : ((b : Bool) → underWay (c .posts) b ds ≡ false) → NewOrder ds s
 

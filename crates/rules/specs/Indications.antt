@@ -14,7 +14,7 @@ use Rattle.section.specs.Range.{inRange}
 use Rattle.section.specs.Settings.{isMaterialised}
 use Rattle.section.specs.Store.{trackOf}
 use Rattle.rules.specs.declared.Site.{Site}
-use Rattle.rules.specs.Site.{siteOn, otherSettledOnVns, rankAt, upAt, atReceivingEnd, watchedOccupied}
+use Rattle.rules.specs.Site.{siteOn, rankAt, upAt, atReceivingEnd, watchedOccupied}
 
 -- how many posts, from the sending end on, have set in this reversal: "the posts before the turn's post have set, and that post too when
 -- its act is announce"
@@ -55,10 +55,10 @@ shown l = record { circulation = circulation l; troncon = troncon l; permission 
 unfoldable pub lampsAt : Settings → Site → List ℕ → Lamps
 lampsAt c e trains = record {
   materialised = isMaterialised c;
-  cvt = e .own .cvt;
+  cvt = e .own .device;
   nextToSet = isNextToSet (setCount (c .posts) (upAt c e) (e .walk)) (rankAt c e);
-  fault1 = e .own .fault1;
-  fault3 = e .own .fault3;
+  fault1 = e .own .faults .one;
+  fault3 = e .own .faults .three;
   occupied = watchedOccupied c e trains;
   commands = not (atReceivingEnd c e);
   permission = e .own .permission;
@@ -69,7 +69,7 @@ dark = record { circulation = 0; troncon = 0; permission = 0 }
 
 unfoldable pub indicationsOn : Section → Bool → ℕ → Indications
 indicationsOn s track p =
-    shown (lampsAt (s .settings) (siteOn (otherSettledOnVns s track) track p (trackOf s track)) (trackOf s track .trains))
+    shown (lampsAt (s .settings) (siteOn track p (trackOf s track)) (trackOf s track .trains))
 
 -- all 0 for a state that gives 6, and for a track or a post that the section has not
 unfoldable pub indications : Section → ℕ → ℕ → Indications

@@ -28,11 +28,12 @@ answerOf (Accepted said) old new = record { verdict = Accepted said; section = n
 answerOf (Refused k) old new = record { verdict = Refused k; section = old }
 
 abbrev pub siteOf : Section → TrackStep → Site
-siteOf s x = siteOn (otherSettledOnVns s (x .track)) (x .track) (postOf (x .step)) (trackOf s (x .track))
+siteOf s x = siteOn (x .track) (postOf (x .step)) (trackOf s (x .track))
 
 abbrev pub occupancyOf : Section → TrackStep → Occupancy
 occupancyOf s x =
-    occupancyAt (s .settings) (siteOf s x) (numberOf (x .step)) (trackOf s (x .track) .trains) (trackOf s (x .track) .last)
+    occupancyAt (s .settings) (otherSettledOnVns s (x .track)) (siteOf s x) (numberOf (x .step))
+    (trackOf s (x .track) .trains) (trackOf s (x .track) .last)
 
 -- a step judged by the table
 unfoldable pub verdictOn : Section → TrackStep → Verdict

@@ -1,12 +1,11 @@
 -- What a step looks at (document 01, "The section", "Steps, checks in order"): the site, where it is taken, and the occupancy, the trains
--- that it asks for. An effect takes the site alone.
+-- that it asks for and the other track. An effect takes the site alone.
 use Prim.Native.Nat.{ℕ, zero, suc, _-_}
 use mathlib.Core.Bool.{Bool, true, false, cond, not, _&&_, _||_}
 use mathlib.Core.List.{List}
 use lib.ListN.{getD}
 use lib.Dec.{eqb}
 use Rattle.section.specs.declared.Settings.{Settings}
-use Rattle.section.specs.declared.Post.{Post}
 use Rattle.section.specs.declared.Act.{Act}
 use Rattle.section.specs.declared.Act.the-variants.{Set, Announce, Acknowledge}
 use Rattle.section.specs.declared.Walk.{Walk}
@@ -15,7 +14,7 @@ use Rattle.section.specs.declared.Track.{Track}
 use Rattle.section.specs.declared.Section.{Section}
 use Rattle.rules.specs.declared.Site.{Site}
 use Rattle.section.specs.Geometry.{upward, rank, block, isFirst, isLast}
-use Rattle.section.specs.Settings.{bit}
+use Rattle.section.specs.Settings.{isSignalled}
 use Rattle.section.specs.Store.{trackOf, postOn}
 
 -- ## The walk of a reversal
@@ -49,44 +48,47 @@ settledOnVns t = settledVns (t .walk) (t .cvt)
 
 -- ## The site
 
--- at a post with that record, on a track with that running direction and walk; `vns`: the other track is settled on VNS
-abbrev pub siteAt : Bool → Bool → ℕ → Post → Bool → Walk → Site
-siteAt vns track p own cvt walk = record { track = track; post = p; cvt = cvt; walk = walk; vns = vns; own = own }
-
-abbrev pub siteOn : Bool → Bool → ℕ → Track → Site
-siteOn vns track p t = siteAt vns track p (postOn t p) (t .cvt) (t .walk)
+-- at a post, on a track
+abbrev pub siteOn : Bool → ℕ → Track → Site
+siteOn track p t = record { track = track; post = p; cvt = t .cvt; walk = t .walk; own = postOn t p }
 
 abbrev pub otherSettledOnVns : Section → Bool → Bool
 otherSettledOnVns s track = settledOnVns (trackOf s (not track))
 
--- ## The stretch, over a test of ranks
+-- ## Searches
+
+-- the number of a train: 0 says that there is none
+abbrev pub isTrain : ℕ → Bool
+isTrain z = not (eqb z 0)
+
+abbrev pub isNumber : ℕ → ℕ → Bool
+isNumber number z = eqb z number
+
+-- one of the first m block sections keeps a number that passes the test
+unfoldable pub anyOf : (ℕ → Bool) → ℕ → List ℕ → Bool
+anyOf test zero cells = false
+anyOf test (suc m) cells = test (getD cells m 0) || anyOf test m cells
+
+-- a rank passes the test: of f ranks from j on, up to the first at which `ends` holds
+unfoldable pub reach : (ℕ → Bool) → (ℕ → Bool) → ℕ → ℕ → Bool
+reach ends test zero j = false
+reach ends test (suc f) j = test j || (not (ends (suc j)) && reach ends test f (suc j))
 
 -- whether a train is in the stretch that begins at the post of rank j, f block sections before the receiving end: `ends` tells at which
 -- ranks a stretch ends, `train` which train follows a rank
-unfoldable pub stretchHolds : (ℕ → Bool) → (ℕ → ℕ) → ℕ → ℕ → Bool
-stretchHolds ends train zero j = false
-stretchHolds ends train (suc f) j =
-    not (eqb (train j) 0) || (not (ends (suc j)) && stretchHolds ends train f (suc j))
-
--- a train in one of the first m block sections
-unfoldable pub anyTrain : ℕ → List ℕ → Bool
-anyTrain zero trains = false
-anyTrain (suc m) trains = not (eqb (getD trains m 0) 0) || anyTrain m trains
-
--- that number in one of the first m block sections
-unfoldable pub hasNumber : ℕ → ℕ → List ℕ → Bool
-hasNumber zero number trains = false
-hasNumber (suc m) number trains = eqb (getD trains m 0) number || hasNumber m number trains
+abbrev pub stretchHolds : (ℕ → Bool) → (ℕ → ℕ) → ℕ → ℕ → Bool
+stretchHolds ends train f j = reach ends (λ (i : ℕ). isTrain (train i)) f j
 
 -- ## The occupancy
 
 pub record Occupancy : Type 0 where
   pub watched : Bool  -- a train in the part that the post watches
-  pub before : ℕ  -- the train in the block section before the post, 0 where there is none
-  pub entered : ℕ  -- the last train that entered the block section ahead, 0 where there is none
+  pub trainBefore : ℕ  -- the train in the block section before the post, 0 where there is none
+  pub lastAhead : ℕ  -- the last train that entered the block section ahead, 0 where there is none
   pub anywhere : Bool  -- a train anywhere on the track
-  pub stretch : Bool  -- a train in the stretch that begins at the post
-  pub known : Bool  -- the step's number is on the track
+  pub stretchOccupied : Bool  -- a train in the stretch that begins at the post
+  pub numberOnTrack : Bool  -- the step's number is on the track
+  pub otherOnVns : Bool  -- the other track is settled on VNS
 
 module _ (c : Settings) where
   abbrev pub upAt : Site → Bool
@@ -115,7 +117,7 @@ module _ (c : Settings) where
   -- a stretch ends, and the next begins, at the post of rank j: "for VNS, one block section. For CVT it reaches from one signalled post
   -- to the next (art. 903)."
   unfoldable pub stretchEnds : Bool → Bool → ℕ → Bool
-  stretchEnds track cvt j = not cvt || bit (c .mask) (rank (c .posts) (upward track cvt) j)
+  stretchEnds track cvt j = not cvt || isSignalled (c .mask) (rank (c .posts) (upward track cvt) j)
 
   -- the train in the block section that follows the post of rank j
   abbrev pub trainAt : Bool → Bool → List ℕ → ℕ → ℕ
@@ -123,7 +125,7 @@ module _ (c : Settings) where
 
   -- a train in the part that the post watches: the block section ahead ("the last post has none")
   unfoldable pub watchedOccupied : Site → List ℕ → Bool
-  watchedOccupied e trains = not (atReceivingEnd e) && not (eqb (getD trains (blockAhead e) 0) 0)
+  watchedOccupied e trains = not (atReceivingEnd e) && isTrain (getD trains (blockAhead e) 0)
 
   -- the train in the block section before the post; the sending end has none
   unfoldable pub trainBefore : Site → List ℕ → ℕ
@@ -133,13 +135,14 @@ module _ (c : Settings) where
   unfoldable pub lastEntered : Site → List ℕ → ℕ
   lastEntered e last = cond (atReceivingEnd e) 0 (getD last (blockAhead e) 0)
 
-  unfoldable pub occupancyAt : Site → ℕ → List ℕ → List ℕ → Occupancy
-  occupancyAt e number trains last = record {
+  unfoldable pub occupancyAt : Bool → Site → ℕ → List ℕ → List ℕ → Occupancy
+  occupancyAt otherOnVns e number trains last = record {
     watched = watchedOccupied e trains;
-    before = trainBefore e trains;
-    entered = lastEntered e last;
-    anywhere = anyTrain (c .posts - 1) trains;
-    stretch =
+    trainBefore = trainBefore e trains;
+    lastAhead = lastEntered e last;
+    anywhere = anyOf isTrain (c .posts - 1) trains;
+    stretchOccupied =
         stretchHolds (stretchEnds (e .track) (e .cvt)) (trainAt (e .track) (e .cvt) trains) (c .posts - suc (rankAt e)) (rankAt e);
-    known = hasNumber (c .posts - 1) number trains;
+    numberOnTrack = anyOf (isNumber number) (c .posts - 1) trains;
+    otherOnVns = otherOnVns;
   }

@@ -46,12 +46,12 @@ cleared Three o = faulty Three false o
 -- ## What the refusals ask: first those that need no settings
 
 -- 14: "order to CVT while the other track isn't settled on VNS (art. 915)"; to CVT, since the running direction is VNS
-abbrev pub orderAllowed : Site → Bool
-orderAllowed e = e .cvt || e .vns
+abbrev pub orderAllowed : Site → Bool → Bool
+orderAllowed e otherOnVns = e .cvt || otherOnVns
 
 -- 16: "set or key to CVT without measures"
-abbrev pub secured : Site → Bool
-secured e = e .cvt || e .own .measures
+abbrev pub measuresSuffice : Site → Bool
+measuresSuffice e = e .cvt || e .own .measures
 
 module _ (c : Settings) where
   -- 13 of order: "telephone form: a train anywhere on the track (art. 907); materialised: one in the block section ahead"
@@ -60,42 +60,42 @@ module _ (c : Settings) where
 
   -- 13 of pass: "at a post that begins a stretch: a train in that stretch. Pass elsewhere: never."
   abbrev pub passOccupied : Site → Occupancy → Bool
-  passOccupied e g = stretchEnds c (e .track) (e .cvt) (rankAt c e) && g .stretch
+  passOccupied e g = stretchEnds c (e .track) (e .cvt) (rankAt c e) && g .stretchOccupied
 
   -- 15: "Release is in turn where set is, or at the sending end with no reversal under way."
   abbrev pub releaseInTurn : Site → Bool
   releaseInTurn e = isTurn (e .walk) (e .post) act.Set || (isSettled (e .walk) && atSendingEnd c e)
 
   -- 18: "fault 1 without a mark (never at the last post)"
-  abbrev pub confirmed : Site → Bool
-  confirmed e = atReceivingEnd c e || (not (e .own .fault1) || e .own .mark)
+  abbrev pub fault1Confirmed : Site → Bool
+  fault1Confirmed e = atReceivingEnd c e || (not (e .own .faults .one) || e .own .mark)
 
   -- ## Checks
 
   unfoldable pub checks : Step → Site → Occupancy → List Check
   checks (Order p) e g =
-      (isSettled (e .walk) else 11) ∷ (atSendingEnd c e else 12) ∷ (orderAllowed e else 14) ∷ (not (orderOccupied g) else 13) ∷ []
+      (isSettled (e .walk) else 11) ∷ (atSendingEnd c e else 12) ∷ (orderAllowed e (g .otherOnVns) else 14) ∷ (not (orderOccupied g) else 13) ∷ []
   checks (Set p) e g =
-      (isTurn (e .walk) (e .post) act.Set else 15) ∷ (not (g .watched) else 13) ∷ (confirmed e else 18) ∷ (secured e else 16)
-      ∷ (not (e .own .fault2) else 19) ∷ []
+      (isTurn (e .walk) (e .post) act.Set else 15) ∷ (not (g .watched) else 13) ∷ (fault1Confirmed e else 18) ∷ (measuresSuffice e else 16)
+      ∷ (not (e .own .faults .two) else 19) ∷ []
   checks (Announce p) e g = (isTurn (e .walk) (e .post) act.Announce else 15) ∷ []
   checks (Acknowledge p) e g = (isTurn (e .walk) (e .post) act.Acknowledge else 15) ∷ []
   checks (Start p number) e g =
-      (isSettled (e .walk) else 11) ∷ (atSendingEnd c e else 12) ∷ (not (g .known) else 17) ∷ (not (g .stretch) else 13)
-      ∷ (confirmed e else 18) ∷ []
+      (isSettled (e .walk) else 11) ∷ (atSendingEnd c e else 12) ∷ (not (g .numberOnTrack) else 17) ∷ (not (g .stretchOccupied) else 13)
+      ∷ (fault1Confirmed e else 18) ∷ []
   checks (Pass p number) e g =
-      (not (atSendingEnd c e || atReceivingEnd c e) else 12) ∷ (eqb (g .before) number else 17) ∷ (not (passOccupied e g) else 13) ∷ []
-  checks (Leave p number) e g = (atReceivingEnd c e else 12) ∷ (eqb (g .before) number else 17) ∷ []
+      (not (atSendingEnd c e || atReceivingEnd c e) else 12) ∷ (eqb (g .trainBefore) number else 17) ∷ (not (passOccupied e g) else 13) ∷ []
+  checks (Leave p number) e g = (atReceivingEnd c e else 12) ∷ (eqb (g .trainBefore) number else 17) ∷ []
   checks (MeasuresOn p) e g = (not (e .own .measures) else 21) ∷ []
-  checks (MeasuresOff p) e g = (e .own .measures else 21) ∷ (not (e .own .cvt) else 16) ∷ []
+  checks (MeasuresOff p) e g = (e .own .measures else 21) ∷ (not (e .own .device) else 16) ∷ []
   checks (FaultOn p f) e g = (not (hasFault f (e .own)) else 21) ∷ []
   checks (FaultOff p f) e g = (hasFault f (e .own) else 21) ∷ []
   checks (Release p number) e g =
-      (releaseInTurn e else 15) ∷ (not (atReceivingEnd c e) else 12) ∷ (e .own .fault1 else 21) ∷ (not (g .watched) else 13)
-      ∷ (eqb (g .entered) number else 17) ∷ []
+      (releaseInTurn e else 15) ∷ (not (atReceivingEnd c e) else 12) ∷ (e .own .faults .one else 21) ∷ (not (g .watched) else 13)
+      ∷ (eqb (g .lastAhead) number else 17) ∷ []
   checks (Key p) e g =
-      (isTurn (e .walk) (e .post) act.Set else 15) ∷ (e .own .fault2 else 21) ∷ (not (g .watched) else 13) ∷ (confirmed e else 18)
-      ∷ (secured e else 16) ∷ (not (eqb (e .own .seals) mostSeals) else 20) ∷ []
+      (isTurn (e .walk) (e .post) act.Set else 15) ∷ (e .own .faults .two else 21) ∷ (not (g .watched) else 13) ∷ (fault1Confirmed e else 18)
+      ∷ (measuresSuffice e else 16) ∷ (not (eqb (e .own .seals) mostSeals) else 20) ∷ []
 
   -- ## Effects
 
@@ -128,25 +128,23 @@ module _ (c : Settings) where
   effect (Release p number) e = keeping e (marked true (e .own))
   effect (Key p) e = setting e (sealed (e .own))
 
-  -- the trains, and the last train of each block section, after a movement
-  unfoldable pub trainsAfter : Movement → Site → List ℕ → List ℕ
-  trainsAfter Stays e l = l
-  trainsAfter (Enters number) e l = set l (blockAhead c e) number
-  trainsAfter (Moves number) e l = set (set l (blockBefore c e) 0) (blockAhead c e) number
-  trainsAfter Leaves e l = set l (blockBefore c e) 0
+  -- the block section before the post, left by its train: emptied where cells are cleared
+  abbrev pub vacated : Bool → Site → List ℕ → List ℕ
+  vacated clears e l = cond clears (set l (blockBefore c e) 0) l
 
-  unfoldable pub lastAfter : Movement → Site → List ℕ → List ℕ
-  lastAfter Stays e l = l
-  lastAfter (Enters number) e l = set l (blockAhead c e) number
-  lastAfter (Moves number) e l = set l (blockAhead c e) number
-  lastAfter Leaves e l = l
+  -- the numbers of the block sections after a movement: of the trains, where what is left is cleared, and of the last trains, where it is not
+  unfoldable pub cellsAfter : Bool → Movement → Site → List ℕ → List ℕ
+  cellsAfter clears Stays e l = l
+  cellsAfter clears (Enters number) e l = set l (blockAhead c e) number
+  cellsAfter clears (Moves number) e l = set (vacated clears e l) (blockAhead c e) number
+  cellsAfter clears Leaves e l = vacated clears e l
 
   -- the track after an accepted step
   unfoldable pub trackAfter : Step → Site → Track → Track
   trackAfter x e t = record {
     posts = set (t .posts) (e .post) (effect x e .own);
-    trains = trainsAfter (effect x e .train) e (t .trains);
-    last = lastAfter (effect x e .train) e (t .last);
+    trains = cellsAfter true (effect x e .train) e (t .trains);
+    last = cellsAfter false (effect x e .train) e (t .last);
     cvt = effect x e .cvt;
     walk = effect x e .walk;
   }

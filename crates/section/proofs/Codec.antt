@@ -1,8 +1,8 @@
--- Decoding and encoding a step are inverse to each other. A step's fields pass the tests that its bytes are put to, and give the step back; of
--- bytes that say a step each field is read off, with its range.
+-- Decoding and encoding a step are inverse to each other. A step's fields pass the tests that its bytes are put to, and give the step back; the
+-- step that bytes say has the fields of these bytes, which are in their ranges.
 use Prim.Native.Nat.{ℕ, _<_, _/_, _%_}
 use mathlib.Core.Path.{_≡_, refl, sym, _∙_, ap}
-use mathlib.Core.Bool.{Bool, true}
+use mathlib.Core.Bool.{Bool, true, false}
 use mathlib.Core.List.{List}
 use native.Mathlib.Omega.{arith}
 use lib.ListN.{length}
@@ -11,52 +11,56 @@ use lib.Dec.{eqb, ltb}
 use borrow.Author.Tests.{lt-ltb, ltb-true}
 use Rattle.section.specs.declared.Step.{Step}
 use Rattle.section.specs.declared.TrackStep.{TrackStep}
-use Rattle.section.specs.declared.Decoded.the-variants.{Well}
-use Rattle.section.specs.Bytes.{byte, pair, AllBytes}
+use Rattle.section.specs.declared.Decoded.the-variants.{Well, Malformed}
+use Rattle.section.specs.Bytes.{byte, le16, AllBytes}
 use Rattle.section.specs.Numbers.{stepLength}
 use Rattle.section.specs.RoundTrip.{DecodesWhatIsEncoded, EncodesInEightBytes, EncodesWhatIsDecoded, DecodesOnlyWhatFits}
-use Rattle.section.specs.Step.{numberRight, placeRight, fieldsRight, trackStepOf, stepSaid, fromFields, decoded, isWell, wellFormed}
-use Rattle.section.specs.Step.{kindOf, postOf, faultByte, numberOf, trackNumber, bytesOf, encoded, stepFits}
+use Rattle.section.specs.Step.{Fields, fieldsIn, numberWellFormed, placeWellFormed, fieldsWellFormed, wellFormed, stepSaid, decoded}
+use Rattle.section.specs.Step.{fieldsOf, kindOf, postOf, numberOf, trackNumber, bytesOf, encoded, stepInRange}
 use Rattle.section.proofs.Laws.{and-left, and-right}
-use Rattle.section.proofs.StepLaws.{bytesRight, well-formed-is, well-said, well-length, Right, right, below}
-use Rattle.section.proofs.StepLaws.{kind-read, post-read, fault-read, number-read, track-back, low-back, high-back, zero-low, zero-high}
-use Rattle.section.proofs.StepLaws.{kind-within, track-within, fault-fits, step-same, track-same, pair-back}
-use Rattle.section.proofs.StepLaws.{kind-small, fault-small, number-small, all-bytes}
+use Rattle.section.proofs.StepLaws.{malformed, well-said, well-length, well-fields, WellFormed, well-formed-fields, below, fields-back, own}
+use Rattle.section.proofs.StepLaws.{track-within, track-same}
+use Rattle.section.proofs.StepLaws.{track-back, low-back, high-back, zero-low, zero-high, le16-back, kind-small, fault-small, number-small, all-bytes}
 
 -- ## From a step to its bytes and back
 
-fields-fit :
-    (n : ℕ) (b : Bool) (x : Step) → stepFits n x ≡ true →
-    fieldsRight n (kindOf x) (trackNumber b) (postOf x) (faultByte x) (numberOf x) 0 ≡ true
-unfolding fieldsRight placeRight stepFits
-fields-fit n b x h =
-    let post : ltb (postOf x) n ≡ true = and-left (ltb (postOf x) n) (numberRight (kindOf x) (numberOf x)) h in
-    let number : numberRight (kindOf x) (numberOf x) ≡ true = and-right (ltb (postOf x) n) (numberRight (kindOf x) (numberOf x)) h in
-    rw (kind-within x, track-within b, post, fault-fits x, number)
+module _ (n : ℕ) (x : Step) (h : stepInRange n x ≡ true) where
+  own-post : ltb (fieldsOf x .post) n ≡ true
+  unfolding stepInRange postOf
+  own-post = and-left (ltb (postOf x) n) (numberWellFormed (kindOf x) (numberOf x)) h
 
-no-pair : pair 0 0 ≡ 0
-unfolding pair
-no-pair = refl
+  own-number : numberWellFormed (fieldsOf x .kind) (fieldsOf x .number) ≡ true
+  unfolding stepInRange kindOf numberOf
+  own-number = and-right (ltb (postOf x) n) (numberWellFormed (kindOf x) (numberOf x)) h
 
-same-step : (x : TrackStep) →
-    trackStepOf (kindOf (x .step)) (trackNumber (x .track)) (postOf (x .step)) (faultByte (x .step)) (numberOf (x .step)) ≡ x
-unfolding trackStepOf
-same-step x = rw (track-same (x .track), step-same (x .step))
+  own-fit : (b : Bool) → fieldsWellFormed n (trackNumber b) (fieldsOf x) 0 ≡ true
+  unfolding fieldsWellFormed placeWellFormed
+  own-fit b = rw (own x .kind-well-formed, track-within b, own-post, own x .fault-well-formed, own-number)
+
+le16-zero : le16 0 0 ≡ 0
+unfolding le16
+le16-zero = refl
+
+same-step : (x : TrackStep) → stepSaid (encoded x) ≡ x
+unfolding stepSaid encoded bytesOf
+same-step x = rw (track-same (x .track), le16-back (fieldsOf (x .step) .number), own (x .step) .same)
+
+encoded-well : (n : ℕ) (x : TrackStep) → stepInRange n (x .step) ≡ true → wellFormed n (encoded x) ≡ true
+unfolding wellFormed encoded bytesOf
+encoded-well n x h = rw (le16-back (fieldsOf (x .step) .number), le16-zero) (own-fit n (x .step) h (x .track))
 
 pub decodes-what-is-encoded : DecodesWhatIsEncoded
-unfolding decoded encoded bytesOf fromFields
-decodes-what-is-encoded n x h =
-    rw (pair-back (numberOf (x .step)), no-pair, fields-fit n (x .track) (x .step) h) (ap Well (same-step x))
+decodes-what-is-encoded n x h = well-said n (encoded x) (encoded-well n x h) ∙ ap Well (same-step x)
 
 pub encodes-in-eight-bytes : EncodesInEightBytes
-unfolding encoded bytesOf stepFits
+unfolding encoded bytesOf
 encodes-in-eight-bytes n x m h =
-    let y = x .step in
-    let kind = kind-small (kindOf y) (kind-within y) in
+    let f = fieldsOf (x .step) in
+    let kind = kind-small (f .kind) (own (x .step) .kind-well-formed) in
     let track = ltb-true (trackNumber (x .track)) 2 (track-within (x .track)) in
-    let post = ltb-true (postOf y) n (and-left (ltb (postOf y) n) (numberRight (kindOf y) (numberOf y)) h) in
-    let fault = fault-small (kindOf y) (faultByte y) (fault-fits y) in
-    let number = number-small (kindOf y) (numberOf y) (and-right (ltb (postOf y) n) (numberRight (kindOf y) (numberOf y)) h) in (
+    let post = ltb-true (f .post) n (own-post n (x .step) h) in
+    let fault = fault-small (f .kind) (f .fault) (own (x .step) .fault-well-formed) in
+    let number = number-small (f .kind) (f .number) (own-number n (x .step) h) in (
       refl,
       all-bytes (encoded x)
           (omega arith, (omega arith, (omega arith, (omega arith, (omega arith, (omega arith, (omega arith, (omega arith, tt)))))))),
@@ -66,67 +70,65 @@ encodes-in-eight-bytes n x m h =
 
 module _ (n : ℕ) (s : List ℕ) (x : TrackStep) (d : decoded n s ≡ Well x) where
   well : wellFormed n s ≡ true
-  unfolding wellFormed isWell
-  well = ap isWell d
+  well = go (wellFormed n s) refl
+    where
+      go : (b : Bool) → wellFormed n s ≡ b → b ≡ true
+      go true e = refl
+      go false e = let said : Malformed ≡ Well x = sym (malformed n s e) ∙ d in let z : _≡_ {A = ℕ} 0 1 = cc in absurd (omega arith)
 
   is-said : x ≡ stepSaid s
   is-said = cc (d, well-said n s well)
 
-  tests : bytesRight n s ≡ true
-  tests = and-right (eqb (length s) stepLength) (bytesRight n s) (sym (well-formed-is n s) ∙ well)
-
-  fields : Right n (byte s 0) (byte s 1) (byte s 2) (byte s 3) (pair (byte s 4) (byte s 5)) (pair (byte s 6) (byte s 7))
-  unfolding bytesRight
-  fields = right n (byte s 0) (byte s 1) (byte s 2) (byte s 3) (pair (byte s 4) (byte s 5)) (pair (byte s 6) (byte s 7)) tests
+  tests : WellFormed n (byte s 1) (fieldsIn s) (le16 (byte s 6) (byte s 7))
+  tests = well-formed-fields n (byte s 1) (fieldsIn s) (le16 (byte s 6) (byte s 7)) (well-fields n s well)
 
   pub decoded-length : length s ≡ stepLength
   decoded-length = well-length n s well
 
-  -- the fields, read off the bytes
-  pub decoded-kind : kindOf (x .step) ≡ byte s 0
-  unfolding stepSaid trackStepOf
-  decoded-kind = rw is-said (kind-read (byte s 2) (byte s 3) (pair (byte s 4) (byte s 5)) (byte s 0) (fields .kind-right))
-
   pub decoded-track : x .track ≡ eqb (byte s 1) 1
-  unfolding stepSaid trackStepOf
+  unfolding stepSaid
   decoded-track = ap (λ (y : TrackStep). y .track) is-said
 
+  -- the fields, read off the bytes
+  pub decoded-fields : fieldsOf (x .step) ≡ fieldsIn s
+  unfolding stepSaid
+  decoded-fields = rw is-said (fields-back (fieldsIn s) (tests .kind-well-formed) (tests .fault-well-formed) (tests .number-well-formed))
+
+  pub decoded-kind : kindOf (x .step) ≡ byte s 0
+  unfolding kindOf
+  decoded-kind = ap (λ (f : Fields). f .kind) decoded-fields
+
   pub decoded-post : postOf (x .step) ≡ byte s 2
-  unfolding stepSaid trackStepOf
-  decoded-post = rw is-said (post-read (byte s 2) (byte s 3) (pair (byte s 4) (byte s 5)) (byte s 0) (fields .kind-right))
+  unfolding postOf
+  decoded-post = ap (λ (f : Fields). f .post) decoded-fields
 
-  pub decoded-fault : faultByte (x .step) ≡ byte s 3
-  unfolding stepSaid trackStepOf
-  decoded-fault =
-      rw is-said (fault-read (byte s 2) (byte s 3) (pair (byte s 4) (byte s 5)) (byte s 0) (fields .kind-right) (fields .fault-right))
-
-  pub decoded-number : numberOf (x .step) ≡ pair (byte s 4) (byte s 5)
-  unfolding stepSaid trackStepOf
-  decoded-number =
-      rw is-said (number-read (byte s 2) (byte s 3) (pair (byte s 4) (byte s 5)) (byte s 0) (fields .kind-right) (fields .number-right))
+  pub decoded-number : numberOf (x .step) ≡ le16 (byte s 4) (byte s 5)
+  unfolding numberOf
+  decoded-number = ap (λ (f : Fields). f .number) decoded-fields
 
   -- and their ranges
   pub decoded-post-below : postOf (x .step) < n
-  decoded-post-below = rw decoded-post (fields .post-right)
+  decoded-post-below = rw decoded-post (tests .post-below)
 
-  pub decoded-number-right : numberRight (kindOf (x .step)) (numberOf (x .step)) ≡ true
-  decoded-number-right = rw (decoded-kind, decoded-number) (fields .number-right)
+  pub decoded-number-well-formed : numberWellFormed (kindOf (x .step)) (numberOf (x .step)) ≡ true
+  decoded-number-well-formed = rw (decoded-kind, decoded-number) (tests .number-well-formed)
 
-  decoded-fits : stepFits n (x .step) ≡ true
-  unfolding stepFits
-  decoded-fits = rw (lt-ltb _ _ decoded-post-below) decoded-number-right
+  decoded-fits : stepInRange n (x .step) ≡ true
+  unfolding stepInRange
+  decoded-fits = rw (lt-ltb _ _ decoded-post-below) decoded-number-well-formed
 
   encoded-decoded : AllBytes s → encoded x ≡ s
   unfolding encoded bytesOf
   encoded-decoded bytes =
-      let zero6 : 0 ≡ byte s 6 = zero-low (byte s 6) (byte s 7) (fields .zeros-right) in
-      let zero7 : 0 ≡ byte s 7 = zero-high (byte s 6) (byte s 7) (fields .zeros-right) in
-      let track : trackNumber (x .track) ≡ byte s 1 = rw decoded-track (track-back (byte s 1) (fields .track-right)) in
-      let low : numberOf (x .step) % 256 ≡ byte s 4 = rw decoded-number (low-back (byte s 4) (byte s 5) (bytes 4)) in
-      let high : numberOf (x .step) / 256 ≡ byte s 5 = rw decoded-number (high-back (byte s 4) (byte s 5) (bytes 4)) in
-      ext-getD 0 (encoded x) s (sym decoded-length)
-      (below (λ (i : ℕ). byte (encoded x) i ≡ byte s i) stepLength
-      (decoded-kind, (track, (decoded-post, (decoded-fault, (low, (high, (zero6, (zero7, tt)))))))))
+      let zero6 : 0 ≡ byte s 6 = zero-low (byte s 6) (byte s 7) (tests .zeros-none) in
+      let zero7 : 0 ≡ byte s 7 = zero-high (byte s 6) (byte s 7) (tests .zeros-none) in
+      let track : trackNumber (x .track) ≡ byte s 1 = rw decoded-track (track-back (byte s 1) (tests .track-below)) in
+      let low = low-back (byte s 4) (byte s 5) (bytes 4) in
+      let high = high-back (byte s 4) (byte s 5) (bytes 4) in
+      ap (bytesOf (trackNumber (x .track))) decoded-fields
+      ∙ ext-getD 0 (bytesOf (trackNumber (x .track)) (fieldsIn s)) s (sym decoded-length)
+      (below (λ (i : ℕ). byte (bytesOf (trackNumber (x .track)) (fieldsIn s)) i ≡ byte s i) stepLength
+      (refl, (track, (refl, (refl, (low, (high, (zero6, (zero7, tt)))))))))
 
 pub decodes-only-what-fits : DecodesOnlyWhatFits
 decodes-only-what-fits n s x d = decoded-fits n s x d

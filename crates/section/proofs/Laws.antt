@@ -21,10 +21,10 @@ use Rattle.section.specs.declared.Walk.the-variants.{Turn}
 use Rattle.section.specs.Bytes.{within}
 use Rattle.section.specs.Fresh.{freshTrack, freshSection}
 use Rattle.section.specs.Geometry.{upward, rank, block, isLast}
-use Rattle.section.specs.Numbers.{mostPosts, mostBlocks, mostSeals, largestTrain}
+use Rattle.section.specs.Numbers.{leastPosts, mostPosts, mostBlocks, mostSeals, largestTrain}
 use Rattle.section.specs.Post.{blank, permitted}
-use Rattle.section.specs.Range.{sealsFit, numbersFit, actFits, walkFits, trackFits, inRange}
-use Rattle.section.specs.Settings.{settingsRight}
+use Rattle.section.specs.Range.{sealsInRange, numbersInRange, actInRange, walkInRange, trackInRange, inRange}
+use Rattle.section.specs.Settings.{settingsInRange}
 use Rattle.section.specs.Store.{trackOf}
 
 -- ## Ranks and block sections
@@ -59,17 +59,22 @@ unfolding block
 block-block n true i h = refl
 block-block n false i h = omega arith
 
--- ## A test of the first m cells
+-- ## Two tests
 
--- two tests that both hold
+-- they both hold
 pub both : {a b : Bool} → a ≡ true → b ≡ true → (a && b) ≡ true
 both {a} {b} h k = and-eq-true-iff a b .1 (h, k)
 
+pub and-parts : (a b : Bool) → (a && b) ≡ true → (a ≡ true) × (b ≡ true)
+and-parts a b h = and-eq-true-iff a b .0 h
+
 pub and-left : (a b : Bool) → (a && b) ≡ true → a ≡ true
-and-left a b h = and-eq-true-iff a b .0 h .0
+and-left a b h = and-parts a b h .0
 
 pub and-right : (a b : Bool) → (a && b) ≡ true → b ≡ true
-and-right a b h = and-eq-true-iff a b .0 h .1
+and-right a b h = and-parts a b h .1
+
+-- ## A test of the first m cells
 
 -- `fits m` says that `test` holds of each cell below m
 module _ (test fits : ℕ → Bool) (none : fits zero ≡ true) (more : (m : ℕ) → fits (suc m) ≡ (test m && fits m)) where
@@ -81,7 +86,7 @@ module _ (test fits : ℕ → Bool) (none : fits zero ≡ true) (more : (m : ℕ
   each : (m : ℕ) → fits m ≡ true → (i : ℕ) → i < m → test i ≡ true
   each zero h i k = absurd (not-suc-le-zero k)
   each (suc m) h i k =
-      let parts = and-eq-true-iff (test m) (fits m) .0 (sym (more m) ∙ h) in
+      let parts = and-parts (test m) (fits m) (sym (more m) ∙ h) in
       below-more (λ (j : ℕ). test j ≡ true) m (each m (parts .1)) (parts .0) i (rw add-one k)
 
   all : (m : ℕ) → ((i : ℕ) → i < m → test i ≡ true) → fits m ≡ true
@@ -99,36 +104,36 @@ module _ (l : List Post) where
   sealTest : ℕ → Bool
   sealTest i = leb (getD l i blank .seals) mostSeals
 
-  pub seals-each : (m : ℕ) → sealsFit m l ≡ true → (p : ℕ) → p < m → getD l p blank .seals ≤ mostSeals
-  unfolding sealsFit sealTest
-  seals-each m h p k = leb-true _ _ (each sealTest (λ (j : ℕ). sealsFit j l) refl (λ j. refl) m h p k)
+  pub seals-each : (m : ℕ) → sealsInRange m l ≡ true → (p : ℕ) → p < m → getD l p blank .seals ≤ mostSeals
+  unfolding sealsInRange sealTest
+  seals-each m h p k = leb-true _ _ (each sealTest (λ (j : ℕ). sealsInRange j l) refl (λ j. refl) m h p k)
 
-  pub seals-all : (m : ℕ) → ((p : ℕ) → p < m → getD l p blank .seals ≤ mostSeals) → sealsFit m l ≡ true
-  unfolding sealsFit sealTest
-  seals-all m h = all sealTest (λ (j : ℕ). sealsFit j l) refl (λ j. refl) m (λ p k. le-leb _ _ (h p k))
+  pub seals-all : (m : ℕ) → ((p : ℕ) → p < m → getD l p blank .seals ≤ mostSeals) → sealsInRange m l ≡ true
+  unfolding sealsInRange sealTest
+  seals-all m h = all sealTest (λ (j : ℕ). sealsInRange j l) refl (λ j. refl) m (λ p k. le-leb _ _ (h p k))
 
-  pub seals-over : (m k p : ℕ) → mostSeals ≤ k → p < m → k < getD l p blank .seals → sealsFit m l ≡ false
-  seals-over m k p hk hp over = go (sealsFit m l) refl
+  pub seals-over : (m k p : ℕ) → mostSeals ≤ k → p < m → k < getD l p blank .seals → sealsInRange m l ≡ false
+  seals-over m k p hk hp over = go (sealsInRange m l) refl
     where
-      go : (b : Bool) → sealsFit m l ≡ b → b ≡ false
+      go : (b : Bool) → sealsInRange m l ≡ b → b ≡ false
       go true e = absurd (omega (arith, seals-each m e p hp, hk, over))
       go false e = refl
 
-  pub seals-go-on : (i : ℕ) → 0 < i → getD l (i - 1) blank .seals ≤ mostSeals → sealsFit i l ≡ sealsFit (i - 1) l
-  unfolding sealsFit sealTest
-  seals-go-on i h k = goes-on sealTest (λ (j : ℕ). sealsFit j l) refl (λ j. refl) i h (le-leb _ _ k)
+  pub seals-go-on : (i : ℕ) → 0 < i → getD l (i - 1) blank .seals ≤ mostSeals → sealsInRange i l ≡ sealsInRange (i - 1) l
+  unfolding sealsInRange sealTest
+  seals-go-on i h k = goes-on sealTest (λ (j : ℕ). sealsInRange j l) refl (λ j. refl) i h (le-leb _ _ k)
 
 module _ (l : List ℕ) where
   numberTest : ℕ → Bool
   numberTest i = leb (getD l i 0) largestTrain
 
-  pub numbers-each : (m : ℕ) → numbersFit m l ≡ true → (i : ℕ) → i < m → getD l i 0 ≤ largestTrain
-  unfolding numbersFit numberTest
-  numbers-each m h i k = leb-true _ _ (each numberTest (λ (j : ℕ). numbersFit j l) refl (λ j. refl) m h i k)
+  pub numbers-each : (m : ℕ) → numbersInRange m l ≡ true → (i : ℕ) → i < m → getD l i 0 ≤ largestTrain
+  unfolding numbersInRange numberTest
+  numbers-each m h i k = leb-true _ _ (each numberTest (λ (j : ℕ). numbersInRange j l) refl (λ j. refl) m h i k)
 
-  pub numbers-all : (m : ℕ) → ((i : ℕ) → i < m → getD l i 0 ≤ largestTrain) → numbersFit m l ≡ true
-  unfolding numbersFit numberTest
-  numbers-all m h = all numberTest (λ (j : ℕ). numbersFit j l) refl (λ j. refl) m (λ i k. le-leb _ _ (h i k))
+  pub numbers-all : (m : ℕ) → ((i : ℕ) → i < m → getD l i 0 ≤ largestTrain) → numbersInRange m l ≡ true
+  unfolding numbersInRange numberTest
+  numbers-all m h = all numberTest (λ (j : ℕ). numbersInRange j l) refl (λ j. refl) m (λ i k. le-leb _ _ (h i k))
 
 -- ## The cells of a track
 
@@ -144,19 +149,19 @@ module _ (t : Track) where
   cellTest i = leb (getD (t .posts) i blank .seals) mostSeals && (leb (getD (t .trains) i 0) largestTrain && leb (getD (t .last) i 0) largestTrain)
 
   abbrev pub cells : ℕ → Bool
-  cells m = sealsFit m (t .posts) && (numbersFit m (t .trains) && numbersFit m (t .last))
+  cells m = sealsInRange m (t .posts) && (numbersInRange m (t .trains) && numbersInRange m (t .last))
 
   cells-more : (m : ℕ) → cells (suc m) ≡ (cellTest m && cells m)
-  unfolding sealsFit numbersFit
+  unfolding sealsInRange numbersInRange
   cells-more m =
       let seals = leb (getD (t .posts) m blank .seals) mostSeals in
       let train = leb (getD (t .trains) m 0) largestTrain in
       let last = leb (getD (t .last) m 0) largestTrain in
-      ap (λ (x : Bool). (seals && sealsFit m (t .posts)) && x) (swap-middle train (numbersFit m (t .trains)) last (numbersFit m (t .last)))
-      ∙ swap-middle seals (sealsFit m (t .posts)) (train && last) (numbersFit m (t .trains) && numbersFit m (t .last))
+      ap (λ (x : Bool). (seals && sealsInRange m (t .posts)) && x) (swap-middle train (numbersInRange m (t .trains)) last (numbersInRange m (t .last)))
+      ∙ swap-middle seals (sealsInRange m (t .posts)) (train && last) (numbersInRange m (t .trains) && numbersInRange m (t .last))
 
   cells-none : cells zero ≡ true
-  unfolding sealsFit numbersFit
+  unfolding sealsInRange numbersInRange
   cells-none = refl
 
   pub cells-stop : (i : ℕ) → 0 < i → cellTest (i - 1) ≡ false → cells i ≡ false
@@ -174,35 +179,39 @@ regroup false b c d = refl
 
 pub track-cells :
     (n : ℕ) (track : Bool) (t : Track) →
-    trackFits n track t
-    ≡ ((sealsFit n (t .posts) && (numbersFit (n - 1) (t .trains) && numbersFit (n - 1) (t .last))) && walkFits n (upward track (t .cvt)) (t .walk))
-unfolding trackFits
+    trackInRange n track t
+    ≡ ((sealsInRange n (t .posts) && (numbersInRange (n - 1) (t .trains) && numbersInRange (n - 1) (t .last)))
+    && walkInRange n (upward track (t .cvt)) (t .walk))
+unfolding trackInRange
 track-cells n track t =
-    regroup (sealsFit n (t .posts)) (numbersFit (n - 1) (t .trains)) (numbersFit (n - 1) (t .last)) (walkFits n (upward track (t .cvt)) (t .walk))
+    regroup (sealsInRange n (t .posts)) (numbersInRange (n - 1) (t .trains)) (numbersInRange (n - 1) (t .last))
+    (walkInRange n (upward track (t .cvt)) (t .walk))
 
-pub posts-right : (c : Settings) → settingsRight c ≡ true → (2 ≤ c .posts) × (c .posts ≤ 16)
-unfolding settingsRight within
+pub posts-right : (c : Settings) → settingsInRange c ≡ true → (leastPosts ≤ c .posts) × (c .posts ≤ mostPosts)
+unfolding settingsInRange within
 posts-right c h =
-    let r : (leb 2 (c .posts) && leb (c .posts) 16) ≡ true = and-left _ _ h in
-    (leb-true _ _ (and-left (leb 2 (c .posts)) (leb (c .posts) 16) r), leb-true _ _ (and-right (leb 2 (c .posts)) (leb (c .posts) 16) r))
+    let least = leb leastPosts (c .posts) in
+    let most = leb (c .posts) mostPosts in
+    let r : (least && most) ≡ true = and-left _ _ h in
+    (leb-true _ _ (and-left least most r), leb-true _ _ (and-right least most r))
 
 -- a track in its ranges
-pub record TrackRight (n : ℕ) (track : Bool) (t : Track) : Type 0 where
+pub record TrackRanges (n : ℕ) (track : Bool) (t : Track) : Type 0 where
   pub seals : (p : ℕ) → p < n → getD (t .posts) p blank .seals ≤ mostSeals
   pub trains : (i : ℕ) → i < n - 1 → getD (t .trains) i 0 ≤ largestTrain
   pub last : (i : ℕ) → i < n - 1 → getD (t .last) i 0 ≤ largestTrain
-  pub walk : walkFits n (upward track (t .cvt)) (t .walk) ≡ true
+  pub walk : walkInRange n (upward track (t .cvt)) (t .walk) ≡ true
 
 module _ (n : ℕ) (track : Bool) (t : Track) where
-  pub track-right : trackFits n track t ≡ true → TrackRight n track t
-  unfolding trackFits
-  track-right h =
-      let walk = walkFits n (upward track (t .cvt)) (t .walk) in
-      let last = numbersFit (n - 1) (t .last) in
-      let trains = numbersFit (n - 1) (t .trains) in
-      let one = and-eq-true-iff (sealsFit n (t .posts)) (trains && (last && walk)) .0 h in
-      let two = and-eq-true-iff trains (last && walk) .0 (one .1) in
-      let three = and-eq-true-iff last walk .0 (two .1) in
+  pub track-ranges : trackInRange n track t ≡ true → TrackRanges n track t
+  unfolding trackInRange
+  track-ranges h =
+      let walk = walkInRange n (upward track (t .cvt)) (t .walk) in
+      let last = numbersInRange (n - 1) (t .last) in
+      let trains = numbersInRange (n - 1) (t .trains) in
+      let one = and-parts (sealsInRange n (t .posts)) (trains && (last && walk)) h in
+      let two = and-parts trains (last && walk) (one .1) in
+      let three = and-parts last walk (two .1) in
       record {
         seals = seals-each (t .posts) n (one .0);
         trains = numbers-each (t .trains) (n - 1) (two .0);
@@ -210,45 +219,45 @@ module _ (n : ℕ) (track : Bool) (t : Track) where
         walk = three .1;
       }
 
-  pub track-fits : TrackRight n track t → trackFits n track t ≡ true
-  unfolding trackFits
-  track-fits r =
+  pub ranges-hold : TrackRanges n track t → trackInRange n track t ≡ true
+  unfolding trackInRange
+  ranges-hold r =
       both (seals-all (t .posts) n (r .seals))
       (both (numbers-all (t .trains) (n - 1) (r .trains)) (both (numbers-all (t .last) (n - 1) (r .last)) (r .walk)))
 
 -- the turn's post, and its act there
 module _ (n : ℕ) (up : Bool) (p : ℕ) (act : Act) where
-  pub turn-right : walkFits n up (Turn p act) ≡ true → (p < n) × (actFits n up p act ≡ true)
-  unfolding walkFits
+  pub turn-right : walkInRange n up (Turn p act) ≡ true → (p < n) × (actInRange n up p act ≡ true)
+  unfolding walkInRange
   turn-right h =
-      let parts = and-eq-true-iff (ltb p n) (actFits n up p act) .0 h in
+      let parts = and-parts (ltb p n) (actInRange n up p act) h in
       (ltb-true _ _ (parts .0), parts .1)
 
 module _ (n : ℕ) (up : Bool) (p : ℕ) where
-  pub announce-right : actFits n up p Announce ≡ true → isLast n up p ≡ false
-  unfolding actFits
+  pub announce-right : actInRange n up p Announce ≡ true → isLast n up p ≡ false
+  unfolding actInRange
   announce-right h = not-true (isLast n up p) h
 
 -- a section in its ranges: its settings, and each track
 module _ (s : Section) where
-  pub settings-in-range : inRange s ≡ true → settingsRight (s .settings) ≡ true
+  pub settings-in-range : inRange s ≡ true → settingsInRange (s .settings) ≡ true
   unfolding inRange
   settings-in-range h = and-left _ _ h
 
   tracks-in-range :
-      inRange s ≡ true → (trackFits (s .settings .posts) false (s .a) ≡ true) × (trackFits (s .settings .posts) true (s .b) ≡ true)
+      inRange s ≡ true → (trackInRange (s .settings .posts) false (s .a) ≡ true) × (trackInRange (s .settings .posts) true (s .b) ≡ true)
   unfolding inRange
   tracks-in-range h =
-      let a = trackFits (s .settings .posts) false (s .a) in
-      let b = trackFits (s .settings .posts) true (s .b) in
-      and-eq-true-iff a b .0 (and-right (settingsRight (s .settings)) (a && b) h)
+      let a = trackInRange (s .settings .posts) false (s .a) in
+      let b = trackInRange (s .settings .posts) true (s .b) in
+      and-parts a b (and-right (settingsInRange (s .settings)) (a && b) h)
 
-  pub track-in-range : inRange s ≡ true → (track : Bool) → trackFits (s .settings .posts) track (trackOf s track) ≡ true
+  pub track-in-range : inRange s ≡ true → (track : Bool) → trackInRange (s .settings .posts) track (trackOf s track) ≡ true
   track-in-range h true = tracks-in-range h .1
   track-in-range h false = tracks-in-range h .0
 
   pub section-in-range :
-      settingsRight (s .settings) ≡ true → ((track : Bool) → trackFits (s .settings .posts) track (trackOf s track) ≡ true) → inRange s ≡ true
+      settingsInRange (s .settings) ≡ true → ((track : Bool) → trackInRange (s .settings .posts) track (trackOf s track) ≡ true) → inRange s ≡ true
   unfolding inRange
   section-in-range h tracks = both h (both (tracks false) (tracks true))
 
@@ -263,9 +272,9 @@ set-keeps P (x ∷ l) zero (suc j) a d h k = h
 set-keeps P (x ∷ l) (suc i) zero a d h k = h
 set-keeps P (x ∷ l) (suc i) (suc j) a d h k = set-keeps P l i j a d h k
 
-fresh-track-right : (n : ℕ) (track : Bool) → n ≤ mostPosts → TrackRight n track (freshTrack n track)
-unfolding freshTrack walkFits
-fresh-track-right n track h = record {
+fresh-track-ranges : (n : ℕ) (track : Bool) → n ≤ mostPosts → TrackRanges n track (freshTrack n track)
+unfolding freshTrack walkInRange
+fresh-track-ranges n track h = record {
   seals = λ p k. set-keeps (λ (o : Post). o .seals ≤ mostSeals) (replicate mostPosts blank) (cond track (n - 1) 0) p (permitted true blank) blank
       (rw (getD-replicate mostPosts p blank blank (omega arith)) (lit≤ tt)) (lit≤ tt);
   trains = λ i k. rw (getD-replicate {A = ℕ} mostBlocks i 0 0 (omega arith)) (lit≤ tt);
@@ -273,11 +282,11 @@ fresh-track-right n track h = record {
   walk = refl;
 }
 
-fresh-tracks : (c : Settings) → c .posts ≤ mostPosts → (track : Bool) → trackFits (c .posts) track (trackOf (freshSection c) track) ≡ true
+fresh-tracks : (c : Settings) → c .posts ≤ mostPosts → (track : Bool) → trackInRange (c .posts) track (trackOf (freshSection c) track) ≡ true
 unfolding freshSection
-fresh-tracks c h true = track-fits (c .posts) true (freshTrack (c .posts) true) (fresh-track-right (c .posts) true h)
-fresh-tracks c h false = track-fits (c .posts) false (freshTrack (c .posts) false) (fresh-track-right (c .posts) false h)
+fresh-tracks c h true = ranges-hold (c .posts) true (freshTrack (c .posts) true) (fresh-track-ranges (c .posts) true h)
+fresh-tracks c h false = ranges-hold (c .posts) false (freshTrack (c .posts) false) (fresh-track-ranges (c .posts) false h)
 
-pub fresh-in-range : (c : Settings) → settingsRight c ≡ true → inRange (freshSection c) ≡ true
+pub fresh-in-range : (c : Settings) → settingsInRange c ≡ true → inRange (freshSection c) ≡ true
 unfolding freshSection
 fresh-in-range c h = section-in-range (freshSection c) h (fresh-tracks c (posts-right c h .1))

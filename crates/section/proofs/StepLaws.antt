@@ -1,6 +1,7 @@
--- Laws of a step and its bytes: when bytes are well formed, and which fields a step gives back. The theorems are in `Codec`.
+-- Laws of a step and its bytes. Bytes are well formed where each of their fields is right; right fields are those of the step that they give,
+-- and a step is the one that its own fields give. The theorems are in `Codec`.
 use Prim.Native.Nat.{ℕ, zero, suc, _≤_, _<_, _/_, _%_}
-use mathlib.Core.Path.{_≡_, refl, sym, _∙_, ap}
+use mathlib.Core.Path.{_≡_, refl, ap}
 use mathlib.Core.Bool.{Bool, true, false, cond, _&&_}
 use mathlib.Core.List.{List, [], _∷_}
 use native.Mathlib.Omega.{arith}
@@ -12,74 +13,61 @@ use Rattle.section.specs.declared.Fault.the-variants.{One, Two, Three}
 use Rattle.section.specs.declared.Step.{Step}
 use Rattle.section.specs.declared.Step.the-variants.{Order, Set, Announce, Acknowledge, Start, Pass, Leave}
 use Rattle.section.specs.declared.Step.the-variants.{MeasuresOn, MeasuresOff, FaultOn, FaultOff, Release, Key}
-use Rattle.section.specs.declared.TrackStep.{TrackStep}
 use Rattle.section.specs.declared.Decoded.the-variants.{Well, Malformed}
-use Rattle.section.specs.Bytes.{byte, pair, within, AllBytes}
-use Rattle.section.specs.Numbers.{largestTrain, stepLength}
-use Rattle.section.specs.Step.{faultRight, numberRight, placeRight, fieldsRight, faultOf, stepOf, fromFields, decoded, isWell, wellFormed}
-use Rattle.section.specs.Step.{stepSaid, kindOf, postOf, faultNumber, faultByte, numberOf, trackNumber}
+use Rattle.section.specs.Bytes.{byte, le16, within, AllBytes}
+use Rattle.section.specs.Numbers.{largestTrain, stepLength, lastFault, lastKind, releaseKind}
+use Rattle.section.specs.Step.{isKind, isTrainKind, isFaultKind, isFault, isTrain}
+use Rattle.section.specs.Step.{Fields, fields, fieldsIn, faultWellFormed, numberWellFormed, placeWellFormed, fieldsWellFormed, wellFormed}
+use Rattle.section.specs.Step.{faultOf, stepOf, stepSaid, decoded, faultNumber, fieldsOf, trackNumber}
 use Rattle.section.proofs.Laws.{and-left, and-right}
 
 -- ## Well-formed bytes
 
--- the tests of the fields that eight bytes give
-unfoldable pub bytesRight : ℕ → List ℕ → Bool
-bytesRight n s =
-    fieldsRight n (byte s 0) (byte s 1) (byte s 2) (byte s 3) (pair (byte s 4) (byte s 5)) (pair (byte s 6) (byte s 7))
-
-one-test : (p q : Bool) (y : TrackStep) → cond p (cond q (Well y) Malformed) Malformed ≡ cond (p && q) (Well y) Malformed
-one-test true q y = refl
-one-test false q y = refl
-
-is-well : (b : Bool) (y : TrackStep) → isWell (cond b (Well y) Malformed) ≡ b
-unfolding isWell
-is-well true y = refl
-is-well false y = refl
-
-decoded-is : (n : ℕ) (s : List ℕ) → decoded n s ≡ cond (eqb (length s) stepLength && bytesRight n s) (Well (stepSaid s)) Malformed
-unfolding decoded fromFields bytesRight stepSaid
-decoded-is n s = one-test (eqb (length s) stepLength) (bytesRight n s) (stepSaid s)
-
--- eight bytes whose fields are right
-pub well-formed-is : (n : ℕ) (s : List ℕ) → wellFormed n s ≡ (eqb (length s) stepLength && bytesRight n s)
-unfolding wellFormed
-well-formed-is n s = ap isWell (decoded-is n s) ∙ is-well (eqb (length s) stepLength && bytesRight n s) (stepSaid s)
-
-decoded-by : (n : ℕ) (s : List ℕ) (b : Bool) → wellFormed n s ≡ b → decoded n s ≡ cond b (Well (stepSaid s)) Malformed
-decoded-by n s b e = decoded-is n s ∙ ap (λ (t : Bool). cond t (Well (stepSaid s)) Malformed) (sym (well-formed-is n s) ∙ e)
-
 pub malformed : (n : ℕ) (s : List ℕ) → wellFormed n s ≡ false → decoded n s ≡ Malformed
-malformed n s e = decoded-by n s false e
+unfolding decoded
+malformed n s e = rw e
 
 pub well-said : (n : ℕ) (s : List ℕ) → wellFormed n s ≡ true → decoded n s ≡ Well (stepSaid s)
-well-said n s e = decoded-by n s true e
+unfolding decoded
+well-said n s e = rw e
 
-pub well-length : (n : ℕ) (s : List ℕ) → wellFormed n s ≡ true → length s ≡ stepLength
-well-length n s e = eqb-true (length s) stepLength (and-left (eqb (length s) stepLength) (bytesRight n s) (sym (well-formed-is n s) ∙ e))
+module _ (n : ℕ) (s : List ℕ) (e : wellFormed n s ≡ true) where
+  pub well-length : length s ≡ stepLength
+  unfolding wellFormed
+  well-length =
+      eqb-true (length s) stepLength
+      (and-left (eqb (length s) stepLength) (fieldsWellFormed n (byte s 1) (fieldsIn s) (le16 (byte s 6) (byte s 7))) e)
+
+  pub well-fields : fieldsWellFormed n (byte s 1) (fieldsIn s) (le16 (byte s 6) (byte s 7)) ≡ true
+  unfolding wellFormed
+  well-fields = and-right (eqb (length s) stepLength) (fieldsWellFormed n (byte s 1) (fieldsIn s) (le16 (byte s 6) (byte s 7))) e
 
 -- what the tests of the fields ask
-pub record Right (n kind track post fault number zeros : ℕ) : Type 0 where
-  pub kind-right : within 1 13 kind ≡ true
-  pub track-right : track < 2
-  pub post-right : post < n
-  pub fault-right : faultRight kind fault ≡ true
-  pub number-right : numberRight kind number ≡ true
-  pub zeros-right : zeros ≡ 0
+pub record WellFormed (n track : ℕ) (f : Fields) (zeros : ℕ) : Type 0 where
+  pub kind-well-formed : isKind (f .kind) ≡ true
+  pub track-below : track < 2
+  pub post-below : f .post < n
+  pub fault-well-formed : faultWellFormed (f .kind) (f .fault) ≡ true
+  pub number-well-formed : numberWellFormed (f .kind) (f .number) ≡ true
+  pub zeros-none : zeros ≡ 0
 
-pub right : (n kind track post fault number zeros : ℕ) → fieldsRight n kind track post fault number zeros ≡ true → Right n kind track post fault number zeros
-unfolding fieldsRight placeRight
-right n kind track post fault number zeros e =
-    let place = and-left (within 1 13 kind && (ltb track 2 && ltb post n)) (faultRight kind fault && (numberRight kind number && eqb zeros 0)) e in
-    let rest = and-right (within 1 13 kind && (ltb track 2 && ltb post n)) (faultRight kind fault && (numberRight kind number && eqb zeros 0)) e in
-    let spot = and-right (within 1 13 kind) (ltb track 2 && ltb post n) place in
-    let last = and-right (faultRight kind fault) (numberRight kind number && eqb zeros 0) rest in
+pub well-formed-fields : (n track : ℕ) (f : Fields) (zeros : ℕ) → fieldsWellFormed n track f zeros ≡ true → WellFormed n track f zeros
+unfolding fieldsWellFormed placeWellFormed
+well-formed-fields n track f zeros e =
+    let kind = isKind (f .kind) in
+    let spot = ltb track 2 && ltb (f .post) n in
+    let fault = faultWellFormed (f .kind) (f .fault) in
+    let number = numberWellFormed (f .kind) (f .number) in
+    let place = and-left (kind && spot) (fault && (number && eqb zeros 0)) e in
+    let rest = and-right (kind && spot) (fault && (number && eqb zeros 0)) e in
+    let last = and-right fault (number && eqb zeros 0) rest in
     record {
-      kind-right = and-left (within 1 13 kind) (ltb track 2 && ltb post n) place;
-      track-right = ltb-true track 2 (and-left (ltb track 2) (ltb post n) spot);
-      post-right = ltb-true post n (and-right (ltb track 2) (ltb post n) spot);
-      fault-right = and-left (faultRight kind fault) (numberRight kind number && eqb zeros 0) rest;
-      number-right = and-left (numberRight kind number) (eqb zeros 0) last;
-      zeros-right = eqb-true zeros 0 (and-right (numberRight kind number) (eqb zeros 0) last);
+      kind-well-formed = and-left kind spot place;
+      track-below = ltb-true track 2 (and-left (ltb track 2) (ltb (f .post) n) (and-right kind spot place));
+      post-below = ltb-true (f .post) n (and-right (ltb track 2) (ltb (f .post) n) (and-right kind spot place));
+      fault-well-formed = and-left fault (number && eqb zeros 0) rest;
+      number-well-formed = and-left number (eqb zeros 0) last;
+      zeros-none = eqb-true zeros 0 (and-right number (eqb zeros 0) last);
     }
 
 -- ## The fields that a step gives back
@@ -100,62 +88,39 @@ from-one P m e zero w = let z : _≡_ {A = ℕ} 0 1 = cc in absurd (omega arith)
 from-one P m e (suc k) w =
     below (λ (j : ℕ). P (suc j)) m e k (omega (arith, leb-true (suc k) m (and-right (leb 1 (suc k)) (leb (suc k) m) w)))
 
-fault-back : (f : ℕ) → within 1 3 f ≡ true → faultNumber (faultOf f) ≡ f
+fault-back : (f : ℕ) → isFault f ≡ true → faultNumber (faultOf f) ≡ f
 unfolding faultNumber faultOf
-fault-back f w = from-one (λ (f : ℕ). faultNumber (faultOf f) ≡ f) 3 (refl, (refl, (refl, tt))) f w
+fault-back f w = from-one (λ (f : ℕ). faultNumber (faultOf f) ≡ f) lastFault (refl, (refl, (refl, tt))) f w
 
 pub track-back : (t : ℕ) → t < 2 → trackNumber (eqb t 1) ≡ t
 unfolding trackNumber
 track-back t h = below (λ (t : ℕ). trackNumber (eqb t 1) ≡ t) 2 (refl, (refl, tt)) t h
 
+-- the step of right fields has these fields
 module _ (p f z : ℕ) where
-  pub kind-read : (k : ℕ) → within 1 13 k ≡ true → kindOf (stepOf k p f z) ≡ k
-  unfolding kindOf stepOf
-  kind-read k w =
-      from-one (λ (k : ℕ). kindOf (stepOf k p f z) ≡ k) 13
-      (refl, (refl, (refl, (refl, (refl, (refl, (refl, (refl, (refl, (refl, (refl, (refl, (refl, tt))))))))))))) k w
+  plain : {k : ℕ} → eqb f 0 ≡ true → eqb z 0 ≡ true → fields k p 0 0 ≡ fields k p f z
+  plain no-fault no-number = rw (eqb-true f 0 no-fault, eqb-true z 0 no-number)
 
-  pub post-read : (k : ℕ) → within 1 13 k ≡ true → postOf (stepOf k p f z) ≡ p
-  unfolding postOf stepOf
-  post-read k w =
-      from-one (λ (k : ℕ). postOf (stepOf k p f z) ≡ p) 13
-      (refl, (refl, (refl, (refl, (refl, (refl, (refl, (refl, (refl, (refl, (refl, (refl, (refl, tt))))))))))))) k w
+  numbered : {k : ℕ} {number : Bool} → eqb f 0 ≡ true → number ≡ true → fields k p 0 z ≡ fields k p f z
+  numbered no-fault h = rw (eqb-true f 0 no-fault)
 
-  pub fault-read : (k : ℕ) → within 1 13 k ≡ true → faultRight k f ≡ true → faultByte (stepOf k p f z) ≡ f
-  unfolding faultByte stepOf faultRight within
-  fault-read k w =
-      let none : eqb f 0 ≡ true → 0 ≡ f = λ h. sym (eqb-true f 0 h) in
-      from-one (λ (k : ℕ). faultRight k f ≡ true → faultByte (stepOf k p f z) ≡ f) 13
-      (none, (none, (none, (none, (none, (none, (none, (none, (none, (fault-back f, (fault-back f, (none, (none, tt))))))))))))) k w
+  faulted : {k : ℕ} → isFault f ≡ true → eqb z 0 ≡ true → fields k p (faultNumber (faultOf f)) 0 ≡ fields k p f z
+  faulted h no-number = rw (fault-back f h, eqb-true z 0 no-number)
 
-  pub number-read : (k : ℕ) → within 1 13 k ≡ true → numberRight k z ≡ true → numberOf (stepOf k p f z) ≡ z
-  unfolding numberOf stepOf numberRight within
-  number-read k w =
-      let none : eqb z 0 ≡ true → 0 ≡ z = λ h. sym (eqb-true z 0 h) in
-      let held : within 1 largestTrain z ≡ true → z ≡ z = λ h. refl in
-      let held-or-none : leb z largestTrain ≡ true → z ≡ z = λ h. refl in
-      from-one (λ (k : ℕ). numberRight k z ≡ true → numberOf (stepOf k p f z) ≡ z) 13
-      (none, (none, (none, (none, (held, (held, (held, (none, (none, (none, (none, (held-or-none, (none, tt))))))))))))) k w
+  fields-again : (k : ℕ) → isKind k ≡ true → faultWellFormed k f ≡ true → numberWellFormed k z ≡ true → fieldsOf (stepOf (fields k p f z)) ≡ fields k p f z
+  unfolding stepOf faultWellFormed numberWellFormed within
+  fields-again k w =
+      from-one (λ (k : ℕ). faultWellFormed k f ≡ true → numberWellFormed k z ≡ true → fieldsOf (stepOf (fields k p f z)) ≡ fields k p f z) lastKind
+      (plain, (plain, (plain, (plain, (numbered, (numbered, (numbered, (plain, (plain, (faulted, (faulted, (numbered, (plain, tt))))))))))))) k w
 
--- ## A step's own fields are right
+pub fields-back :
+    (f : Fields) → isKind (f .kind) ≡ true → faultWellFormed (f .kind) (f .fault) ≡ true → numberWellFormed (f .kind) (f .number) ≡ true →
+    fieldsOf (stepOf f) ≡ f
+fields-back f w = fields-again (f .post) (f .fault) (f .number) (f .kind) w
 
-pub kind-within : (x : Step) → within 1 13 (kindOf x) ≡ true
-unfolding kindOf within
-kind-within (Order p) = refl
-kind-within (Set p) = refl
-kind-within (Announce p) = refl
-kind-within (Acknowledge p) = refl
-kind-within (Start p z) = refl
-kind-within (Pass p z) = refl
-kind-within (Leave p z) = refl
-kind-within (MeasuresOn p) = refl
-kind-within (MeasuresOff p) = refl
-kind-within (FaultOn p f) = refl
-kind-within (FaultOff p f) = refl
-kind-within (Release p z) = refl
-kind-within (Key p) = refl
+-- ## A step's own fields
 
-fault-within : (f : Fault) → within 1 3 (faultNumber f) ≡ true
+fault-within : (f : Fault) → isFault (faultNumber f) ≡ true
 unfolding faultNumber within
 fault-within One = refl
 fault-within Two = refl
@@ -167,37 +132,27 @@ fault-same One = refl
 fault-same Two = refl
 fault-same Three = refl
 
-pub fault-fits : (x : Step) → faultRight (kindOf x) (faultByte x) ≡ true
-unfolding kindOf faultByte faultRight within
-fault-fits (Order p) = refl
-fault-fits (Set p) = refl
-fault-fits (Announce p) = refl
-fault-fits (Acknowledge p) = refl
-fault-fits (Start p z) = refl
-fault-fits (Pass p z) = refl
-fault-fits (Leave p z) = refl
-fault-fits (MeasuresOn p) = refl
-fault-fits (MeasuresOff p) = refl
-fault-fits (FaultOn p f) = fault-within f
-fault-fits (FaultOff p f) = fault-within f
-fault-fits (Release p z) = refl
-fault-fits (Key p) = refl
+-- they give the step, and its kind and fault are right
+pub record Own (x : Step) : Type 0 where
+  pub same : stepOf (fieldsOf x) ≡ x
+  pub kind-well-formed : isKind (fieldsOf x .kind) ≡ true
+  pub fault-well-formed : faultWellFormed (fieldsOf x .kind) (fieldsOf x .fault) ≡ true
 
-pub step-same : (x : Step) → stepOf (kindOf x) (postOf x) (faultByte x) (numberOf x) ≡ x
-unfolding kindOf postOf faultByte numberOf stepOf
-step-same (Order p) = refl
-step-same (Set p) = refl
-step-same (Announce p) = refl
-step-same (Acknowledge p) = refl
-step-same (Start p z) = refl
-step-same (Pass p z) = refl
-step-same (Leave p z) = refl
-step-same (MeasuresOn p) = refl
-step-same (MeasuresOff p) = refl
-step-same (FaultOn p f) = ap (FaultOn p) (fault-same f)
-step-same (FaultOff p f) = ap (FaultOff p) (fault-same f)
-step-same (Release p z) = refl
-step-same (Key p) = refl
+pub own : (x : Step) → Own x
+unfolding stepOf faultWellFormed within
+own (Order p) = record { same = refl; kind-well-formed = refl; fault-well-formed = refl }
+own (Set p) = record { same = refl; kind-well-formed = refl; fault-well-formed = refl }
+own (Announce p) = record { same = refl; kind-well-formed = refl; fault-well-formed = refl }
+own (Acknowledge p) = record { same = refl; kind-well-formed = refl; fault-well-formed = refl }
+own (Start p z) = record { same = refl; kind-well-formed = refl; fault-well-formed = refl }
+own (Pass p z) = record { same = refl; kind-well-formed = refl; fault-well-formed = refl }
+own (Leave p z) = record { same = refl; kind-well-formed = refl; fault-well-formed = refl }
+own (MeasuresOn p) = record { same = refl; kind-well-formed = refl; fault-well-formed = refl }
+own (MeasuresOff p) = record { same = refl; kind-well-formed = refl; fault-well-formed = refl }
+own (FaultOn p f) = record { same = ap (FaultOn p) (fault-same f); kind-well-formed = refl; fault-well-formed = fault-within f }
+own (FaultOff p f) = record { same = ap (FaultOff p) (fault-same f); kind-well-formed = refl; fault-well-formed = fault-within f }
+own (Release p z) = record { same = refl; kind-well-formed = refl; fault-well-formed = refl }
+own (Key p) = record { same = refl; kind-well-formed = refl; fault-well-formed = refl }
 
 pub track-within : (b : Bool) → ltb (trackNumber b) 2 ≡ true
 unfolding trackNumber
@@ -209,50 +164,52 @@ unfolding trackNumber
 track-same true = refl
 track-same false = refl
 
--- a right number is none or a train's
-pub number-small : (kind number : ℕ) → numberRight kind number ≡ true → number ≤ largestTrain
-unfolding numberRight within
-number-small kind number e = small (within 5 7 kind) (eqb kind 12) e
+-- ## Well-formed fields are small
+
+-- a well-formed number is none or a train's
+pub number-small : (kind number : ℕ) → numberWellFormed kind number ≡ true → number ≤ largestTrain
+unfolding numberWellFormed within
+number-small kind number e = small (isTrainKind kind) (eqb kind releaseKind) e
   where
     small : (moves releases : Bool) →
-        cond moves (within 1 largestTrain number) (cond releases (leb number largestTrain) (eqb number 0)) ≡ true →
+        cond moves (isTrain number) (cond releases (leb number largestTrain) (eqb number 0)) ≡ true →
         number ≤ largestTrain
     small true releases h = leb-true number largestTrain (and-right (leb 1 number) (leb number largestTrain) h)
     small false true h = leb-true number largestTrain h
     small false false h = omega (arith, eqb-true number 0 h)
 
-pub kind-small : (kind : ℕ) → within 1 13 kind ≡ true → kind ≤ 13
+pub kind-small : (kind : ℕ) → isKind kind ≡ true → kind ≤ lastKind
 unfolding within
-kind-small kind e = leb-true kind 13 (and-right (leb 1 kind) (leb kind 13) e)
+kind-small kind e = leb-true kind lastKind (and-right (leb 1 kind) (leb kind lastKind) e)
 
-pub fault-small : (kind fault : ℕ) → faultRight kind fault ≡ true → fault ≤ 3
-unfolding faultRight within
-fault-small kind fault e = small (within 10 11 kind) e
+pub fault-small : (kind fault : ℕ) → faultWellFormed kind fault ≡ true → fault ≤ lastFault
+unfolding faultWellFormed within
+fault-small kind fault e = small (isFaultKind kind) e
   where
-    small : (faults : Bool) → cond faults (within 1 3 fault) (eqb fault 0) ≡ true → fault ≤ 3
-    small true h = leb-true fault 3 (and-right (leb 1 fault) (leb fault 3) h)
+    small : (faults : Bool) → cond faults (isFault fault) (eqb fault 0) ≡ true → fault ≤ lastFault
+    small true h = leb-true fault lastFault (and-right (leb 1 fault) (leb fault lastFault) h)
     small false h = omega (arith, eqb-true fault 0 h)
 
 -- ## Two bytes and their number
 
-pub pair-back : (z : ℕ) → pair (z % 256) (z / 256) ≡ z
-unfolding pair
-pair-back z = omega arith
+pub le16-back : (z : ℕ) → le16 (z % 256) (z / 256) ≡ z
+unfolding le16
+le16-back z = omega arith
 
-pub low-back : (low high : ℕ) → low < 256 → pair low high % 256 ≡ low
-unfolding pair
+pub low-back : (low high : ℕ) → low < 256 → le16 low high % 256 ≡ low
+unfolding le16
 low-back low high h = omega arith
 
-pub high-back : (low high : ℕ) → low < 256 → pair low high / 256 ≡ high
-unfolding pair
+pub high-back : (low high : ℕ) → low < 256 → le16 low high / 256 ≡ high
+unfolding le16
 high-back low high h = omega arith
 
-pub zero-low : (low high : ℕ) → pair low high ≡ 0 → 0 ≡ low
-unfolding pair
+pub zero-low : (low high : ℕ) → le16 low high ≡ 0 → 0 ≡ low
+unfolding le16
 zero-low low high h = omega arith
 
-pub zero-high : (low high : ℕ) → pair low high ≡ 0 → 0 ≡ high
-unfolding pair
+pub zero-high : (low high : ℕ) → le16 low high ≡ 0 → 0 ≡ high
+unfolding le16
 zero-high low high h = omega arith
 
 -- ## Lists of bytes

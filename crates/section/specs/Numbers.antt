@@ -1,4 +1,4 @@
--- The limits of document 01, each once.
+-- The numbers of document 01, each once: limits, lengths, kinds of steps.
 use Prim.Native.Nat.{ℕ}
 
 abbrev pub leastPosts : ℕ
@@ -23,3 +23,52 @@ mostSeals = 999
 -- bytes of a step
 abbrev pub stepLength : ℕ
 stepLength = 8
+
+-- the faults of a post: 1 to 3
+abbrev pub lastFault : ℕ
+lastFault = 3
+
+-- ## Kinds of steps, as byte 0 holds them
+
+abbrev pub orderKind : ℕ
+orderKind = 1
+
+abbrev pub setKind : ℕ
+setKind = 2
+
+abbrev pub announceKind : ℕ
+announceKind = 3
+
+abbrev pub acknowledgeKind : ℕ
+acknowledgeKind = 4
+
+abbrev pub startKind : ℕ
+startKind = 5
+
+abbrev pub passKind : ℕ
+passKind = 6
+
+abbrev pub leaveKind : ℕ
+leaveKind = 7
+
+abbrev pub measuresOnKind : ℕ
+measuresOnKind = 8
+
+abbrev pub measuresOffKind : ℕ
+measuresOffKind = 9
+
+abbrev pub faultOnKind : ℕ
+faultOnKind = 10
+
+abbrev pub faultOffKind : ℕ
+faultOffKind = 11
+
+abbrev pub releaseKind : ℕ
+releaseKind = 12
+
+abbrev pub keyKind : ℕ
+keyKind = 13
+
+-- they are numbered from 1 on
+abbrev pub lastKind : ℕ
+lastKind = keyKind

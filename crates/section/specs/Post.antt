@@ -3,17 +3,19 @@ use Prim.Native.Nat.{suc}
 use mathlib.Core.Bool.{Bool, false}
 use Rattle.section.specs.declared.Fault.{Fault}
 use Rattle.section.specs.declared.Fault.the-variants.{One, Two, Three}
+use Rattle.section.specs.declared.Faults.{Faults}
 use Rattle.section.specs.declared.Post.{Post}
+
+abbrev pub noFaults : Faults
+noFaults = record { one = false; two = false; three = false }
 
 -- no permission, no measures, no fault, no mark, count 0, the device at VNS
 abbrev pub blank : Post
 blank = record {
-  cvt = false;
+  device = false;
   permission = false;
   measures = false;
-  fault1 = false;
-  fault2 = false;
-  fault3 = false;
+  faults = noFaults;
   mark = false;
   seals = 0;
 }
@@ -21,12 +23,10 @@ blank = record {
 -- the device turned to a direction
 abbrev pub turned : Bool → Post → Post
 turned x o = record {
-  cvt = x;
+  device = x;
   permission = o .permission;
   measures = o .measures;
-  fault1 = o .fault1;
-  fault2 = o .fault2;
-  fault3 = o .fault3;
+  faults = o .faults;
   mark = o .mark;
   seals = o .seals;
 }
@@ -34,12 +34,10 @@ turned x o = record {
 -- start permission given or taken
 abbrev pub permitted : Bool → Post → Post
 permitted x o = record {
-  cvt = o .cvt;
+  device = o .device;
   permission = x;
   measures = o .measures;
-  fault1 = o .fault1;
-  fault2 = o .fault2;
-  fault3 = o .fault3;
+  faults = o .faults;
   mark = o .mark;
   seals = o .seals;
 }
@@ -47,45 +45,26 @@ permitted x o = record {
 -- measures in place or lifted
 abbrev pub measured : Bool → Post → Post
 measured x o = record {
-  cvt = o .cvt;
+  device = o .device;
   permission = o .permission;
   measures = x;
-  fault1 = o .fault1;
-  fault2 = o .fault2;
-  fault3 = o .fault3;
+  faults = o .faults;
   mark = o .mark;
   seals = o .seals;
 }
 
 -- a fault that stands or is gone
+abbrev pub withFault : Fault → Bool → Faults → Faults
+withFault One x l = record { one = x; two = l .two; three = l .three }
+withFault Two x l = record { one = l .one; two = x; three = l .three }
+withFault Three x l = record { one = l .one; two = l .two; three = x }
+
 abbrev pub faulty : Fault → Bool → Post → Post
-faulty One x o = record {
-  cvt = o .cvt;
+faulty f x o = record {
+  device = o .device;
   permission = o .permission;
   measures = o .measures;
-  fault1 = x;
-  fault2 = o .fault2;
-  fault3 = o .fault3;
-  mark = o .mark;
-  seals = o .seals;
-}
-faulty Two x o = record {
-  cvt = o .cvt;
-  permission = o .permission;
-  measures = o .measures;
-  fault1 = o .fault1;
-  fault2 = x;
-  fault3 = o .fault3;
-  mark = o .mark;
-  seals = o .seals;
-}
-faulty Three x o = record {
-  cvt = o .cvt;
-  permission = o .permission;
-  measures = o .measures;
-  fault1 = o .fault1;
-  fault2 = o .fault2;
-  fault3 = x;
+  faults = withFault f x (o .faults);
   mark = o .mark;
   seals = o .seals;
 }
@@ -93,12 +72,10 @@ faulty Three x o = record {
 -- the release mark made or dropped
 abbrev pub marked : Bool → Post → Post
 marked x o = record {
-  cvt = o .cvt;
+  device = o .device;
   permission = o .permission;
   measures = o .measures;
-  fault1 = o .fault1;
-  fault2 = o .fault2;
-  fault3 = o .fault3;
+  faults = o .faults;
   mark = x;
   seals = o .seals;
 }
@@ -106,17 +83,15 @@ marked x o = record {
 -- the seal count one more
 abbrev pub sealed : Post → Post
 sealed o = record {
-  cvt = o .cvt;
+  device = o .device;
   permission = o .permission;
   measures = o .measures;
-  fault1 = o .fault1;
-  fault2 = o .fault2;
-  fault3 = o .fault3;
+  faults = o .faults;
   mark = o .mark;
   seals = suc (o .seals);
 }
 
 abbrev pub hasFault : Fault → Post → Bool
-hasFault One o = o .fault1
-hasFault Two o = o .fault2
-hasFault Three o = o .fault3
+hasFault One o = o .faults .one
+hasFault Two o = o .faults .two
+hasFault Three o = o .faults .three

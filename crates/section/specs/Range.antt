@@ -14,35 +14,35 @@ use Rattle.section.specs.declared.Section.{Section}
 use Rattle.section.specs.Geometry.{upward, isFirst, isLast}
 use Rattle.section.specs.Numbers.{mostSeals, largestTrain}
 use Rattle.section.specs.Post.{blank}
-use Rattle.section.specs.Settings.{settingsRight}
+use Rattle.section.specs.Settings.{settingsInRange}
 
 -- "a seal count 0 to 999", of the first m posts
-unfoldable pub sealsFit : ℕ → List Post → Bool
-sealsFit zero l = true
-sealsFit (suc m) l = leb (getD l m blank .seals) mostSeals && sealsFit m l
+unfoldable pub sealsInRange : ℕ → List Post → Bool
+sealsInRange zero l = true
+sealsInRange (suc m) l = leb (getD l m blank .seals) mostSeals && sealsInRange m l
 
 -- trains and last trains, of the first m block sections
-unfoldable pub numbersFit : ℕ → List ℕ → Bool
-numbersFit zero l = true
-numbersFit (suc m) l = leb (getD l m 0) largestTrain && numbersFit m l
+unfoldable pub numbersInRange : ℕ → List ℕ → Bool
+numbersInRange zero l = true
+numbersInRange (suc m) l = leb (getD l m 0) largestTrain && numbersInRange m l
 
 -- "set, announce (never at the last post) or acknowledge (never at the first)"
-unfoldable pub actFits : ℕ → Bool → ℕ → Act → Bool
-actFits n up p Set = true
-actFits n up p Announce = not (isLast n up p)
-actFits n up p Acknowledge = not (isFirst n up p)
+unfoldable pub actInRange : ℕ → Bool → ℕ → Act → Bool
+actInRange n up p Set = true
+actInRange n up p Announce = not (isLast n up p)
+actInRange n up p Acknowledge = not (isFirst n up p)
 
-unfoldable pub walkFits : ℕ → Bool → Walk → Bool
-walkFits n up Settled = true
-walkFits n up (Turn p act) = ltb p n && actFits n up p act
+unfoldable pub walkInRange : ℕ → Bool → Walk → Bool
+walkInRange n up Settled = true
+walkInRange n up (Turn p act) = ltb p n && actInRange n up p act
 
-unfoldable pub trackFits : ℕ → Bool → Track → Bool
-trackFits n track t =
-    sealsFit n (t .posts)
-    && (numbersFit (n - 1) (t .trains) && (numbersFit (n - 1) (t .last) && walkFits n (upward track (t .cvt)) (t .walk)))
+unfoldable pub trackInRange : ℕ → Bool → Track → Bool
+trackInRange n track t =
+    sealsInRange n (t .posts)
+    && (numbersInRange (n - 1) (t .trains) && (numbersInRange (n - 1) (t .last) && walkInRange n (upward track (t .cvt)) (t .walk)))
 
 -- what refusal 6 asks for
 unfoldable pub inRange : Section → Bool
 inRange s =
-    settingsRight (s .settings)
-    && (trackFits (s .settings .posts) false (s .a) && trackFits (s .settings .posts) true (s .b))
+    settingsInRange (s .settings)
+    && (trackInRange (s .settings .posts) false (s .a) && trackInRange (s .settings .posts) true (s .b))

@@ -7,8 +7,8 @@ use Rattle.section.specs.Bytes.{within}
 use Rattle.section.specs.Numbers.{leastPosts, mostPosts, largestLine}
 
 -- "bit p set for a signalled post"
-unfoldable pub bit : ℕ → ℕ → Bool
-bit mask p = eqb (mask / 2 ^ p % 2) 1
+unfoldable pub isSignalled : ℕ → ℕ → Bool
+isSignalled mask p = eqb (mask / 2 ^ p % 2) 1
 
 -- no bit at n or above
 unfoldable pub noneFrom : ℕ → ℕ → Bool
@@ -19,11 +19,11 @@ unfoldable pub isMaterialised : Settings → Bool
 isMaterialised c = eqb (c .form) 1
 
 -- "byte 0 n; byte 1 form; bytes 2–3 a mask, .. both ends set, none above n−1; bytes 4–5 line number 1 to 999"
-unfoldable pub settingsRight : Settings → Bool
-settingsRight c =
+unfoldable pub settingsInRange : Settings → Bool
+settingsInRange c =
     within leastPosts mostPosts (c .posts)
     && (leb (c .form) 1
-    && (bit (c .mask) 0
-    && (bit (c .mask) (c .posts - 1)
+    && (isSignalled (c .mask) 0
+    && (isSignalled (c .mask) (c .posts - 1)
     && (noneFrom (c .mask) (c .posts)
     && within 1 largestLine (c .line)))))

@@ -1,10 +1,14 @@
 // The vocabulary of direction blocking (document 01): settings, steps, the state of a section, answers.
+
 mod fresh_section;
+pub mod kinds;
 mod little_endian;
+pub mod positions;
 mod post_record;
+pub mod words;
 
 pub use fresh_section::fresh;
-pub use little_endian::pair_of;
+pub use little_endian::le16_of;
 pub use post_record::blank;
 
 pub const LEAST_POSTS: u8 = 2;
@@ -21,6 +25,9 @@ pub const LARGEST_TRAIN: u16 = 9999;
 pub const MOST_SEALS: u16 = 999;
 
 pub const STEP_LENGTH: usize = 8;
+
+// The faults of a post: 1 to 3.
+pub const LAST_FAULT: u8 = 3;
 
 // What a line is: n posts, the form (0 telephone, 1 materialised), the mask of signalled posts, the line number.
 pub struct Settings {
@@ -66,14 +73,19 @@ pub enum Decoded {
     Malformed,
 }
 
-// What a post keeps on one track. `cvt`: its device stands at CVT.
+// Which faults stand at a post.
+pub struct Faults {
+    pub one: bool,
+    pub two: bool,
+    pub three: bool,
+}
+
+// What a post keeps on one track. `device`: its device stands at CVT.
 pub struct Post {
-    pub cvt: bool,
+    pub device: bool,
     pub permission: bool,
     pub measures: bool,
-    pub fault1: bool,
-    pub fault2: bool,
-    pub fault3: bool,
+    pub faults: Faults,
     pub mark: bool,
     pub seals: u16,
 }

@@ -2,20 +2,44 @@
 ghost use mathlib.Core.Path.{_≡_};
 ghost use Prim.Native.Nat.{_<_};
 ghost use Rattle.section.specs.Numbers.{mostSeals};
-ghost use Rattle.section.specs.Post.{blank, turned, permitted, measured, faulty, marked, sealed, hasFault};
+ghost use Rattle.section.specs.Post.{blank, turned, permitted, measured, withFault, faulty, marked, sealed, hasFault};
 use crate::Fault;
+use crate::Faults;
 use crate::Post;
+
+impl Faults {
+    // The fault stands, or else is gone.
+    fn with_fault(mut self, f: Fault, x: bool) -> Faults
+        ensures { λ r. ⌜ r ≡ withFault f x self ⌝ }
+    {
+        match f {
+            Fault::One => {
+                self.one = x;
+            }
+            Fault::Two => {
+                self.two = x;
+            }
+            Fault::Three => {
+                self.three = x;
+            }
+        }
+        self
+    }
+}
 
 pub fn blank() -> Post
     ensures { λ r. ⌜ r ≡ blank ⌝ }
 {
+    let faults = Faults {
+        one: false,
+        two: false,
+        three: false,
+    };
     Post {
-        cvt: false,
+        device: false,
         permission: false,
         measures: false,
-        fault1: false,
-        fault2: false,
-        fault3: false,
+        faults: faults,
         mark: false,
         seals: 0,
     }
@@ -26,7 +50,7 @@ impl Post {
     pub fn turned(mut self, cvt: bool) -> Post
         ensures { λ r. ⌜ r ≡ turned cvt self ⌝ }
     {
-        self.cvt = cvt;
+        self.device = cvt;
         self
     }
 
@@ -47,17 +71,9 @@ impl Post {
     pub fn faulty(mut self, f: Fault, x: bool) -> Post
         ensures { λ r. ⌜ r ≡ faulty f x self ⌝ }
     {
-        match f {
-            Fault::One => {
-                self.fault1 = x;
-            }
-            Fault::Two => {
-                self.fault2 = x;
-            }
-            Fault::Three => {
-                self.fault3 = x;
-            }
-        }
+        let before = self.faults;
+        let faults = before.with_fault(f, x);
+        self.faults = faults;
         self
     }
 
@@ -81,9 +97,9 @@ impl Post {
         ensures { λ r. ⌜ r ≡ hasFault f self ⌝ }
     {
         match f {
-            Fault::One => self.fault1,
-            Fault::Two => self.fault2,
-            Fault::Three => self.fault3,
+            Fault::One => self.faults.one,
+            Fault::Two => self.faults.two,
+            Fault::Three => self.faults.three,
         }
     }
 }

@@ -1,14 +1,18 @@
 // A step from its eight bytes.
+
+pub mod well_formed;
+
 ghost use mathlib.Core.Path.{_≡_};
 ghost use lib.ListN.{length};
 ghost use Rattle.section.specs.Numbers.{stepLength};
-ghost use Rattle.section.specs.Step.{faultOf, stepOf, stepSaid, decoded};
+ghost use Rattle.section.specs.Step.{fields, faultOf, stepOf, stepSaid, decoded};
+use crate::well_formed::is_well_formed;
 use section::Decoded;
 use section::Fault;
 use section::Step;
 use section::TrackStep;
-use section::pair_of;
-use step_tests::is_well_formed;
+use section::kinds;
+use section::le16_of;
 
 fn fault_of(fault: u8) -> Fault
     ensures { λ r. ⌜ r ≡ faultOf fault ⌝ }
@@ -21,36 +25,36 @@ fn fault_of(fault: u8) -> Fault
 }
 
 fn step_of(kind: u8, post: u8, fault: u8, number: u16) -> Step
-    ensures { λ r. ⌜ r ≡ stepOf kind post fault number ⌝ }
+    ensures { λ r. ⌜ r ≡ stepOf (fields kind post fault number) ⌝ }
 {
     match kind {
-        1 => Step::Order { post: post },
-        2 => Step::Set { post: post },
-        3 => Step::Announce { post: post },
-        4 => Step::Acknowledge { post: post },
-        5 => Step::Start {
+        kinds::ORDER => Step::Order { post: post },
+        kinds::SET => Step::Set { post: post },
+        kinds::ANNOUNCE => Step::Announce { post: post },
+        kinds::ACKNOWLEDGE => Step::Acknowledge { post: post },
+        kinds::START => Step::Start {
             post: post,
             number: number,
         },
-        6 => Step::Pass {
+        kinds::PASS => Step::Pass {
             post: post,
             number: number,
         },
-        7 => Step::Leave {
+        kinds::LEAVE => Step::Leave {
             post: post,
             number: number,
         },
-        8 => Step::MeasuresOn { post: post },
-        9 => Step::MeasuresOff { post: post },
-        10 => Step::FaultOn {
+        kinds::MEASURES_ON => Step::MeasuresOn { post: post },
+        kinds::MEASURES_OFF => Step::MeasuresOff { post: post },
+        kinds::FAULT_ON => Step::FaultOn {
             post: post,
             fault: fault_of(fault),
         },
-        11 => Step::FaultOff {
+        kinds::FAULT_OFF => Step::FaultOff {
             post: post,
             fault: fault_of(fault),
         },
-        12 => Step::Release {
+        kinds::RELEASE => Step::Release {
             post: post,
             number: number,
         },
@@ -62,7 +66,7 @@ fn step_said(s: &[u8]) -> TrackStep
     requires { ⌜ length (now s) ≡ stepLength ⌝ }
     ensures { λ r. ⌜ r ≡ stepSaid (now (s .entry)) ⌝ }
 {
-    let step = step_of(s[0], s[2], s[3], pair_of(s[4], s[5]));
+    let step = step_of(s[0], s[2], s[3], le16_of(s[4], s[5]));
     TrackStep {
         track: s[1] == 1,
         step: step,

@@ -1,15 +1,17 @@
--- A text written at a place, and another after it.
-use mathlib.Core.Path.{_≡_, sym, _∙_, ap}
+-- A text written at a place, and another after it: what is put after a text continues it (`then`), so texts put one after another are one text.
+-- A number is its digits but the last, then the last.
+use mathlib.Core.Path.{_≡_, refl, sym, _∙_, ap}
 use mathlib.Core.List.{List, [], _∷_, _++_, append-assoc, append-nil}
-use Prim.Native.Nat.{ℕ, zero, suc, _+_, _-_, _/_, _%_, _≤_, _<_}
+use Prim.Native.Nat.{ℕ, zero, suc, _+_, _-_, _*_, _/_, _%_, _≤_, _<_}
 use mathlib.Core.Bool.{Bool, true, false, cond}
 use native.Mathlib.Omega.{arith}
-use native.Mathlib.Nat.{zero-add, add-assoc, add-zero, add-sub-cancel-left, mod-eq-of-lt}
+use native.Mathlib.Nat.{zero-add, add-assoc, add-zero, mul-suc, add-sub-cancel-left, mod-eq-of-lt}
+use native.Mathlib.Numerals.{add-one}
 use lib.ListN.{length, take, drop, set, take-append-drop, length-append, length-drop}
 use lib.Seq.{length-take-le, take-length, drop-length, take-at, drop-drop, set-split, drop-append-add}
 use lib.Dec.{ltb}
 use borrow.Author.Tests.{lt-ltb, le-ltb}
-use Rattle.text.specs.Text.{digit, decimalDigits, mostDigits, decimal, written}
+use Rattle.text.specs.Text.{digit, decimalDigits, mostDigits, decimal, written, firstTexts}
 
 -- a text at the front
 pub at-front : (l s : List ℕ) → written l 0 s ≡ s ++ drop (length s) l
@@ -31,7 +33,7 @@ filled s d e =
     ∙ append-nil (take (length s) s)
     ∙ take-length s
 
--- a part of the buffer, copied over
+-- a text copied into a part of the buffer
 pub part-copied :
     (l s part : List ℕ) (at : ℕ) → at + length s ≤ length l
     → part ≡ take (length s) s ++ drop (length s) (take (at + length s - at) (drop at l))
@@ -69,22 +71,58 @@ written-twice l at s t h =
     ∙ ap (λ (k : ℕ). drop k l) (add-assoc at (length s) (length t) ∙ ap (λ (k : ℕ). at + k) (sym (length-append s t))) in
     rw (a, b) (simp append-assoc)
 
--- a text put at a place: the next place, and the buffer afterwards
-pub record Put (l : List ℕ) (at : ℕ) (text : List ℕ) (r : ℕ) (m : List ℕ) : Type 0 where
-  pub next : r ≡ at + length text
-  pub after : m ≡ written l at text
+-- what a function that puts a text ensures: the next place, and the buffer afterwards
+abbrev pub Putting : List ℕ → ℕ → List ℕ → ℕ → List ℕ → Type 0
+Putting l at text r m = (r ≡ at + length text) × (m ≡ written l at text)
 
--- a text, and another put after it
-pub put-then :
-    {l m k : List ℕ} {at r q : ℕ} {s t : List ℕ} → Put l at s r m → at + length s ≤ length l → Put m r t q k → Put l at (s ++ t) q k
-put-then {l} {m} {k} {at} {r} {q} {s} {t} a room b = record {
-  next = b .next ∙ ap (λ (i : ℕ). i + length t) (a .next) ∙ simp length-append (omega arith);
-  after =
-      b .after
-      ∙ ap (λ (x : List ℕ). written x r t) (a .after)
-      ∙ ap (λ (i : ℕ). written (written l at s) i t) (a .next)
-      ∙ written-twice l at s t room;
-}
+-- a text, then another
+pub then :
+    (l m k : List ℕ) (at r q : ℕ) (s t : List ℕ) → at + length s ≤ length l → Putting l at s r m → Putting m r t q k
+    → Putting l at (s ++ t) q k
+then l m k at r q s t room a b = (
+  b .0 ∙ ap (λ (i : ℕ). i + length t) (a .0) ∙ simp length-append (omega arith),
+  b .1
+      ∙ ap (λ (x : List ℕ). written x r t) (a .1)
+      ∙ ap (λ (i : ℕ). written (written l at s) i t) (a .0)
+      ∙ written-twice l at s t room,
+)
+
+-- no text
+nothing-put : (l : List ℕ) (at : ℕ) → Putting l at [] at l
+unfolding written
+nothing-put l at = (omega arith, sym (ap (λ (k : ℕ). take at l ++ drop k l) (add-zero at) ∙ take-append-drop at l))
+
+-- ## The first of many texts
+
+-- as long as that many of the longest
+pub first-texts-length : (f : ℕ → List ℕ) (w m : ℕ) → ((k : ℕ) → length (f k) ≤ w) → length (firstTexts f m) ≤ w * m
+unfolding firstTexts
+first-texts-length f w zero h = omega arith
+first-texts-length f w (suc m) h = simp (length-append, mul-suc) (omega (arith, first-texts-length f w m h, h m))
+
+-- texts of one length
+pub first-texts-whole : (f : ℕ → List ℕ) (w m : ℕ) → ((k : ℕ) → length (f k) ≡ w) → length (firstTexts f m) ≡ m * w
+unfolding firstTexts
+first-texts-whole f w zero h = omega arith
+first-texts-whole f w (suc m) h = simp length-append (omega (arith, first-texts-whole f w m h, h m))
+
+-- none yet
+pub none-put : (f : ℕ → List ℕ) (l : List ℕ) (at : ℕ) → Putting l at (firstTexts f 0) at l
+unfolding firstTexts
+none-put f l at = nothing-put l at
+
+-- one more
+pub one-more-put :
+    (f : ℕ → List ℕ) (l m k : List ℕ) (at i r q : ℕ) → at + length (firstTexts f i) ≤ length l → Putting l at (firstTexts f i) r m
+    → Putting m r (f i) q k → Putting l at (firstTexts f (i + 1)) q k
+unfolding firstTexts
+one-more-put f l m k at i r q room a b = rw (add-one i) (then l m k at r q (firstTexts f i) (f i) room a b)
+
+-- the same texts
+pub same-texts : (f g : ℕ → List ℕ) (m : ℕ) → ((i : ℕ) → i < m → f i ≡ g i) → firstTexts f m ≡ firstTexts g m
+unfolding firstTexts
+same-texts f g zero same = refl
+same-texts f g (suc m) same = rw (same-texts f g m (λ i. λ h. same i (omega arith)), same m (omega arith)) refl
 
 -- ## The digits of a number
 
@@ -118,28 +156,25 @@ decimal-length x = digits-length mostDigits x
 
 -- a number written, by how many digits may be left
 
-pub put-nothing : (l : List ℕ) (at most x : ℕ) → most ≡ 0 → Put l at (decimalDigits most x) at l
-unfolding decimalDigits written
-put-nothing l at most x e = rw e (record { next = omega arith; after = sym (whole l at) })
-  where
-    whole : (k : List ℕ) (i : ℕ) → take i k ++ drop (i + 0) k ≡ k
-    whole k i = ap (λ (j : ℕ). take i k ++ drop j k) (add-zero i) ∙ take-append-drop i k
+pub put-nothing : (l : List ℕ) (at most x : ℕ) → most ≡ 0 → Putting l at (decimalDigits most x) at l
+unfolding decimalDigits
+put-nothing l at most x e = rw e (nothing-put l at)
 
 pub put-small :
     (l : List ℕ) (at most x r : ℕ) (m : List ℕ) → 0 < most → x < 10 → r ≡ at + 1 → m ≡ written l at ((48 + x % 10) ∷ [])
-    → Put l at (decimalDigits most x) r m
+    → Putting l at (decimalDigits most x) r m
 put-small l at most x r m p h e w =
     let k : x % 10 ≡ x = mod-eq-of-lt h in
-    rw (small most x p h) (record { next = e; after = w ∙ ap (λ (j : ℕ). written l at ((48 + j) ∷ [])) k })
+    rw (small most x p h) (e, w ∙ ap (λ (j : ℕ). written l at ((48 + j) ∷ [])) k)
 
 pub put-large :
     (l : List ℕ) (at most x next r : ℕ) (m₁ m : List ℕ) → 0 < most → 10 ≤ x → at + most ≤ length l
     → next ≡ at + length (decimalDigits (most - 1) (x / 10)) → m₁ ≡ written l at (decimalDigits (most - 1) (x / 10))
-    → r ≡ next + 1 → m ≡ written m₁ next ((48 + x % 10) ∷ []) → Put l at (decimalDigits most x) r m
+    → r ≡ next + 1 → m ≡ written m₁ next ((48 + x % 10) ∷ []) → Putting l at (decimalDigits most x) r m
 put-large l at most x next r m₁ m p h room e₁ w₁ e w =
     let n = digits-length (most - 1) (x / 10) in
     rw (large most x p h)
-    (put-then (record { next = e₁; after = w₁ }) (omega arith) (record { next = e; after = w }))
+    (then l m₁ m at next r (decimalDigits (most - 1) (x / 10)) ((48 + x % 10) ∷ []) (omega arith) (e₁, w₁) (e, w))
 
 -- there is room for the last digit
 pub room-for-digit :

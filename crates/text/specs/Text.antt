@@ -1,4 +1,4 @@
--- Text in bytes: words, a number in decimal, and a buffer with a text written at a place.
+-- Text in bytes: words, a number in decimal, a buffer with a text written at a place, and texts one after another.
 use Prim.Native.Nat.{ℕ, zero, suc, _+_, _/_, _%_}
 use Prim.Native.Char.{code}
 use Prim.Native.String.{String, [] as end, _∷_ as _then_}
@@ -32,3 +32,8 @@ decimal x = decimalDigits mostDigits x
 -- a buffer with a text written at a place
 unfoldable pub written : List ℕ → ℕ → List ℕ → List ℕ
 written buffer at text = take at buffer ++ (text ++ drop (at + length text) buffer)
+
+-- the texts of 0 .. m − 1, one after another
+unfoldable pub firstTexts : (ℕ → List ℕ) → ℕ → List ℕ
+firstTexts text zero = []
+firstTexts text (suc m) = firstTexts text m ++ text m

@@ -4,10 +4,10 @@ ghost use mathlib.Core.List.{[], _∷_};
 ghost use Prim.Native.Nat.{_+_, _<_, _≤_};
 ghost use lib.ListN.{length};
 ghost use Rattle.text.specs.Text.{decimalDigits, decimal, written};
-ghost use Rattle.text.specs.Handed.{handed, handedOver};
+ghost use Rattle.text.specs.Copied.{copied, copiedOut};
 
-// How many bytes were put at the front of a buffer, or that it is too short for them.
-pub enum Handed {
+// How many bytes were copied to the front of a buffer, or that it is too short for them.
+pub enum Copied {
     Bytes(usize),
     TooShort,
 }
@@ -58,14 +58,14 @@ pub fn put_decimal(buffer: &mut [u8], at: usize, x: usize) -> usize
     put_digits(buffer, at, 5, x)
 }
 
-// Puts a text at the front of the buffer, if it is long enough.
-pub fn hand_over(text: &[u8], buffer: &mut [u8]) -> Handed
-    ensures { λ r. ⌜ r ≡ handed (now (text .entry)) (now (buffer .entry)) ⌝ }
-    ensures { λ _. ⌜ now (buffer .exit) ≡ handedOver (now (text .entry)) (now (buffer .entry)) ⌝ }
+// Copies a text to the front of the buffer, if it is long enough.
+pub fn copy_out(text: &[u8], buffer: &mut [u8]) -> Copied
+    ensures { λ r. ⌜ r ≡ copied (now (text .entry)) (now (buffer .entry)) ⌝ }
+    ensures { λ _. ⌜ now (buffer .exit) ≡ copiedOut (now (text .entry)) (now (buffer .entry)) ⌝ }
 {
     if buffer.len() < text.len() {
-        return Handed::TooShort;
+        return Copied::TooShort;
     }
     put_text(buffer, 0, text);
-    Handed::Bytes(text.len())
+    Copied::Bytes(text.len())
 }

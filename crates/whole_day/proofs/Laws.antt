@@ -1,10 +1,9 @@
 -- The steps of a day and their notes.
-use Prim.Native.Nat.{ℕ, zero, suc, _+_, _-_, _*_, _≤_, _<_}
+use Prim.Native.Nat.{ℕ, zero, suc, _+_, _*_, _≤_, _<_}
 use mathlib.Core.Bool.{Bool, true, false, _&&_}
 use mathlib.Core.List.{List, [], _∷_, _++_, append-assoc}
 use mathlib.Core.Path.{_≡_, refl, sym, _∙_, ap}
 use native.Mathlib.Omega.{arith}
-use native.Mathlib.Nat.{add-sub-cancel-left}
 use native.Mathlib.Numerals.{add-one}
 use borrow.Author.Tests.{ltb-true, ltb-false, leb-true, le-leb}
 use lib.Dec.{ltb, leb}
@@ -16,25 +15,18 @@ use Rattle.section.specs.declared.Settings.{Settings}
 use Rattle.section.specs.Fresh.{freshSection}
 use Rattle.section.specs.Numbers.{stepLength}
 use Rattle.section.specs.Range.{inRange}
-use Rattle.section.specs.Settings.{settingsRight}
+use Rattle.section.specs.Settings.{settingsInRange}
 use Rattle.section.proofs.Laws.{and-left, and-right}
 use Rattle.rules.specs.Demand3.{stateAfter}
 use Rattle.rules.specs.Judge.{judgeInRange, judge}
 use Rattle.rules.proofs.RangeLaw.{ranges-kept}
 use Rattle.layout.specs.Layout.{stepAt}
-use Rattle.text.specs.Text.{written}
-use Rattle.text.proofs.Laws.{at-front}
-use Rattle.lines.specs.Text.{inTurn}
-use Rattle.lines.proofs.Puts.{Putting, one-more-put}
+use Rattle.text.specs.Text.{written, firstTexts}
+use Rattle.text.proofs.Laws.{at-front, Putting, first-texts-whole, one-more-put}
 use Rattle.notes.specs.Note.{noteLength, note}
 use Rattle.notes.proofs.Laws.{note-length}
 use Rattle.whole_day.specs.Day.{sectionBefore, answerTo, offeredOf, DayIsOffered}
 use Rattle.whole_day.specs.Notes.{noteOn, notesOf, canBeNoted, notesAfter}
-
--- the step's bytes, as the code takes them
-pub step-part : (steps : List ℕ) (i : ℕ) → take (i * stepLength + stepLength - i * stepLength) (drop (i * stepLength) steps) ≡ stepAt steps i
-unfolding stepAt
-step-part steps i = ap (λ (k : ℕ). take k (drop (i * 8) steps)) (add-sub-cancel-left (i * 8) 8)
 
 -- ## The sections along a day
 
@@ -82,27 +74,22 @@ day-is-offered first steps (suc i) =
 
 -- ## How long the notes are
 
-in-turn-whole : (f : ℕ → List ℕ) (w m : ℕ) → ((k : ℕ) → length (f k) ≡ w) → length (inTurn f m) ≡ m * w
-unfolding inTurn
-in-turn-whole f w zero h = omega arith
-in-turn-whole f w (suc m) h = simp length-append (omega (arith, in-turn-whole f w m h, h m))
-
 note-on-length : (c : Settings) (steps : List ℕ) (i : ℕ) → length (noteOn c steps i) ≡ noteLength
 unfolding noteOn
 note-on-length c steps i = note-length (answerTo _ steps i)
 
-pub notes-length : (c : Settings) (steps : List ℕ) (m : ℕ) → length (inTurn (noteOn c steps) m) ≡ m * noteLength
-notes-length c steps m = in-turn-whole (noteOn c steps) noteLength m (note-on-length c steps)
+pub notes-length : (c : Settings) (steps : List ℕ) (m : ℕ) → length (firstTexts (noteOn c steps) m) ≡ m * noteLength
+notes-length c steps m = first-texts-whole (noteOn c steps) noteLength m (note-on-length c steps)
 
 -- ## One note more
 
 pub note-put :
     (c : Settings) (steps lent : List ℕ) (count i : ℕ) {notes after : List ℕ} (answer : Answer) → i < count → noteLength * count ≤ length lent
-    → notes ≡ written lent 0 (inTurn (noteOn c steps) i) → answer ≡ answerTo (freshSection c) steps i
-    → after ≡ written notes (i * noteLength) (note answer) → after ≡ written lent 0 (inTurn (noteOn c steps) (i + 1))
+    → notes ≡ written lent 0 (firstTexts (noteOn c steps) i) → answer ≡ answerTo (freshSection c) steps i
+    → after ≡ written notes (i * noteLength) (note answer) → after ≡ written lent 0 (firstTexts (noteOn c steps) (i + 1))
 unfolding noteOn
 note-put c steps lent count i {notes} {after} answer more room noted told put =
-    let so-far : i * noteLength ≡ 0 + length (inTurn (noteOn c steps) i) = omega (arith, notes-length c steps i) in
+    let so-far : i * noteLength ≡ 0 + length (firstTexts (noteOn c steps) i) = omega (arith, notes-length c steps i) in
     let one : Putting notes (i * noteLength) (noteOn c steps i) _ after = (
       refl,
       put ∙ ap (λ (a : Answer). written notes (i * noteLength) (note a)) told,
@@ -116,30 +103,30 @@ module _ (c : Settings) (steps : List ℕ) (i : ℕ) where
   abbrev Stands : List ℕ → Type 0
   Stands notes = take noteLength (drop (i * noteLength) notes) ≡ noteOn c steps i
 
-  note-among : (m : ℕ) (rest : List ℕ) → i < m → Stands (inTurn (noteOn c steps) m ++ rest)
-  unfolding inTurn
+  note-among : (m : ℕ) (rest : List ℕ) → i < m → Stands (firstTexts (noteOn c steps) m ++ rest)
+  unfolding firstTexts
   note-among zero rest h = absurd (omega arith)
   note-among (suc m) rest h =
-      rw (append-assoc (inTurn (noteOn c steps) m) (noteOn c steps m) rest)
+      rw (append-assoc (firstTexts (noteOn c steps) m) (noteOn c steps m) rest)
       (go (ltb i m) refl (note-among m (noteOn c steps m ++ rest)))
     where
-      go : (b : Bool) → ltb i m ≡ b → (i < m → Stands (inTurn (noteOn c steps) m ++ (noteOn c steps m ++ rest)))
-          → Stands (inTurn (noteOn c steps) m ++ (noteOn c steps m ++ rest))
+      go : (b : Bool) → ltb i m ≡ b → (i < m → Stands (firstTexts (noteOn c steps) m ++ (noteOn c steps m ++ rest)))
+          → Stands (firstTexts (noteOn c steps) m ++ (noteOn c steps m ++ rest))
       go true t earlier = earlier (ltb-true i m t)
       go false t earlier =
           let e : m ≡ i = omega (arith, ltb-false i m t) in
-          let skipped : length (inTurn (noteOn c steps) m) ≡ i * noteLength = notes-length c steps m ∙ ap (λ (k : ℕ). k * noteLength) e in
-          rw (drop-at (inTurn (noteOn c steps) m) (noteOn c steps m ++ rest) (i * noteLength) skipped, ← e)
+          let skipped : length (firstTexts (noteOn c steps) m) ≡ i * noteLength = notes-length c steps m ∙ ap (λ (k : ℕ). k * noteLength) e in
+          rw (drop-at (firstTexts (noteOn c steps) m) (noteOn c steps m ++ rest) (i * noteLength) skipped, ← e)
           (take-at (noteOn c steps m) rest noteLength (note-on-length c steps m))
 
   pub note-written : (count : ℕ) (lent : List ℕ) → i < count → Stands (written lent 0 (notesOf c steps count))
   unfolding notesOf
-  note-written count lent h = rw (at-front lent (inTurn (noteOn c steps) count)) (note-among count _ h)
+  note-written count lent h = rw (at-front lent (firstTexts (noteOn c steps) count)) (note-among count _ h)
 
 -- ## A day that can be noted, and the buffer afterwards
 
 pub record DayFits (c : Settings) (steps : List ℕ) (count room : ℕ) : Type 0 where
-  pub settings-well : settingsRight c ≡ true
+  pub settings-well : settingsInRange c ≡ true
   pub steps-there : stepLength * count ≤ length steps
   pub notes-fit : noteLength * count ≤ room
 
@@ -148,11 +135,11 @@ unfolding canBeNoted
 day-fits c steps count room e =
     let there = leb (stepLength * count) (length steps) in
     let fit = leb (noteLength * count) room in
-    let rest = and-right there (fit && settingsRight c) e in
+    let rest = and-right there (fit && settingsInRange c) e in
     record {
-      settings-well = and-right fit (settingsRight c) rest;
-      steps-there = leb-true _ _ (and-left there (fit && settingsRight c) e);
-      notes-fit = leb-true _ _ (and-left fit (settingsRight c) rest);
+      settings-well = and-right fit (settingsInRange c) rest;
+      steps-there = leb-true _ _ (and-left there (fit && settingsInRange c) e);
+      notes-fit = leb-true _ _ (and-left fit (settingsInRange c) rest);
     }
 
 pub can-be-noted : (c : Settings) (steps : List ℕ) (count room : ℕ) → DayFits c steps count room → canBeNoted c steps count room ≡ true

@@ -2,7 +2,7 @@
 use Prim.Native.Nat.{ℕ, _-_}
 use mathlib.Core.Bool.{Bool, true, false, cond, not}
 use mathlib.Core.List.{List, []}
-use mathlib.Core.Path.{_≡_, refl, sym, _∙_, ap, subst}
+use mathlib.Core.Path.{_≡_, refl, sym, _∙_, ap, ap₂, subst}
 use native.Mathlib.Omega.{arith}
 use lib.ListN.{length, getD, set, length-set}
 use lib.Seq.{getD-set-same, getD-set-other}
@@ -17,13 +17,14 @@ use Rattle.section.specs.Range.{inRange}
 use Rattle.section.specs.Step.{decoded, postOf}
 use Rattle.section.specs.Store.{trackOf, withTrack, postOn}
 use Rattle.rules.specs.declared.Site.{Site}
+use Rattle.rules.specs.Site.{otherSettledOnVns}
 use Rattle.rules.specs.Judge.{siteOf, judgeInRange}
-use Rattle.sites.specs.declared.Running.{Running}
-use Rattle.sites.specs.Running.{runningOf}
-use Rattle.sites.specs.Fit.{Fit}
-use Rattle.table.specs.declared.Judged.{Judged}
-use Rattle.table.specs.Judged.{judgedAt, trainsAt, lastAt, trackAt, siteFor}
-use Rattle.table.proofs.OnTrack.{site-in, step-judged, fit, judged}
+use Rattle.site.specs.declared.running.Running.{Running}
+use Rattle.site.specs.Running.{runningOf, onVns, siteWith}
+use Rattle.site.specs.Fit.{Fit}
+use Rattle.judging.specs.declared.at_post.Judged.{Judged}
+use Rattle.judging.specs.Judged.{judgedAt, trainsAt, lastAt, trackAt}
+use Rattle.judging.proofs.at_post.OnTrack.{site-in, step-judged, fit, judged}
 use Rattle.whole_day.specs.Rows.{row, settled}
 
 -- the section whose cells they are
@@ -119,27 +120,30 @@ module _
   module _ (bytes : List ℕ) (x : TrackStep) (well : decoded (c .posts) bytes ≡ Well x) {k p : ℕ} (ek : k ≡ row (x .track)) (ep : p ≡ postOf (x .step)) where
     -- the site, of what stands at the places of its track and its post
     abbrev site : Site
-    site = siteFor x (getD (getD posts k []) p blank) (getD running k settled) (getD running (1 - k) settled)
+    site = siteWith (x .track) (postOf (x .step)) (getD (getD posts k []) p blank) (getD running k settled)
+
+    -- the other track is settled on VNS
+    abbrev other : Bool
+    other = onVns (getD running (1 - k) settled)
 
     here : trackIn posts trains last running k ≡ trackOf s (x .track)
     here = ap (trackIn posts trains last running) ek ∙ own-row (x .track)
 
     site-at : site ≡ siteOf s x
     site-at =
-        let own = trackOf s (x .track) in
-        let other = runningOf (trackOf s (not (x .track))) in
-        let there : getD running (1 - k) settled ≡ other = ap (λ (i : ℕ). getD running (1 - i) settled) ek ∙ other-row (x .track) in
-        ap (λ (t : Track). siteFor x (postOn t p) (runningOf t) (getD running (1 - k) settled)) here
-        ∙ (ap (siteFor x (postOn own p) (runningOf own)) there ∙ site-in x own other ep refl)
+        ap (λ (t : Track). siteWith (x .track) (postOf (x .step)) (postOn t p) (runningOf t)) here ∙ site-in x (trackOf s (x .track)) ep refl
+
+    other-at : other ≡ otherSettledOnVns s (x .track)
+    other-at = ap (λ (i : ℕ). onVns (getD running (1 - i) settled)) ek ∙ ap onVns (other-row (x .track))
 
     pub fit-at : inRange s ≡ true → Fit c site
-    fit-at h = subst (Fit c) (sym site-at) (fit s bytes x well h (runningOf (trackOf s (not (x .track)))))
+    fit-at h = subst (Fit c) (sym site-at) (fit s bytes x well h)
 
     -- what the step leaves, written at its track's place
     pub judged-at :
-        Two → {j : Judged} {moved noted : List ℕ} → j ≡ judgedAt c (x .step) site (getD trains k []) (getD last k [])
-        → moved ≡ trainsAt c (x .step) site (getD trains k []) (getD last k [])
-        → noted ≡ lastAt c (x .step) site (getD trains k []) (getD last k [])
+        Two → {j : Judged} {moved noted : List ℕ} → j ≡ judgedAt c other (x .step) site (getD trains k []) (getD last k [])
+        → moved ≡ trainsAt c other (x .step) site (getD trains k []) (getD last k [])
+        → noted ≡ lastAt c other (x .step) site (getD trains k []) (getD last k [])
         → record {
           verdict = j .verdict;
           section =
@@ -148,16 +152,17 @@ module _
     unfolding trackAt
     judged-at two {j} {moved} {noted} ej em en =
         let t = trackOf s (x .track) in
-        let after = trackAt c (x .step) (siteOf s x) t in
-        let gives : j ≡ judgedAt c (x .step) (siteOf s x) (t .trains) (t .last) =
-        ej ∙ (ap (λ (u : Track). judgedAt c (x .step) site (u .trains) (u .last)) here
-        ∙ ap (λ (f : Site). judgedAt c (x .step) f (t .trains) (t .last)) site-at) in
+        let v = otherSettledOnVns s (x .track) in
+        let after = trackAt c v (x .step) (siteOf s x) t in
+        let gives : j ≡ judgedAt c v (x .step) (siteOf s x) (t .trains) (t .last) =
+        ej ∙ (ap (λ (u : Track). judgedAt c other (x .step) site (u .trains) (u .last)) here
+        ∙ ap₂ (λ (w : Bool) (f : Site). judgedAt c w (x .step) f (t .trains) (t .last)) other-at site-at) in
         let moves : moved ≡ after .trains =
-        em ∙ (ap (λ (u : Track). trainsAt c (x .step) site (u .trains) (u .last)) here
-        ∙ ap (λ (f : Site). trainsAt c (x .step) f (t .trains) (t .last)) site-at) in
+        em ∙ (ap (λ (u : Track). trainsAt c other (x .step) site (u .trains) (u .last)) here
+        ∙ ap₂ (λ (w : Bool) (f : Site). trainsAt c w (x .step) f (t .trains) (t .last)) other-at site-at) in
         let notes : noted ≡ after .last =
-        en ∙ (ap (λ (u : Track). lastAt c (x .step) site (u .trains) (u .last)) here
-        ∙ ap (λ (f : Site). lastAt c (x .step) f (t .trains) (t .last)) site-at) in
+        en ∙ (ap (λ (u : Track). lastAt c other (x .step) site (u .trains) (u .last)) here
+        ∙ ap₂ (λ (w : Bool) (f : Site). lastAt c w (x .step) f (t .trains) (t .last)) other-at site-at) in
         let records : set (getD posts k []) p (j .own) ≡ after .posts =
         ap (λ (u : Track). set (u .posts) p (j .own)) here
         ∙ (ap (λ (q : ℕ). set (t .posts) q (j .own)) ep ∙ ap (λ (i : Judged). set (t .posts) (postOf (x .step)) (i .own)) gives) in

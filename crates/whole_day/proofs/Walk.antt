@@ -14,17 +14,17 @@ use Rattle.section.specs.declared.Decoded.the-variants.{Malformed}
 use Rattle.section.specs.Fresh.{freshTrack, freshSection}
 use Rattle.section.specs.Numbers.{mostBlocks}
 use Rattle.section.specs.Range.{inRange}
-use Rattle.section.specs.Settings.{settingsRight}
+use Rattle.section.specs.Settings.{settingsInRange}
 use Rattle.section.specs.Step.{decoded}
 use Rattle.section.proofs.Laws.{fresh-in-range}
 use Rattle.rules.specs.Judge.{judgeInRange}
 use Rattle.layout.specs.Layout.{stepAt}
-use Rattle.text.specs.Text.{written}
-use Rattle.lines.specs.Text.{trackLetter, inTurn}
-use Rattle.lines.proofs.Puts.{none-put}
+use Rattle.text.specs.Text.{written, firstTexts}
+use Rattle.section.specs.Words.{trackLetter}
+use Rattle.text.proofs.Laws.{none-put}
 use Rattle.notes.specs.Note.{noteLength, noteWith, note}
-use Rattle.sites.specs.declared.Running.{Running}
-use Rattle.table.proofs.OnTrack.{malformed}
+use Rattle.site.specs.declared.running.Running.{Running}
+use Rattle.judging.proofs.at_post.OnTrack.{malformed}
 use Rattle.whole_day.specs.Day.{sectionBefore, answerTo}
 use Rattle.whole_day.specs.Notes.{noteOn, notesOf}
 use Rattle.whole_day.specs.Rows.{freshPosts, settled, letterAt}
@@ -45,7 +45,7 @@ pub record Walked
   pub within : i ≤ count
   pub room : noteLength * count ≤ length lent
   pub same-length : length notes ≡ length lent
-  pub noted : notes ≡ written lent 0 (inTurn (noteOn c steps) i)
+  pub noted : notes ≡ written lent 0 (firstTexts (noteOn c steps) i)
   pub before : sectionIn posts trains last running c ≡ sectionBefore (freshSection c) steps i
   pub range : inRange (sectionIn posts trains last running c) ≡ true
   pub two : Two posts trains last running c
@@ -58,7 +58,7 @@ module _ (c : Settings) (steps : List ℕ) where
   fresh-rows posts e = rw e refl
 
   pub begins :
-      (posts : List (List Post)) (count : ℕ) (lent : List ℕ) → settingsRight c ≡ true → posts ≡ freshPosts c → noteLength * count ≤ length lent
+      (posts : List (List Post)) (count : ℕ) (lent : List ℕ) → settingsInRange c ≡ true → posts ≡ freshPosts c → noteLength * count ≤ length lent
       → Walked c steps count lent posts (replicate 2 (replicate mostBlocks 0)) (replicate 2 (replicate mostBlocks 0)) (replicate 2 settled)
       lent 0
   unfolding sectionBefore

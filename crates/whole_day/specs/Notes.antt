@@ -7,9 +7,8 @@ use lib.ListN.{length}
 use Rattle.section.specs.declared.Settings.{Settings}
 use Rattle.section.specs.Fresh.{freshSection}
 use Rattle.section.specs.Numbers.{stepLength}
-use Rattle.section.specs.Settings.{settingsRight}
-use Rattle.text.specs.Text.{written}
-use Rattle.lines.specs.Text.{inTurn}
+use Rattle.section.specs.Settings.{settingsInRange}
+use Rattle.text.specs.Text.{written, firstTexts}
 use Rattle.notes.specs.Note.{noteLength, note}
 use Rattle.whole_day.specs.Day.{answerTo}
 
@@ -18,11 +17,11 @@ unfoldable pub noteOn : Settings → List ℕ → ℕ → List ℕ
 noteOn c steps i = note (answerTo (freshSection c) steps i)
 
 unfoldable pub notesOf : Settings → List ℕ → ℕ → List ℕ
-notesOf c steps count = inTurn (noteOn c steps) count
+notesOf c steps count = firstTexts (noteOn c steps) count
 
 -- a day can be noted: so many whole steps are there, the buffer has room for their notes, and the settings are in their ranges
 unfoldable pub canBeNoted : Settings → List ℕ → ℕ → ℕ → Bool
-canBeNoted c steps count room = leb (stepLength * count) (length steps) && (leb (noteLength * count) room && settingsRight c)
+canBeNoted c steps count room = leb (stepLength * count) (length steps) && (leb (noteLength * count) room && settingsInRange c)
 
 -- the buffer afterwards: the notes at its front; untouched where the day cannot be noted
 unfoldable pub notesAfter : Settings → List ℕ → ℕ → List ℕ → List ℕ

@@ -7,8 +7,8 @@ use Rattle.section.specs.declared.Settings.{Settings}
 use Rattle.section.specs.declared.Post.{Post}
 use Rattle.section.specs.declared.Walk.the-variants.{Settled}
 use Rattle.section.specs.Fresh.{freshSection}
-use Rattle.lines.specs.Text.{letter}
-use Rattle.sites.specs.declared.Running.{Running}
+use Rattle.section.specs.Words.{letter}
+use Rattle.site.specs.declared.running.Running.{Running}
 
 -- the place of a track: A, then B
 abbrev pub row : Bool → ℕ

@@ -5,16 +5,17 @@ ghost use mathlib.Core.Path.{_≡_};
 ghost use Prim.Native.Nat.{_+_, _*_, _<_, _≤_};
 ghost use lib.ListN.{length, replicate};
 ghost use Rattle.section.specs.Numbers.{stepLength};
-ghost use Rattle.section.specs.Settings.{settingsRight};
-ghost use Rattle.section.specs.Step.{decoded};
-ghost use Rattle.layout.specs.Layout.{stepAt};
+ghost use Rattle.section.specs.Settings.{settingsInRange};
 ghost use Rattle.text.specs.Text.{written};
-ghost use Rattle.lines.specs.Text.{letter};
+ghost use Rattle.section.specs.Words.{letter};
 ghost use Rattle.notes.specs.Note.{noteLength, noteWith};
 ghost use Rattle.whole_day.specs.Notes.{notesOf, canBeNoted, notesAfter};
 ghost use Rattle.whole_day.specs.Rows.{row, freshPosts, settled, letterAt};
+use judging::at_post::judge_step;
+use layout::step_at;
 use notes::NOTE_LENGTH;
 use notes::put_note;
+use ranges::settings::settings_in_range;
 use section::Decoded;
 use section::MOST_BLOCKS;
 use section::Posts;
@@ -23,10 +24,9 @@ use section::Settings;
 use section::Trains;
 use section::Verdict;
 use section::Walk;
-use settings_range::settings_right;
-use sites::Running;
-use sites::place_of;
-use table::judge_step;
+use section::words;
+use site::running::Running;
+use site::running::place_of;
 
 // The place of a track among the two.
 fn row_of(track: bool) -> usize
@@ -62,16 +62,7 @@ fn letter_of(running: Running) -> u8
     ensures { λ r. ⌜ r ≡ letter (running .walk) (running .cvt) ⌝ }
 {
     let walk = running.walk;
-    notes::letter(walk, running.cvt)
-}
-
-// Step i of a day.
-fn step_at(n: u8, steps: &[u8], i: usize) -> Decoded
-    requires { ⌜ stepLength * i + stepLength ≤ length (now steps) ⌝ }
-    ensures { λ r. ⌜ r ≡ decoded n (stepAt (now (steps .entry)) i) ⌝ }
-{
-    let start = i * STEP_LENGTH;
-    steps::decode(n, &steps[start..start + STEP_LENGTH])
+    words::letter(walk, running.cvt)
 }
 
 // Notes the verdict on step i, and the letters of the two tracks after it.
@@ -86,7 +77,7 @@ fn note_verdict(notes: &mut [u8], i: usize, verdict: Verdict, running: [Running;
 
 // Notes the steps of a day, which begins with those records, free block sections and both tracks settled on VNS.
 fn note_from(c: Settings, fresh: [Posts; 2], steps: &[u8], count: usize, notes: &mut [u8])
-    requires { ⌜ (settingsRight c ≡ true) × (fresh ≡ freshPosts c) ⌝ }
+    requires { ⌜ (settingsInRange c ≡ true) × (fresh ≡ freshPosts c) ⌝ }
     requires { ⌜ (stepLength * count ≤ length (now steps)) × (noteLength * count ≤ length (now notes)) ⌝ }
     ensures { λ _. ⌜ now (notes .exit) ≡ written (now (notes .entry)) 0 (notesOf c (now (steps .entry)) count) ⌝ }
 {
@@ -96,7 +87,7 @@ fn note_from(c: Settings, fresh: [Posts; 2], steps: &[u8], count: usize, notes: 
     let mut running = both_settled();
     let mut i: usize = 0;
     while i < count {
-        let d = step_at(c.posts, steps, i);
+        let d = steps::decode(c.posts, step_at(steps, i));
         let Decoded::Well(x) = d else {
             note_verdict(notes, i, Verdict::Refused(4), running);
             i += 1;
@@ -133,7 +124,7 @@ pub fn can_be_noted(c: Settings, steps: &[u8], count: usize, room: usize) -> boo
     if room / NOTE_LENGTH < count {
         return false;
     }
-    settings_right(c)
+    settings_in_range(c)
 }
 
 // Judges the steps of a day, offered one after another from fresh, and writes the note of each; answers whether the day could be noted.

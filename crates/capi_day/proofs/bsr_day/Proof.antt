@@ -1,52 +1,50 @@
--- By whether the day was noted.
-use mathlib.Core.Path.{_∙_}
+-- By whether the lent settings are well formed, then by whether the day was noted.
+use native.Mathlib.Omega.{arith}
 use borrow.Author.Needs.{needs}
-use denote.Ref.{now}
-use Rattle.section.proofs.Told.{told}
-use Rattle.capi_day.proofs.Answers.{noted, refused}
+use Rattle.section.proofs.Told.{told-false, told-true}
+use Rattle.packed.proofs.Settings.{settings-lent}
+use Rattle.capi_day.specs.Day.{dayAnswer, dayNotes}
 use Rattle.capi_day.proofs.bsr_day.Statement.{statement}
 use Rattle.capi_day.proofs.bsr_day.Tie as tie
 
-settings-given-requires : tie.Need-settings-given-requires
-settings-given-requires c κs = search needs
-
-note-day-requires : tie.Need-note-day-requires
-note-day-requires c κs = search needs
-
-same-length : tie.Need-same-length
-same-length c = search needs
-
 returns : tie.Need-returns
-returns c =
-    let day = c .before .before .before in
-    let given = day .before .before .settings-given in
-    let a = day .before .before .before .before .before .args in
-    let so = told (day .note-day .ensures .0) (c .if1 .taken) in
-    rw (← given .ensures) (noted (given .result) (now (a .steps)) _ so, day .note-day .ensures .1)
+unfolding dayAnswer dayNotes
+returns c = let e = told-false (c .before .lent-settings-well-formed .ensures) (c .if1 .taken) in (rw e, rw e)
 
-day-refusal-requires : tie.Need-day-refusal-requires
-day-refusal-requires c κs = search needs
-
-same-length-2 : tie.Need-same-length-2
-same-length-2 c = search needs
+settings-of-requires : tie.Need-settings-of-requires
+settings-of-requires c κs = omega (arith, settings-lent _ (told-true (c .before .lent-settings-well-formed .ensures) (c .if1 .left)))
 
 returns-2 : tie.Need-returns-2
+unfolding dayAnswer dayNotes
 returns-2 c =
-    let else = c .before in
-    let day = else .before .before .before in
-    let given = day .before .before .settings-given in
-    let a = day .before .before .before .before .before .args in
-    let not-so = told (day .note-day .ensures .0) (else .if1 .left) in
-    rw (← given .ensures) (c .day-refusal .ensures ∙ refused (given .result) (now (a .steps)) _ not-so, day .note-day .ensures .1)
+    let day = c .before .before .before in
+    let given = day .before .before in
+    let well = given .before in
+    rw (told-true (well .before .lent-settings-well-formed .ensures) (well .if1 .left), ← given .settings-of .ensures) (
+      rw (← day .note-day .ensures .0, c .if2 .taken),
+      day .note-day .ensures .1,
+    )
+
+returns-3 : tie.Need-returns-3
+unfolding dayAnswer dayNotes
+returns-3 c =
+    let day = c .before .before .before in
+    let given = day .before .before in
+    let well = given .before in
+    rw (told-true (well .before .lent-settings-well-formed .ensures) (well .if1 .left), ← given .settings-of .ensures) (
+      rw (← day .note-day .ensures .0, c .if2 .left),
+      day .note-day .ensures .1,
+    )
 
 pub bsr-day-spec : {M : Type 1} → statement M
 bsr-day-spec =
     tie.close
     (tie.spec
-    settings-given-requires
-    note-day-requires
-    same-length
+    (λ c κs. search needs)
     returns
-    day-refusal-requires
-    same-length-2
-    returns-2)
+    settings-of-requires
+    (λ c κs. search needs)
+    (λ c. search needs)
+    returns-2
+    (λ c. search needs)
+    returns-3)

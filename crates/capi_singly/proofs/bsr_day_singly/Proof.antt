@@ -1,65 +1,64 @@
--- By whether the day can be noted.
-use mathlib.Core.Path.{_∙_}
+-- By whether the lent settings are well formed, then by whether the day can be noted.
+use native.Mathlib.Omega.{arith}
 use borrow.Author.Needs.{needs}
 use denote.Ref.{now}
 use Rattle.section.proofs.Told.{told-false, told-true}
+use Rattle.packed.proofs.Settings.{settings-lent}
 use Rattle.whole_day.proofs.Laws.{day-fits, notes-written, notes-untouched}
-use Rattle.capi_day.specs.Day.{stepsOffered}
-use Rattle.capi_day.proofs.Answers.{noted, refused}
+use Rattle.capi_day.specs.Day.{stepsOffered, dayAnswer, dayNotes}
 use Rattle.capi_singly.proofs.bsr_day_singly.Statement.{statement}
 use Rattle.capi_singly.proofs.bsr_day_singly.Tie as tie
 
-settings-given-requires : tie.Need-settings-given-requires
-settings-given-requires c κs = search needs
-
-can-be-noted-requires : tie.Need-can-be-noted-requires
-can-be-noted-requires c κs = search needs
-
-day-refusal-requires : tie.Need-day-refusal-requires
-day-refusal-requires c κs = search needs
-
 returns : tie.Need-returns
-returns c =
-    let then = c .before in
-    let asked = then .before in
-    let given = asked .before .settings-given in
-    let a = asked .before .before .before .before .args in
-    let not-so = told-false (asked .can-be-noted .ensures) (then .if1 .taken) in
-    rw (← given .ensures) (
-      c .day-refusal .ensures ∙ refused (given .result) (now (a .steps)) _ not-so,
-      rw (notes-untouched (given .result) (now (a .steps)) (stepsOffered (now (a .steps))) (now (a .buffer)) not-so),
+unfolding dayAnswer dayNotes
+returns c = let e = told-false (c .before .lent-settings-well-formed .ensures) (c .if1 .taken) in (rw e, rw e)
+
+settings-of-requires : tie.Need-settings-of-requires
+settings-of-requires c κs = omega (arith, settings-lent _ (told-true (c .before .lent-settings-well-formed .ensures) (c .if1 .left)))
+
+returns-2 : tie.Need-returns-2
+unfolding dayAnswer dayNotes
+returns-2 c =
+    let asked = c .before in
+    let given = asked .before in
+    let well = given .before in
+    let a = well .before .before .before .before .before .args in
+    let not-so = told-false (asked .can-be-noted .ensures) (c .if2 .taken) in
+    rw (told-true (well .before .lent-settings-well-formed .ensures) (well .if1 .left), ← given .settings-of .ensures) (
+      rw not-so,
+      rw (notes-untouched (given .settings-of .result) (now (a .steps)) (stepsOffered (now (a .steps))) (now (a .buffer)) not-so),
     )
 
 note-singly-requires : tie.Need-note-singly-requires
 note-singly-requires c κs =
     let else = c .before in
-    let fits = day-fits _ _ _ _ (told-true (else .before .can-be-noted .ensures) (else .if1 .left)) in
+    let fits = day-fits _ _ _ _ (told-true (else .before .can-be-noted .ensures) (else .if2 .left)) in
     (fits .steps-there, fits .notes-fit)
 
-same-length : tie.Need-same-length
-same-length c = search needs
-
-returns-2 : tie.Need-returns-2
-returns-2 c =
+returns-3 : tie.Need-returns-3
+unfolding dayAnswer dayNotes
+returns-3 c =
     let walked = c .before .before in
     let else = walked .before .before in
     let asked = else .before in
-    let given = asked .before .settings-given in
-    let a = asked .before .before .before .before .args in
-    let so = told-true (asked .can-be-noted .ensures) (else .if1 .left) in
-    rw (← given .ensures) (
-      noted (given .result) (now (a .steps)) _ so,
-      rw (notes-written (given .result) (now (a .steps)) (stepsOffered (now (a .steps))) (now (a .buffer)) so) (walked .note-singly .ensures),
+    let given = asked .before in
+    let well = given .before in
+    let a = well .before .before .before .before .before .args in
+    let so = told-true (asked .can-be-noted .ensures) (else .if2 .left) in
+    rw (told-true (well .before .lent-settings-well-formed .ensures) (well .if1 .left), ← given .settings-of .ensures) (
+      rw so,
+      rw (notes-written (given .settings-of .result) (now (a .steps)) (stepsOffered (now (a .steps))) (now (a .buffer)) so) (walked .note-singly .ensures),
     )
 
 pub bsr-day-singly-spec : {M : Type 1} → statement M
 bsr-day-singly-spec =
     tie.close
     (tie.spec
-    settings-given-requires
-    can-be-noted-requires
-    day-refusal-requires
+    (λ c κs. search needs)
     returns
+    settings-of-requires
+    (λ c κs. search needs)
+    returns-2
     note-singly-requires
-    same-length
-    returns-2)
+    (λ c. search needs)
+    returns-3)

@@ -9,12 +9,11 @@ use Rattle.section.specs.declared.Answer.{Answer}
 use Rattle.section.specs.declared.Section.{Section}
 use Rattle.section.specs.declared.Settings.{Settings}
 use Rattle.section.specs.Fresh.{freshSection}
-use Rattle.text.specs.Text.{written}
-use Rattle.lines.specs.Text.{inTurn}
-use Rattle.lines.proofs.Puts.{none-put}
+use Rattle.text.specs.Text.{written, firstTexts}
+use Rattle.text.proofs.Laws.{none-put}
 use Rattle.whole_day.specs.Day.{sectionBefore, answerTo}
 use Rattle.whole_day.specs.Notes.{noteOn, notesOf}
-use Rattle.whole_day.proofs.Laws.{step-part, step-after, answered, note-put}
+use Rattle.whole_day.proofs.Laws.{step-after, answered, note-put}
 use Rattle.capi_singly.proofs.note_singly.Statement.{statement}
 use Rattle.capi_singly.proofs.note_singly.Tie as tie
 
@@ -22,7 +21,7 @@ abbrev Inv-loop : tie.InvT-loop
 Inv-loop steps count notes₀ state₀ i₀ notes state i =
     (i ≤ count)
     × ((length notes ≡ length notes₀)
-    × ((state ≡ sectionBefore state₀ steps i) × (notes ≡ written notes₀ 0 (inTurn (noteOn (state₀ .settings) steps) i))))
+    × ((state ≡ sectionBefore state₀ steps i) × (notes ≡ written notes₀ 0 (firstTexts (noteOn (state₀ .settings) steps) i))))
 
 abbrev μ-loop : tie.MeasureT-loop
 μ-loop steps count notes₀ state₀ i₀ notes state i = count - i
@@ -35,32 +34,14 @@ settings-kept s c e = ap (λ (x : Section). x .settings) e
 fresh-again : (s : Section) (c : Settings) → s ≡ freshSection c → s ≡ freshSection (s .settings)
 fresh-again s c e = e ∙ ap freshSection (sym (settings-kept s c e))
 
-fresh-requires : tie.Need-fresh-requires Inv-loop μ-loop
-fresh-requires c κs = search needs
-
 loop-holds : tie.Need-loop-holds Inv-loop μ-loop
 unfolding sectionBefore
 loop-holds c =
     let a = c .before .before .before .args in
     (omega arith, (refl, (refl, none-put (noteOn (c .fresh .result .settings) (now (a .steps))) (now (a .notes)) 0 .1)))
 
-mul-start : tie.Need-mul-start Inv-loop μ-loop
-mul-start c = omega arith
-
-add-judge : tie.Need-add-judge Inv-loop μ-loop
-add-judge c = omega arith
-
-sub-judge : tie.Need-sub-judge Inv-loop μ-loop
-sub-judge c = omega arith
-
-part-judge-start : tie.Need-part-judge-start Inv-loop μ-loop
-part-judge-start c = omega arith
-
-part-judge-end : tie.Need-part-judge-end Inv-loop μ-loop
-part-judge-end c = omega arith
-
-judge-requires : tie.Need-judge-requires Inv-loop μ-loop
-judge-requires c κs = search needs
+step-at-requires : tie.Need-step-at-requires Inv-loop μ-loop
+step-at-requires c κs = omega arith
 
 mul-put-answer : tie.Need-mul-put-answer Inv-loop μ-loop
 mul-put-answer c = omega (arith, c .before .before .before .before .loop-test .taken)
@@ -81,7 +62,8 @@ loop-again : tie.Need-loop-again Inv-loop μ-loop
 loop-again c =
     let put = c .before .before in
     let at-judge = put .before .before .before in
-    let in-loop = at-judge .before .before in
+    let at-step = at-judge .before in
+    let in-loop = at-step .before in
     let at-loop = in-loop .before in
     let at-fresh = at-loop .before in
     let entry = at-fresh .before .before .before in
@@ -89,7 +71,7 @@ loop-again c =
     let f = at-fresh .fresh in
     let h = at-loop .loop in
     let j = at-judge .judge in
-    let told = answered (f .result) (now (a .steps)) (h .i) _ _ (j .result) (h .inv .1 .1 .0) (step-part (now (a .steps)) (h .i)) (j .ensures) in
+    let told = answered (f .result) (now (a .steps)) (h .i) _ _ (j .result) (h .inv .1 .1 .0) (at-step .step-at .ensures) (j .ensures) in
     let t = in-loop .loop-test .taken in (
       omega (arith, t),
       (
@@ -102,9 +84,6 @@ loop-again c =
         ),
       ),
     )
-
-same-length : tie.Need-same-length Inv-loop μ-loop
-same-length c = search needs
 
 returns : tie.Need-returns Inv-loop μ-loop
 unfolding notesOf
@@ -121,18 +100,14 @@ note-singly-spec =
     (tie.spec
     Inv-loop
     μ-loop
-    fresh-requires
+    (λ c κs. search needs)
     loop-holds
-    mul-start
-    add-judge
-    sub-judge
-    part-judge-start
-    part-judge-end
-    judge-requires
+    step-at-requires
+    (λ c κs. search needs)
     mul-put-answer
     put-answer-requires
     add-i
     loop-less
     loop-again
-    same-length
+    (λ c. search needs)
     returns)

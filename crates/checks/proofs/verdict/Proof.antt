@@ -6,80 +6,41 @@ use Rattle.rules.specs.Table.{checks, effect}
 use Rattle.checks.proofs.verdict.Statement.{statement}
 use Rattle.checks.proofs.verdict.Tie as tie
 
-enum-told : tie.Need-enum-told
-enum-told c = search needs
-
 order-requires : tie.Need-order-requires
 order-requires c κs = c .before .before .pre
-
-enum-told-2 : tie.Need-enum-told-2
-enum-told-2 c = search needs
 
 set-requires : tie.Need-set-requires
 set-requires c κs = c .before .before .pre
 
-enum-told-3 : tie.Need-enum-told-3
-enum-told-3 c = search needs
-
 announce-requires : tie.Need-announce-requires
 announce-requires c κs = tt
-
-enum-told-4 : tie.Need-enum-told-4
-enum-told-4 c = search needs
 
 acknowledge-requires : tie.Need-acknowledge-requires
 acknowledge-requires c κs = tt
 
-enum-known-x : tie.Need-enum-known-x
-enum-known-x c = search needs
-
 start-requires : tie.Need-start-requires
 start-requires c κs = c .before .before .before .pre
-
-enum-known-x-2 : tie.Need-enum-known-x-2
-enum-known-x-2 c = search needs
 
 pass-requires : tie.Need-pass-requires
 pass-requires c κs = c .before .before .before .pre
 
-enum-known-x-3 : tie.Need-enum-known-x-3
-enum-known-x-3 c = search needs
-
 leave-requires : tie.Need-leave-requires
 leave-requires c κs = c .before .before .before .pre
-
-enum-told-5 : tie.Need-enum-told-5
-enum-told-5 c = search needs
 
 measures-on-requires : tie.Need-measures-on-requires
 measures-on-requires c κs = tt
 
-enum-told-6 : tie.Need-enum-told-6
-enum-told-6 c = search needs
-
 measures-off-requires : tie.Need-measures-off-requires
 measures-off-requires c κs = tt
-
-enum-known-x-4 : tie.Need-enum-known-x-4
-enum-known-x-4 c = search needs
 
 fault-on-requires : tie.Need-fault-on-requires
 fault-on-requires c κs = tt
 
-enum-known-x-5 : tie.Need-enum-known-x-5
-enum-known-x-5 c = search needs
-
 fault-off-requires : tie.Need-fault-off-requires
 fault-off-requires c κs = tt
 
-enum-known-x-6 : tie.Need-enum-known-x-6
-enum-known-x-6 c = search needs
-
 release-requires : tie.Need-release-requires
 release-requires c κs = c .before .before .before .pre
-
-enum-told-7 : tie.Need-enum-told-7
-enum-told-7 c = search needs
 
 key-requires : tie.Need-key-requires
 key-requires c κs = c .before .before .pre
@@ -140,31 +101,31 @@ pub verdict-spec : {M : Type 1} → statement M
 verdict-spec =
     tie.close
     (tie.spec
-    enum-told
+    (λ c. search needs)
     order-requires
-    enum-told-2
+    (λ c. search needs)
     set-requires
-    enum-told-3
+    (λ c. search needs)
     announce-requires
-    enum-told-4
+    (λ c. search needs)
     acknowledge-requires
-    enum-known-x
+    (λ c. search needs)
     start-requires
-    enum-known-x-2
+    (λ c. search needs)
     pass-requires
-    enum-known-x-3
+    (λ c. search needs)
     leave-requires
-    enum-told-5
+    (λ c. search needs)
     measures-on-requires
-    enum-told-6
+    (λ c. search needs)
     measures-off-requires
-    enum-known-x-4
+    (λ c. search needs)
     fault-on-requires
-    enum-known-x-5
+    (λ c. search needs)
     fault-off-requires
-    enum-known-x-6
+    (λ c. search needs)
     release-requires
-    enum-told-7
+    (λ c. search needs)
     key-requires
     returns
     returns-2

@@ -9,37 +9,19 @@ use borrow.Author.Needs.{needs}
 use Rattle.dayfile.proofs.put.Statement.{statement}
 use Rattle.dayfile.proofs.put.Tie as tie
 
-settings-bytes-requires : tie.Need-settings-bytes-requires
-settings-bytes-requires c κs = search needs
-
-trailer-requires : tie.Need-trailer-requires
-trailer-requires c κs = search needs
-
 place-requires : tie.Need-place-requires
 place-requires c κs = let a = c .before .before .before .before .before .args in
     omega (arith, steps-fit (now (a .steps)))
-
-slice-aggregate-place : tie.Need-slice-aggregate-place
-slice-aggregate-place c = search needs
 
 place-requires-2 : tie.Need-place-requires-2
 place-requires-2 c κs = let t = c .before .before .before .before .before .before in
     let a = t .before .before .before .before .args in
     omega (arith, steps-fit (now (a .steps)), ap length (t .before .settings-bytes .ensures) ∙ settings-long (a .c))
 
-slice-aggregate-place-2 : tie.Need-slice-aggregate-place-2
-slice-aggregate-place-2 c = search needs
-
-add-place : tie.Need-add-place
-add-place c = search needs
-
 place-requires-3 : tie.Need-place-requires-3
 place-requires-3 c κs = let t = c .before .before .before .before .before .before .before .before .before .before .before in
     let a = t .before .before .before .before .args in
     omega (arith, steps-fit (now (a .steps)), ap length (t .trailer .ensures) ∙ trailer-long (a .count))
-
-same-length : tie.Need-same-length
-same-length c = search needs
 
 returns : tie.Need-returns
 returns c = let z = c .before .before in
@@ -54,13 +36,13 @@ pub put-spec : {M : Type 1} → statement M
 put-spec =
     tie.close
     (tie.spec
-    settings-bytes-requires
-    trailer-requires
+    (λ c κs. search needs)
+    (λ c κs. search needs)
     place-requires
-    slice-aggregate-place
+    (λ c. search needs)
     place-requires-2
-    slice-aggregate-place-2
-    add-place
+    (λ c. search needs)
+    (λ c. search needs)
     place-requires-3
-    same-length
+    (λ c. search needs)
     returns)

@@ -8,35 +8,23 @@ use borrow.Author.Needs.{needs}
 use Rattle.dayfile.proofs.read.Statement.{statement}
 use Rattle.dayfile.proofs.read.Tie as tie
 
-length-wrong-requires : tie.Need-length-wrong-requires
-length-wrong-requires c κs = search needs
-
-refused-requires : tie.Need-refused-requires
-refused-requires c κs = search needs
-
 returns : tie.Need-returns
 returns c = c .refused .ensures ∙ answer-1 _ (told (c .before .before .length-wrong .ensures) (c .before .if1 .taken))
 
 steps-in-requires : tie.Need-steps-in-requires
 steps-in-requires c κs = length-right _ (told (c .before .length-wrong .ensures) (c .if1 .left)) .least
 
-step-count-requires : tie.Need-step-count-requires
-step-count-requires c κs = search needs
-
 trailer-in-requires : tie.Need-trailer-in-requires
 trailer-in-requires c κs = let e = c .before .before in
     length-right _ (told (e .before .length-wrong .ensures) (e .if1 .left)) .least
 
-trailer-right-requires : tie.Need-trailer-right-requires
-trailer-right-requires c κs = let e = c .before .before .before in
+trailer-well-formed-requires : tie.Need-trailer-well-formed-requires
+trailer-well-formed-requires c κs = let e = c .before .before .before in
     let h = length-right _ (told (e .before .length-wrong .ensures) (e .if1 .left)) in
     let f = now (e .before .before .before .args .file) in (
       rw (c .before .step-count .ensures, c .before .before .steps-in .ensures) (few-steps f h),
       rw (c .trailer-in .ensures, trailer-length f (h .least)) (omega arith),
     )
-
-refused-requires-2 : tie.Need-refused-requires-2
-refused-requires-2 c κs = search needs
 
 returns-2 : tie.Need-returns-2
 returns-2 c = let q = c .before .before in
@@ -44,19 +32,16 @@ returns-2 c = let q = c .before .before in
     let e = n .before .before in
     c .refused2 .ensures
     ∙ answer-2 _ _ _ _ (n .before .steps-in .ensures) (n .step-count .ensures) (q .before .trailer-in .ensures)
-    (told (e .before .length-wrong .ensures) (e .if1 .left)) (told-false (q .trailer-right .ensures) (c .before .if2 .taken))
+    (told (e .before .length-wrong .ensures) (e .if1 .left)) (told-false (q .trailer-well-formed .ensures) (c .before .if2 .taken))
 
 settings-in-requires : tie.Need-settings-in-requires
 settings-in-requires c κs = let e = c .before .before .before .before .before in
     length-right _ (told (e .before .length-wrong .ensures) (e .if1 .left)) .least
 
-settings-bytes-right-requires : tie.Need-settings-bytes-right-requires
-settings-bytes-right-requires c κs = let e = c .before .before .before .before .before .before in
+settings-well-formed-requires : tie.Need-settings-well-formed-requires
+settings-well-formed-requires c κs = let e = c .before .before .before .before .before .before in
     let h = length-right _ (told (e .before .length-wrong .ensures) (e .if1 .left)) in
     rw (c .settings-in .ensures, settings-length (now (e .before .before .before .args .file)) (h .least)) (omega arith)
-
-refused-requires-3 : tie.Need-refused-requires-3
-refused-requires-3 c κs = search needs
 
 returns-3 : tie.Need-returns-3
 returns-3 c = let p = c .before .before in
@@ -65,19 +50,13 @@ returns-3 c = let p = c .before .before in
     let e = n .before .before in
     c .refused3 .ensures
     ∙ answer-3 _ _ _ _ (n .before .steps-in .ensures) (n .step-count .ensures) (q .before .trailer-in .ensures)
-    (told (e .before .length-wrong .ensures) (e .if1 .left)) (told-true (q .trailer-right .ensures) (p .before .before .if2 .left)) _
-    (p .before .settings-in .ensures) (told-false (p .settings-bytes-right .ensures) (c .before .if3 .taken))
+    (told (e .before .length-wrong .ensures) (e .if1 .left)) (told-true (q .trailer-well-formed .ensures) (p .before .before .if2 .left)) _
+    (p .before .settings-in .ensures) (told-false (p .settings-well-formed .ensures) (c .before .if3 .taken))
 
 settings-of-requires : tie.Need-settings-of-requires
 settings-of-requires c κs = let e = c .before .before .before .before .before .before .before .before in
     let h = length-right _ (told (e .before .length-wrong .ensures) (e .if1 .left)) in
     rw (c .before .before .settings-in .ensures, settings-length (now (e .before .before .before .args .file)) (h .least)) (omega arith)
-
-first-malformed-requires : tie.Need-first-malformed-requires
-first-malformed-requires c κs = search needs
-
-refused-requires-4 : tie.Need-refused-requires-4
-refused-requires-4 c κs = search needs
 
 returns-4 : tie.Need-returns-4
 returns-4 c = let g = c .before .before in
@@ -87,8 +66,8 @@ returns-4 c = let g = c .before .before in
     let e = n .before .before in
     c .refused4 .ensures
     ∙ answer-4 _ _ _ _ (n .before .steps-in .ensures) (n .step-count .ensures) (q .before .trailer-in .ensures)
-    (told (e .before .length-wrong .ensures) (e .if1 .left)) (told-true (q .trailer-right .ensures) (p .before .before .if2 .left)) _
-    (p .before .settings-in .ensures) (told-true (p .settings-bytes-right .ensures) (g .before .before .if3 .left)) _ _
+    (told (e .before .length-wrong .ensures) (e .if1 .left)) (told-true (q .trailer-well-formed .ensures) (p .before .before .if2 .left)) _
+    (p .before .settings-in .ensures) (told-true (p .settings-well-formed .ensures) (g .before .before .if3 .left)) _ _
     (g .before .settings-of .ensures) (g .first-malformed .ensures) (c .before .if4 .taken)
 
 returns-5 : tie.Need-returns-5
@@ -98,29 +77,29 @@ returns-5 c = let g = c .before in
     let n = q .before .before in
     let e = n .before .before in
     answer-day _ _ _ _ (n .before .steps-in .ensures) (n .step-count .ensures) (q .before .trailer-in .ensures)
-    (told (e .before .length-wrong .ensures) (e .if1 .left)) (told-true (q .trailer-right .ensures) (p .before .before .if2 .left)) _
-    (p .before .settings-in .ensures) (told-true (p .settings-bytes-right .ensures) (g .before .before .if3 .left)) _ _
+    (told (e .before .length-wrong .ensures) (e .if1 .left)) (told-true (q .trailer-well-formed .ensures) (p .before .before .if2 .left)) _
+    (p .before .settings-in .ensures) (told-true (p .settings-well-formed .ensures) (g .before .before .if3 .left)) _ _
     (g .before .settings-of .ensures) (g .first-malformed .ensures) (c .if4 .left)
 
 pub read-spec : {M : Type 1} → statement M
 read-spec =
     tie.close
     (tie.spec
-    length-wrong-requires
-    refused-requires
+    (λ c κs. search needs)
+    (λ c κs. search needs)
     returns
     steps-in-requires
-    step-count-requires
+    (λ c κs. search needs)
     trailer-in-requires
-    trailer-right-requires
-    refused-requires-2
+    trailer-well-formed-requires
+    (λ c κs. search needs)
     returns-2
     settings-in-requires
-    settings-bytes-right-requires
-    refused-requires-3
+    settings-well-formed-requires
+    (λ c κs. search needs)
     returns-3
     settings-of-requires
-    first-malformed-requires
-    refused-requires-4
+    (λ c κs. search needs)
+    (λ c κs. search needs)
     returns-4
     returns-5)

@@ -6,40 +6,25 @@ use borrow.Author.Needs.{needs}
 use Rattle.dayfile.proofs.write.Statement.{statement}
 use Rattle.dayfile.proofs.write.Tie as tie
 
-settings-right-requires : tie.Need-settings-right-requires
-settings-right-requires c κs = search needs
-
 returns : tie.Need-returns
-returns c = answer-3 _ _ _ (told-false (c .before .settings-right .ensures) (c .if1 .taken))
-
-step-count-requires : tie.Need-step-count-requires
-step-count-requires c κs = search needs
-
-first-malformed-requires : tie.Need-first-malformed-requires
-first-malformed-requires c κs = search needs
+returns c = answer-3 _ _ _ (told-false (c .before .settings-in-range .ensures) (c .if1 .taken))
 
 returns-2 : tie.Need-returns-2
 returns-2 c = let g = c .before in
     let b = g .before .before in
-    let e₃ = told-true (b .before .settings-right .ensures) (b .if1 .left) in
+    let e₃ = told-true (b .before .settings-in-range .ensures) (b .if1 .left) in
     answer-4 _ _ _ _ _ (g .before .step-count .ensures) (g .first-malformed .ensures) e₃ (c .if2 .taken)
 
 returns-3 : tie.Need-returns-3
 returns-3 c = let g = c .before .before in
     let b = g .before .before in
-    let e₃ = told-true (b .before .settings-right .ensures) (b .if1 .left) in
+    let e₃ = told-true (b .before .settings-in-range .ensures) (b .if1 .left) in
     answer-5-many _ _ _ _ _ (g .before .step-count .ensures) (g .first-malformed .ensures) e₃ (c .before .if2 .left) (c .if3 .taken)
-
-mul-length : tie.Need-mul-length
-mul-length c = search needs
-
-add-length : tie.Need-add-length
-add-length c = search needs
 
 returns-4 : tie.Need-returns-4
 returns-4 c = let g = c .before .before .before in
     let b = g .before .before in
-    let e₃ = told-true (b .before .settings-right .ensures) (b .if1 .left) in
+    let e₃ = told-true (b .before .settings-in-range .ensures) (b .if1 .left) in
     answer-5-short _ _ _ _ _ (g .before .step-count .ensures) (g .first-malformed .ensures) e₃ (c .before .before .if2 .left) (c .before .if3 .left)
     (c .if4 .taken)
 
@@ -47,15 +32,12 @@ put-requires : tie.Need-put-requires
 put-requires c κs = let h = c .before in
     (h .before .before .before .before .step-count .ensures, (h .before .if3 .left, h .if4 .left))
 
-same-length : tie.Need-same-length
-same-length c = search needs
-
 returns-5 : tie.Need-returns-5
 returns-5 c = let h = c .before .before .before .before in
     let g = h .before .before .before in
     let b = g .before .before in
     let r =
-    answer-bytes _ _ _ _ _ (g .before .step-count .ensures) (g .first-malformed .ensures) (told-true (b .before .settings-right .ensures) (b .if1 .left))
+    answer-bytes _ _ _ _ _ (g .before .step-count .ensures) (g .first-malformed .ensures) (told-true (b .before .settings-in-range .ensures) (b .if1 .left))
     (h .before .before .if2 .left) (h .before .if3 .left) (h .if4 .left) in
     (r .0, c .before .before .put .ensures ∙ r .1)
 
@@ -63,15 +45,15 @@ pub write-spec : {M : Type 1} → statement M
 write-spec =
     tie.close
     (tie.spec
-    settings-right-requires
+    (λ c κs. search needs)
     returns
-    step-count-requires
-    first-malformed-requires
+    (λ c κs. search needs)
+    (λ c κs. search needs)
     returns-2
     returns-3
-    mul-length
-    add-length
+    (λ c. search needs)
+    (λ c. search needs)
     returns-4
     put-requires
-    same-length
+    (λ c. search needs)
     returns-5)

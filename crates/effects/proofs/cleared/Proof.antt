@@ -2,27 +2,6 @@ use borrow.Author.Needs.{needs}
 use Rattle.effects.proofs.cleared.Statement.{statement}
 use Rattle.effects.proofs.cleared.Tie as tie
 
-enum-told : tie.Need-enum-told
-enum-told c = search needs
-
-faulty-requires : tie.Need-faulty-requires
-faulty-requires c κs = search needs
-
-marked-requires : tie.Need-marked-requires
-marked-requires c κs = search needs
-
-enum-told-2 : tie.Need-enum-told-2
-enum-told-2 c = search needs
-
-faulty-requires-2 : tie.Need-faulty-requires-2
-faulty-requires-2 c κs = search needs
-
-enum-told-3 : tie.Need-enum-told-3
-enum-told-3 c = search needs
-
-faulty-requires-3 : tie.Need-faulty-requires-3
-faulty-requires-3 c κs = search needs
-
 returns : tie.Need-returns
 returns c = rw (c .marked .ensures, c .before .faulty .ensures, c .before .before .enum-told .given .1)
 
@@ -36,13 +15,13 @@ pub cleared-spec : {M : Type 1} → statement M
 cleared-spec =
     tie.close
     (tie.spec
-    enum-told
-    faulty-requires
-    marked-requires
-    enum-told-2
-    faulty-requires-2
-    enum-told-3
-    faulty-requires-3
+    (λ c. search needs)
+    (λ c κs. search needs)
+    (λ c κs. search needs)
+    (λ c. search needs)
+    (λ c κs. search needs)
+    (λ c. search needs)
+    (λ c κs. search needs)
     returns
     returns-2
     returns-3)

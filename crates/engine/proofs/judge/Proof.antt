@@ -6,15 +6,15 @@ use mathlib.Core.Path.{_≡_, _∙_, ap, sym, subst}
 use Rattle.section.specs.declared.Decoded.the-variants.{Well}
 use Rattle.section.specs.declared.Track.{Track}
 use Rattle.section.specs.Range.{inRange}
-use Rattle.section.specs.Step.{decoded}
+use Rattle.section.specs.Step.{decoded, postOf}
 use Rattle.section.specs.Store.{trackOf}
 use Rattle.section.proofs.Told.{told-false, told-true}
+use Rattle.rules.specs.Site.{siteOn}
 use Rattle.rules.specs.Judge.{judge}
-use Rattle.sites.specs.Fit.{Fit}
-use Rattle.sites.specs.Running.{runningOf}
-use Rattle.table.specs.Judged.{siteIn}
-use Rattle.table.proofs.OnTrack.{malformed, fit}
-use Rattle.judging.proofs.OnTrack.{judged}
+use Rattle.site.specs.Fit.{Fit}
+use Rattle.site.specs.Running.{runningOf}
+use Rattle.judging.proofs.at_post.OnTrack.{malformed, fit}
+use Rattle.judging.proofs.on_track.OnTrack.{judged}
 use borrow.Author.Needs.{needs}
 use Rattle.engine.proofs.judge.Statement.{statement}
 use Rattle.engine.proofs.judge.Tie as tie
@@ -54,27 +54,9 @@ says :
     (c : tie.After-running-of) → decoded (start c .args .s .settings .posts) (now (start c .args .bytes)) ≡ Well (well c .d .given .0 .0)
 says c = sym (well c .before .before .decode .ensures) ∙ well c .d .given .1
 
-in-range-requires : tie.Need-in-range-requires
-in-range-requires c κs = search needs
-
-refused-requires : tie.Need-refused-requires
-refused-requires c κs = search needs
-
 returns : tie.Need-returns
 unfolding judge
 returns c = rw (told-false (c .before .before .in-range .ensures) (c .before .if1 .taken)) (c .refused .ensures)
-
-decode-requires : tie.Need-decode-requires
-decode-requires c κs = search needs
-
-enum-known-d : tie.Need-enum-known-d
-enum-known-d c = search needs
-
-enum-told : tie.Need-enum-told
-enum-told c = search needs
-
-refused-requires-2 : tie.Need-refused-requires-2
-refused-requires-2 c κs = search needs
 
 returns-2 : tie.Need-returns-2
 unfolding judge
@@ -84,16 +66,13 @@ returns-2 c =
     rw (told-true (left .before .in-range .ensures) (left .if1 .left))
     (c .refused2 .ensures ∙ malformed _ _ (sym (told .before .before .decode .ensures) ∙ told .enum-told .given .1))
 
-running-of-requires : tie.Need-running-of-requires
-running-of-requires c κs = search needs
-
 judge-on-track-requires : tie.Need-judge-on-track-requires
 judge-on-track-requires c κs =
     let x = well c .d .given .0 .0 in
     subst
-    (λ (t : Track). Fit (start c .args .s .settings) (siteIn x t (c .running-of .result)))
+    (λ (t : Track). Fit (start c .args .s .settings) (siteOn (x .track) (postOf (x .step)) t))
     (sym (own-track c))
-    (fit (start c .args .s) (now (start c .args .bytes)) x (says c) (in-range c) (c .running-of .result))
+    (fit (start c .args .s) (now (start c .args .bytes)) x (says c) (in-range c))
 
 returns-3 : tie.Need-returns-3
 unfolding judge
@@ -113,15 +92,15 @@ pub judge-spec : {M : Type 1} → statement M
 judge-spec =
     tie.close
     (tie.spec
-    in-range-requires
-    refused-requires
+    (λ c κs. search needs)
+    (λ c κs. search needs)
     returns
-    decode-requires
-    enum-known-d
-    enum-told
-    refused-requires-2
+    (λ c κs. search needs)
+    (λ c. search needs)
+    (λ c. search needs)
+    (λ c κs. search needs)
     returns-2
-    running-of-requires
+    (λ c κs. search needs)
     judge-on-track-requires
     returns-3
     returns-4)

@@ -4,35 +4,17 @@ use borrow.Author.Needs.{needs}
 use Rattle.layout.proofs.settings_bytes.Statement.{statement}
 use Rattle.layout.proofs.settings_bytes.Tie as tie
 
-pair-bytes-requires : tie.Need-pair-bytes-requires
-pair-bytes-requires c κs = search needs
-
-pair-bytes-requires-2 : tie.Need-pair-bytes-requires-2
-pair-bytes-requires-2 c κs = search needs
-
-array-read-t7 : tie.Need-array-read-t7
-array-read-t7 c = search needs
-
-array-read-t10 : tie.Need-array-read-t10
-array-read-t10 c = search needs
-
-array-read-t13 : tie.Need-array-read-t13
-array-read-t13 c = search needs
-
-array-read-t16 : tie.Need-array-read-t16
-array-read-t16 c = search needs
-
 returns : tie.Need-returns
-returns c = settings-are _ _ _ (c .before .pair-bytes .ensures) (c .pair-bytes2 .ensures)
+returns c = settings-are _ _ _ (c .before .le16-bytes .ensures) (c .le16-bytes2 .ensures)
 
 pub settings-bytes-spec : {M : Type 1} → statement M
 settings-bytes-spec =
     tie.close
     (tie.spec
-    pair-bytes-requires
-    pair-bytes-requires-2
-    array-read-t7
-    array-read-t10
-    array-read-t13
-    array-read-t16
+    (λ c κs. search needs)
+    (λ c κs. search needs)
+    (λ c. search needs)
+    (λ c. search needs)
+    (λ c. search needs)
+    (λ c. search needs)
     returns)

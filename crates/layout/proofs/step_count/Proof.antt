@@ -5,12 +5,6 @@ use borrow.Author.Needs.{needs}
 use Rattle.layout.proofs.step_count.Statement.{statement}
 use Rattle.layout.proofs.step_count.Tie as tie
 
-mul-if1 : tie.Need-mul-if1
-mul-if1 c = search needs
-
-add-result : tie.Need-add-result
-add-result c = search needs
-
 returns : tie.Need-returns
 unfolding stepCount
 returns c = omega arith
@@ -20,4 +14,4 @@ unfolding stepCount
 returns-2 c = omega arith
 
 pub step-count-spec : {M : Type 1} → statement M
-step-count-spec = tie.close (tie.spec mul-if1 add-result returns returns-2)
+step-count-spec = tie.close (tie.spec (λ c. search needs) (λ c. search needs) returns returns-2)

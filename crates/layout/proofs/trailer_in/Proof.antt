@@ -8,18 +8,6 @@ use borrow.Author.Needs.{needs}
 use Rattle.layout.proofs.trailer_in.Statement.{statement}
 use Rattle.layout.proofs.trailer_in.Tie as tie
 
-sub-start : tie.Need-sub-start
-sub-start c = search needs
-
-sub-result : tie.Need-sub-result
-sub-result c = search needs
-
-part-result-start : tie.Need-part-result-start
-part-result-start c = search needs
-
-part-result-end : tie.Need-part-result-end
-part-result-end c = search needs
-
 returns : tie.Need-returns
 unfolding trailerIn fromEnd
 returns c = let f = c .before .args .file .now in
@@ -27,4 +15,4 @@ returns c = let f = c .before .args .file .now in
 
 pub trailer-in-spec : {M : Type 1} → statement M
 trailer-in-spec =
-    tie.close (tie.spec sub-start sub-result part-result-start part-result-end returns)
+    tie.close (tie.spec (λ c. search needs) (λ c. search needs) (λ c. search needs) (λ c. search needs) returns)

@@ -8,22 +8,10 @@ use Rattle.lines.specs.Lines.{header}
 use Rattle.lines.proofs.put_header.Statement.{statement}
 use Rattle.lines.proofs.put_header.Tie as tie
 
-slice-aggregate-put-named : tie.Need-slice-aggregate-put-named
-slice-aggregate-put-named c = search needs
-
-put-named-requires : tie.Need-put-named-requires
-put-named-requires c κs = search needs
-
-slice-aggregate-put-named-2 : tie.Need-slice-aggregate-put-named-2
-slice-aggregate-put-named-2 c = search needs
-
 put-named-requires-2 : tie.Need-put-named-requires-2
 put-named-requires-2 c κs =
     let entry = c .before .before .before .before .before .before .before .before in
     omega (arith, named-length (ascii "posts ") (entry .args .n) 32)
-
-same-length : tie.Need-same-length
-same-length c = search needs
 
 returns : tie.Need-returns
 unfolding header
@@ -39,9 +27,9 @@ pub put-header-spec : {M : Type 1} → statement M
 put-header-spec =
     tie.close
     (tie.spec
-    slice-aggregate-put-named
-    put-named-requires
-    slice-aggregate-put-named-2
+    (λ c. search needs)
+    (λ c κs. search needs)
+    (λ c. search needs)
     put-named-requires-2
-    same-length
+    (λ c. search needs)
     returns)

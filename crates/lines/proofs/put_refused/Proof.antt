@@ -8,17 +8,8 @@ use Rattle.lines.specs.Lines.{refusedLine}
 use Rattle.lines.proofs.put_refused.Statement.{statement}
 use Rattle.lines.proofs.put_refused.Tie as tie
 
-slice-aggregate-put-named : tie.Need-slice-aggregate-put-named
-slice-aggregate-put-named c = search needs
-
-put-named-requires : tie.Need-put-named-requires
-put-named-requires c κs = search needs
-
 put-number-requires : tie.Need-put-number-requires
 put-number-requires c κs = omega (arith, named-length (ascii "refused ") (c .before .before .before .before .before .before .before .args .number) 32)
-
-same-length : tie.Need-same-length
-same-length c = search needs
 
 returns : tie.Need-returns
 unfolding refusedLine
@@ -33,4 +24,4 @@ returns c =
 pub put-refused-spec : {M : Type 1} → statement M
 put-refused-spec =
     tie.close
-    (tie.spec slice-aggregate-put-named put-named-requires put-number-requires same-length returns)
+    (tie.spec (λ c. search needs) (λ c κs. search needs) put-number-requires (λ c. search needs) returns)

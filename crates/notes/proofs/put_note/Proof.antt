@@ -7,44 +7,20 @@ use Rattle.notes.proofs.Laws.{four-stored}
 use Rattle.notes.proofs.put_note.Statement.{statement}
 use Rattle.notes.proofs.put_note.Tie as tie
 
-refusal-of-requires : tie.Need-refusal-of-requires
-refusal-of-requires c κs = search needs
-
-slice-write-notes : tie.Need-slice-write-notes
-slice-write-notes c = search needs
-
-said-by-requires : tie.Need-said-by-requires
-said-by-requires c κs = search needs
-
-said-number-requires : tie.Need-said-number-requires
-said-number-requires c κs = search needs
-
-add-notes : tie.Need-add-notes
-add-notes c = search needs
-
 slice-write-notes-2 : tie.Need-slice-write-notes-2
 slice-write-notes-2 c =
     let entry = c .before .before .before .before in
     simp length-set (omega (arith, entry .pre))
-
-add-notes-2 : tie.Need-add-notes-2
-add-notes-2 c = search needs
 
 slice-write-notes-3 : tie.Need-slice-write-notes-3
 slice-write-notes-3 c =
     let entry = c .before .before .before .before in
     simp length-set (omega (arith, entry .pre))
 
-add-notes-3 : tie.Need-add-notes-3
-add-notes-3 c = search needs
-
 slice-write-notes-4 : tie.Need-slice-write-notes-4
 slice-write-notes-4 c =
     let entry = c .before .before .before .before in
     simp length-set (omega (arith, entry .pre))
-
-same-length : tie.Need-same-length
-same-length c = search needs
 
 returns : tie.Need-returns
 unfolding noteWith
@@ -60,15 +36,15 @@ pub put-note-spec : {M : Type 1} → statement M
 put-note-spec =
     tie.close
     (tie.spec
-    refusal-of-requires
-    slice-write-notes
-    said-by-requires
-    said-number-requires
-    add-notes
+    (λ c κs. search needs)
+    (λ c. search needs)
+    (λ c κs. search needs)
+    (λ c κs. search needs)
+    (λ c. search needs)
     slice-write-notes-2
-    add-notes-2
+    (λ c. search needs)
     slice-write-notes-3
-    add-notes-3
+    (λ c. search needs)
     slice-write-notes-4
-    same-length
+    (λ c. search needs)
     returns)

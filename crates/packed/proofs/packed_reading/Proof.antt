@@ -4,21 +4,9 @@ use Rattle.packed.specs.Packed.{packedReading}
 use Rattle.packed.proofs.packed_reading.Statement.{statement}
 use Rattle.packed.proofs.packed_reading.Tie as tie
 
-enum-known-reading : tie.Need-enum-known-reading
-enum-known-reading c = search needs
-
 cast-result : tie.Need-cast-result
 unfolding packedReading
 cast-result c = let h = rw (c .before .reading .given .1) at (c .before .before .before .pre) in omega arith
-
-enum-known-reading-2 : tie.Need-enum-known-reading-2
-enum-known-reading-2 c = search needs
-
-cast-result-2 : tie.Need-cast-result-2
-cast-result-2 c = search needs
-
-mul-result : tie.Need-mul-result
-mul-result c = search needs
 
 cast-result-3 : tie.Need-cast-result-3
 unfolding packedReading
@@ -40,11 +28,11 @@ pub packed-reading-spec : {M : Type 1} → statement M
 packed-reading-spec =
     tie.close
     (tie.spec
-    enum-known-reading
+    (λ c. search needs)
     cast-result
-    enum-known-reading-2
-    cast-result-2
-    mul-result
+    (λ c. search needs)
+    (λ c. search needs)
+    (λ c. search needs)
     cast-result-3
     add-result
     returns

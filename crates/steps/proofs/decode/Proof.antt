@@ -7,9 +7,6 @@ use Rattle.section.proofs.Told.{told-false, told-true}
 use Rattle.steps.proofs.decode.Statement.{statement}
 use Rattle.steps.proofs.decode.Tie as tie
 
-is-well-formed-requires : tie.Need-is-well-formed-requires
-is-well-formed-requires c κs = search needs
-
 returns : tie.Need-returns
 returns c = sym (malformed _ _ (told-false (c .before .is-well-formed .ensures) (c .if1 .taken)))
 
@@ -21,4 +18,4 @@ returns-2 c = let b = c .before in
     ap Well (c .step-said .ensures) ∙ sym (well-said _ _ (told-true (b .before .is-well-formed .ensures) (b .if1 .left)))
 
 pub decode-spec : {M : Type 1} → statement M
-decode-spec = tie.close (tie.spec is-well-formed-requires returns step-said-requires returns-2)
+decode-spec = tie.close (tie.spec (λ c κs. search needs) returns step-said-requires returns-2)

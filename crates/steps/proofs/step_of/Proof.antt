@@ -1,14 +1,9 @@
+-- Each arm is the row of its kind in `stepOf`; the last is reached by the kinds that no other arm names.
 use borrow.Author.Needs.{needs}
 use borrow.Author.Tests.{ne-eqb}
 use Rattle.section.specs.Step.{stepOf}
 use Rattle.steps.proofs.step_of.Statement.{statement}
 use Rattle.steps.proofs.step_of.Tie as tie
-
-fault-of-requires : tie.Need-fault-of-requires
-fault-of-requires c κs = search needs
-
-fault-of-requires-2 : tie.Need-fault-of-requires-2
-fault-of-requires-2 c κs = search needs
 
 returns : tie.Need-returns
 unfolding stepOf
@@ -80,8 +75,8 @@ pub step-of-spec : {M : Type 1} → statement M
 step-of-spec =
     tie.close
     (tie.spec
-    fault-of-requires
-    fault-of-requires-2
+    (λ c κs. search needs)
+    (λ c κs. search needs)
     returns
     returns-2
     returns-3

@@ -15,33 +15,6 @@ Inv-loop buffer₀ done₀ buffer done = (length buffer ≡ length buffer₀) ×
 abbrev μ-loop : tie.MeasureT-loop
 μ-loop buffer₀ done₀ buffer done = length buffer - done
 
-loop-holds : tie.Need-loop-holds Inv-loop μ-loop
-loop-holds c = search needs
-
-sub-read-once : tie.Need-sub-read-once Inv-loop μ-loop
-sub-read-once c = search needs
-
-part-read-once-start : tie.Need-part-read-once-start Inv-loop μ-loop
-part-read-once-start c = search needs
-
-part-read-once-end : tie.Need-part-read-once-end Inv-loop μ-loop
-part-read-once-end c = search needs
-
-read-once-requires : tie.Need-read-once-requires Inv-loop μ-loop
-read-once-requires c κs = search needs
-
-enum-known-more : tie.Need-enum-known-more Inv-loop μ-loop
-enum-known-more c = search needs
-
-enum-told : tie.Need-enum-told Inv-loop μ-loop
-enum-told c = search needs
-
-same-length : tie.Need-same-length Inv-loop μ-loop
-same-length c = search needs
-
-returns : tie.Need-returns Inv-loop μ-loop
-returns c = search needs
-
 add-done : tie.Need-add-done Inv-loop μ-loop
 add-done c =
     let at-more = c .before .before in
@@ -50,9 +23,6 @@ add-done c =
     let h = at-loop .loop in
     let got = rw (at-more .more .given .1) at (at-read-once .read-once .ensures) in
     omega (arith, got .0, part-length (h .done) (h .buffer), at-read-once .read-once .kept .0)
-
-loop-less : tie.Need-loop-less Inv-loop μ-loop
-loop-less c = search needs
 
 loop-again : tie.Need-loop-again Inv-loop μ-loop
 loop-again c =
@@ -64,14 +34,8 @@ loop-again c =
     let e = same-len-mid (h .done) (length (h .buffer) - h .done) (h .buffer) (at-read-once .read-once .last .0) (at-read-once .read-once .kept .0) in
     (omega (arith, h .inv .0), omega (arith, got .0, part-length (h .done) (h .buffer), at-read-once .read-once .kept .0))
 
-same-length-2 : tie.Need-same-length-2 Inv-loop μ-loop
-same-length-2 c = search needs
-
 returns-2 : tie.Need-returns-2 Inv-loop μ-loop
 returns-2 c = counted _ _ (omega arith)
-
-same-length-3 : tie.Need-same-length-3 Inv-loop μ-loop
-same-length-3 c = search needs
 
 returns-3 : tie.Need-returns-3 Inv-loop μ-loop
 returns-3 c =
@@ -87,19 +51,19 @@ read-whole-spec =
     (tie.spec
     Inv-loop
     μ-loop
-    loop-holds
-    sub-read-once
-    part-read-once-start
-    part-read-once-end
-    read-once-requires
-    enum-known-more
-    enum-told
-    same-length
-    returns
+    (λ c. search needs)
+    (λ c. search needs)
+    (λ c. search needs)
+    (λ c. search needs)
+    (λ c κs. search needs)
+    (λ c. search needs)
+    (λ c. search needs)
+    (λ c. search needs)
+    (λ c. search needs)
     add-done
-    loop-less
+    (λ c. search needs)
     loop-again
-    same-length-2
+    (λ c. search needs)
     returns-2
-    same-length-3
+    (λ c. search needs)
     returns-3)

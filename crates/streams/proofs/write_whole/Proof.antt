@@ -4,14 +4,8 @@ use borrow.Author.Needs.{needs}
 use Rattle.streams.proofs.write_whole.Statement.{statement}
 use Rattle.streams.proofs.write_whole.Tie as tie
 
-write-all-requires : tie.Need-write-all-requires
-write-all-requires c κs = search needs
-
 returns : tie.Need-returns
 returns c = λ e. sym (c .before .before .if1 .taken) ∙ e
-
-fail-requires : tie.Need-fail-requires
-fail-requires c κs = search needs
 
 returns-2 : tie.Need-returns-2
 returns-2 c = λ _. refl
@@ -20,4 +14,4 @@ returns-3 : tie.Need-returns-3
 returns-3 c = λ _. refl
 
 pub write-whole-spec : {M : Type 1} → statement M
-write-whole-spec = tie.close (tie.spec write-all-requires returns fail-requires returns-2 returns-3)
+write-whole-spec = tie.close (tie.spec (λ c κs. search needs) returns (λ c κs. search needs) returns-2 returns-3)

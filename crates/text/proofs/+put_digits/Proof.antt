@@ -30,7 +30,7 @@ put-digits-returns : (t : ℕ) → put-digits-lts.Need-returns (
   put-digits.Post,
 ) (put-digits-at t) put-digits.Post
 put-digits-returns t c = let a = c .before .before .args in
-    let p = put-nothing (now (a .buffer)) (a .at) (a .most) (a .x) (c .if1 .taken) in (p .next, p .after)
+    put-nothing (now (a .buffer)) (a .at) (a .most) (a .x) (c .if1 .taken)
 
 put-digits-cast-put-byte : (t : ℕ) → put-digits-lts.Need-cast-put-byte (
   put-byte-reads.Asked,
@@ -72,10 +72,8 @@ put-digits-returns-2 : (t : ℕ) → put-digits-lts.Need-returns-2 (
 ) (put-digits-at t) put-digits.Post
 put-digits-returns-2 t c = let b = c .before .before .before .before .before .before in
     let a = b .before .args in
-    let p =
     put-small (now (a .buffer)) (a .at) (a .most) (a .x) _ _ (omega arith) (omega arith)
-    (c .before .before .put-byte .ensures .0) (c .before .before .put-byte .ensures .1) in
-    (p .next, p .after)
+    (c .before .before .put-byte .ensures .0) (c .before .before .put-byte .ensures .1)
 
 put-digits-sub-put-digits : (t : ℕ) → put-digits-lts.Need-sub-put-digits (
   put-byte-reads.Asked,
@@ -137,10 +135,8 @@ put-digits-returns-3 : (t : ℕ) → put-digits-lts.Need-returns-3 (
 put-digits-returns-3 t c = let d = c .before .before .before .before .before .before .put-digits in
     let b = c .before .before .before .before .before .before .before .before .before .before .before in
     let a = b .args in
-    let p =
     put-large (now (a .buffer)) (a .at) (a .most) (a .x) _ _ _ _ (omega arith) (omega arith) (omega arith)
-    (d .ensures .0) (d .ensures .1) (c .before .before .put-byte2 .ensures .0) (c .before .before .put-byte2 .ensures .1) in
-    (p .next, p .after)
+    (d .ensures .0) (d .ensures .1) (c .before .before .put-byte2 .ensures .0) (c .before .before .put-byte2 .ensures .1)
 
 pub +put-digits-spec : {M : Type 1} → statement M
 +put-digits-spec = close μ-put-digits λ t. put-digits-lts.spec (

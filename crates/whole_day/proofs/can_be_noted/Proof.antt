@@ -23,15 +23,12 @@ returns-2 c =
     let a = c .before .before .before .args in
     rw (le-leb (stepLength * a .count) (length (now (a .steps))) (omega arith), lt-leb (noteLength * a .count) (a .room) (omega arith))
 
-settings-right-requires : tie.Need-settings-right-requires
-settings-right-requires c κs = search needs
-
 returns-3 : tie.Need-returns-3
 unfolding canBeNoted
 returns-3 c =
     let a = c .before .before .before .before .args in
     rw (le-leb (stepLength * a .count) (length (now (a .steps))) (omega arith), le-leb (noteLength * a .count) (a .room) (omega arith))
-    (c .settings-right .ensures)
+    (c .settings-in-range .ensures)
 
 pub can-be-noted-spec : {M : Type 1} → statement M
-can-be-noted-spec = tie.close (tie.spec returns returns-2 settings-right-requires returns-3)
+can-be-noted-spec = tie.close (tie.spec returns returns-2 (λ c κs. search needs) returns-3)

@@ -3,11 +3,8 @@ use borrow.Author.Needs.{needs}
 use Rattle.whole_day.proofs.fresh_posts.Statement.{statement}
 use Rattle.whole_day.proofs.fresh_posts.Tie as tie
 
-fresh-requires : tie.Need-fresh-requires
-fresh-requires c κs = search needs
-
 returns : tie.Need-returns
 returns c = rw (c .before .before .before .before .fresh .ensures) refl
 
 pub fresh-posts-spec : {M : Type 1} → statement M
-fresh-posts-spec = tie.close (tie.spec fresh-requires returns)
+fresh-posts-spec = tie.close (tie.spec (λ c κs. search needs) returns)

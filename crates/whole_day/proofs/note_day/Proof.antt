@@ -6,21 +6,12 @@ use Rattle.whole_day.proofs.Laws.{day-fits, notes-written, notes-untouc
 use Rattle.whole_day.proofs.note_day.Statement.{statement}
 use Rattle.whole_day.proofs.note_day.Tie as tie
 
-can-be-noted-requires : tie.Need-can-be-noted-requires
-can-be-noted-requires c κs = search needs
-
-fresh-posts-requires : tie.Need-fresh-posts-requires
-fresh-posts-requires c κs = search needs
-
 note-from-requires : tie.Need-note-from-requires
 note-from-requires c κs =
     let fresh = c .before in
     let then = fresh .before in
     let fits = day-fits _ _ _ _ (told (then .before .can-be-noted .ensures) (then .if1 .taken)) in
     ((fits .settings-well, fresh .fresh-posts .ensures), (fits .steps-there, fits .notes-fit))
-
-same-length : tie.Need-same-length
-same-length c = search needs
 
 returns : tie.Need-returns
 returns c =
@@ -42,9 +33,9 @@ pub note-day-spec : {M : Type 1} → statement M
 note-day-spec =
     tie.close
     (tie.spec
-    can-be-noted-requires
-    fresh-posts-requires
+    (λ c κs. search needs)
+    (λ c κs. search needs)
     note-from-requires
-    same-length
+    (λ c. search needs)
     returns
     returns-2)

@@ -1,6 +1,6 @@
 -- The walk's laws, at each place of the loop.
 use Prim.Native.Nat.{_-_, _<_}
-use mathlib.Core.Path.{_≡_, sym, _∙_}
+use mathlib.Core.Path.{_≡_, sym, _∙_, ap}
 use native.Mathlib.Omega.{arith}
 use Rattle.section.specs.declared.Decoded.the-variants.{Well}
 use Rattle.section.specs.declared.TrackStep.{TrackStep}
@@ -24,11 +24,14 @@ abbrev μ-loop : tie.MeasureT-loop
 
 -- ## What the code knows once it has the place of a well-formed step's post
 
-abbrev offered : tie.After-place-of Inv-loop μ-loop → tie.After-step-at Inv-loop μ-loop
+abbrev offered : tie.After-place-of Inv-loop μ-loop → tie.After-decode Inv-loop μ-loop
 offered c = c .before .before .before .before .before
 
+abbrev taken : tie.After-place-of Inv-loop μ-loop → tie.After-step-at Inv-loop μ-loop
+taken c = offered c .before
+
 abbrev looped : tie.After-place-of Inv-loop μ-loop → tie.At-loop Inv-loop μ-loop
-looped c = offered c .before .before
+looped c = taken c .before .before
 
 abbrev start : tie.After-place-of Inv-loop μ-loop → tie.Start Inv-loop μ-loop
 start c = looped c .before .before .before .before
@@ -37,12 +40,13 @@ abbrev step : tie.After-place-of Inv-loop μ-loop → TrackStep
 step c = c .before .before .before .d .given .0 .0
 
 more : (c : tie.After-place-of Inv-loop μ-loop) → looped c .loop .i < start c .args .count
-more c = offered c .before .loop-test .taken
+more c = taken c .before .loop-test .taken
 
 says :
     (c : tie.After-place-of Inv-loop μ-loop)
     → decoded (start c .args .c .posts) (stepAt (start c .args .steps .now) (looped c .loop .i)) ≡ Well (step c)
-says c = sym (offered c .step-at .ensures) ∙ c .before .before .before .d .given .1
+says c =
+    ap (decoded _) (sym (taken c .step-at .ensures)) ∙ sym (offered c .decode .ensures) ∙ c .before .before .before .d .given .1
 
 -- the posts of a track are 16
 post-among : (c : tie.After-place-of Inv-loop μ-loop) → postOf (step c .step) < mostPosts
@@ -60,9 +64,6 @@ placed c = judged c .before .before .before .before .before .before
 
 -- ## The places
 
-both-settled-requires : tie.Need-both-settled-requires Inv-loop μ-loop
-both-settled-requires c κs = search needs
-
 loop-holds : tie.Need-loop-holds Inv-loop μ-loop
 loop-holds c =
     let entry = c .before .before .before in
@@ -71,15 +72,9 @@ loop-holds c =
 step-at-requires : tie.Need-step-at-requires Inv-loop μ-loop
 step-at-requires c κs = omega arith
 
-enum-known-d : tie.Need-enum-known-d Inv-loop μ-loop
-enum-known-d c = search needs
-
-enum-told : tie.Need-enum-told Inv-loop μ-loop
-enum-told c = search needs
-
 note-verdict-requires : tie.Need-note-verdict-requires Inv-loop μ-loop
 note-verdict-requires c κs =
-    let in-loop = c .before .before .before .before in
+    let in-loop = c .before .before .before .before .before in
     note-fits (in-loop .before .loop .inv) (in-loop .loop-test .taken)
 
 add-i : tie.Need-add-i Inv-loop μ-loop
@@ -92,16 +87,12 @@ loop-again : tie.Need-loop-again Inv-loop μ-loop
 loop-again c =
     let noted = c .before .before in
     let told = noted .before .before in
-    let offered = told .before .before in
-    let in-loop = offered .before in
-    passes-over (in-loop .before .loop .inv) (in-loop .loop-test .taken) (sym (offered .step-at .ensures) ∙ told .enum-told .given .1)
+    let decode = told .before .before in
+    let taken = decode .before in
+    let in-loop = taken .before in
+    passes-over (in-loop .before .loop .inv) (in-loop .loop-test .taken)
+    (ap (decoded _) (sym (taken .step-at .ensures)) ∙ sym (decode .decode .ensures) ∙ told .enum-told .given .1)
     (noted .note-verdict .ensures) (noted .note-verdict .kept .0)
-
-row-of-requires : tie.Need-row-of-requires Inv-loop μ-loop
-row-of-requires c κs = search needs
-
-place-of-requires : tie.Need-place-of-requires Inv-loop μ-loop
-place-of-requires c κs = search needs
 
 mul-judge-step : tie.Need-mul-judge-step Inv-loop μ-loop
 mul-judge-step c = omega (arith, row-among c)
@@ -118,17 +109,11 @@ index-2-judge-step c = omega (arith, c .place-of .ensures, post-among c)
 mul-judge-step-3 : tie.Need-mul-judge-step-3 Inv-loop μ-loop
 mul-judge-step-3 c = omega (arith, row-among (c .before))
 
-array-copy-out-judge-step : tie.Need-array-copy-out-judge-step Inv-loop μ-loop
-array-copy-out-judge-step c = search needs
-
 sub-judge-step : tie.Need-sub-judge-step Inv-loop μ-loop
 sub-judge-step c = omega (arith, row-among (c .before .before))
 
 mul-judge-step-4 : tie.Need-mul-judge-step-4 Inv-loop μ-loop
 mul-judge-step-4 c = omega (arith, row-among (c .before .before))
-
-array-copy-out-judge-step-2 : tie.Need-array-copy-out-judge-step-2 Inv-loop μ-loop
-array-copy-out-judge-step-2 c = search needs
 
 mul-judge-step-5 : tie.Need-mul-judge-step-5 Inv-loop μ-loop
 mul-judge-step-5 c = omega (arith, row-among (c .before .before .before))
@@ -163,9 +148,6 @@ index-2-own c = let place = placed c in omega (arith, place .place-of .ensures, 
 
 mul-running : tie.Need-mul-running Inv-loop μ-loop
 mul-running c = omega (arith, row-among (placed c))
-
-array-set-from-running : tie.Need-array-set-from-running Inv-loop μ-loop
-array-set-from-running c = search needs
 
 note-verdict-requires-2 : tie.Need-note-verdict-requires-2 Inv-loop μ-loop
 note-verdict-requires-2 c κs =
@@ -202,26 +184,27 @@ note-from-spec =
     (tie.spec
     Inv-loop
     μ-loop
-    both-settled-requires
+    (λ c κs. search needs)
     loop-holds
     step-at-requires
-    enum-known-d
-    enum-told
+    (λ c κs. search needs)
+    (λ c. search needs)
+    (λ c. search needs)
     note-verdict-requires
     add-i
     loop-less
     loop-again
-    row-of-requires
-    place-of-requires
+    (λ c κs. search needs)
+    (λ c κs. search needs)
     mul-judge-step
     mul-judge-step-2
     index-1-judge-step
     index-2-judge-step
     mul-judge-step-3
-    array-copy-out-judge-step
+    (λ c. search needs)
     sub-judge-step
     mul-judge-step-4
-    array-copy-out-judge-step-2
+    (λ c. search needs)
     mul-judge-step-5
     index-1-judge-step-2
     mul-judge-step-6
@@ -232,7 +215,7 @@ note-from-spec =
     index-1-own
     index-2-own
     mul-running
-    array-set-from-running
+    (λ c. search needs)
     note-verdict-requires-2
     add-i-2
     loop-less-2

@@ -30,27 +30,6 @@ module _ (n : ℕ) (track : Bool) {b : Post} {i : ℕ} (eb : b ≡ blank) (ei : 
   unfolding freshTrack
   past-the-end h = rw eb (ap withPosts (sym (set-out _ _ _ (rw ei at h))))
 
-blank-requires : tie.Need-blank-requires
-blank-requires c κs = search needs
-
-fresh-start-requires : tie.Need-fresh-start-requires
-fresh-start-requires c κs = search needs
-
-cast-i : tie.Need-cast-i
-cast-i c = search needs
-
-blank-requires-2 : tie.Need-blank-requires-2
-blank-requires-2 c κs = search needs
-
-permitted-requires : tie.Need-permitted-requires
-permitted-requires c κs = search needs
-
-mul-posts : tie.Need-mul-posts
-mul-posts c = search needs
-
-array-set-from-posts : tie.Need-array-set-from-posts
-array-set-from-posts c = search needs
-
 returns : tie.Need-returns
 returns c =
     let b = c .before .before .before in
@@ -66,12 +45,12 @@ pub fresh-track-spec : {M : Type 1} → statement M
 fresh-track-spec =
     tie.close
     (tie.spec
-    blank-requires
-    fresh-start-requires
-    cast-i
-    blank-requires-2
-    permitted-requires
-    mul-posts
-    array-set-from-posts
+    (λ c κs. search needs)
+    (λ c κs. search needs)
+    (λ c. search needs)
+    (λ c κs. search needs)
+    (λ c κs. search needs)
+    (λ c. search needs)
+    (λ c. search needs)
     returns
     returns-2)

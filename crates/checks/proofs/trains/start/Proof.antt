@@ -1,0 +1,72 @@
+-- Each check is asked past those that held; the return on it is its refusal, the last return is past them all.
+use mathlib.Core.Bool.{false, not}
+use mathlib.Core.List.{List, []}
+use native.Mathlib.Omega.{arith}
+use Rattle.section.specs.declared.Step.the-variants.{Start}
+use Rattle.section.specs.Step.{numberOf}
+use Rattle.rules.specs.Site.{occupancyAt}
+use Rattle.rules.specs.Table.{Check, checks, effect}
+use Rattle.site.specs.VerdictAt.{rowAt}
+use Rattle.checks.proofs.Row.{AskedAt, none, accepted, unless, when}
+use Rattle.checks.proofs.trains.start.Statement.{statement}
+use Rattle.checks.proofs.trains.start.Tie as tie
+
+abbrev row : tie.Start → List Check
+row c = rowAt (c .args .c) false (Start (c .args .e .post) (c .args .number)) (c .args .e) (c .args .trains .now) []
+
+-- the entry, from where each check is asked
+abbrev from-settled : tie.After-is-settled → tie.Start
+from-settled c = c .before
+
+abbrev from-sending : tie.After-at-sending-end → tie.Start
+from-sending c = from-settled (c .before .before)
+
+abbrev from-unknown : tie.After-any-of → tie.Start
+from-unknown c = from-sending (c .before .before .before)
+
+abbrev from-free : tie.After-stretch-occupied → tie.Start
+from-free c = from-unknown (c .before .before)
+
+abbrev from-fault1-confirmed : tie.After-fault1-confirmed → tie.Start
+from-fault1-confirmed c = from-free (c .before .before)
+
+settled : (c : tie.After-is-settled) → AskedAt 1 11 (row (from-settled c)) (not (c .is-settled .result))
+unfolding checks occupancyAt numberOf
+settled c = unless none (c .is-settled .ensures)
+
+sending : (c : tie.After-at-sending-end) → AskedAt 2 12 (row (from-sending c)) (not (c .at-sending-end .result))
+unfolding checks occupancyAt numberOf
+sending c = unless (settled (c .before .before) .left (c .before .if1 .left)) (c .at-sending-end .ensures)
+
+unknown : (c : tie.After-any-of) → AskedAt 3 17 (row (from-unknown c)) (c .any-of .result)
+unfolding checks occupancyAt numberOf
+unknown c = when (sending (c .before .before .before) .left (c .before .before .if2 .left)) (c .any-of .ensures)
+
+free : (c : tie.After-stretch-occupied) → AskedAt 4 13 (row (from-free c)) (c .stretch-occupied .result)
+unfolding checks occupancyAt numberOf
+free c = when (unknown (c .before .before) .left (c .before .if3 .left)) (c .stretch-occupied .ensures)
+
+fault1-confirmed : (c : tie.After-fault1-confirmed) → AskedAt 5 18 (row (from-fault1-confirmed c)) (not (c .fault1-confirmed .result))
+unfolding checks occupancyAt numberOf
+fault1-confirmed c = unless (free (c .before .before) .left (c .before .if4 .left)) (c .fault1-confirmed .ensures)
+
+accepts : tie.Need-returns-6
+unfolding checks effect
+accepts c = accepted _ (fault1-confirmed (c .before) .left (c .if5 .left))
+
+pub start-spec : {M : Type 1} → statement M
+start-spec =
+    tie.close
+    (tie.spec
+    (λ c κs. tt)
+    (λ c. settled (c .before) .taken _ (c .if1 .taken))
+    (λ c κs. from-settled (c .before) .pre)
+    (λ c. sending (c .before) .taken _ (c .if2 .taken))
+    (λ c. omega arith)
+    (λ c κs. omega arith)
+    (λ c. unknown (c .before) .taken _ (c .if3 .taken))
+    (λ c κs. from-unknown (c .before) .pre)
+    (λ c. free (c .before) .taken _ (c .if4 .taken))
+    (λ c κs. from-free (c .before) .pre)
+    (λ c. fault1-confirmed (c .before) .taken _ (c .if5 .taken))
+    accepts)

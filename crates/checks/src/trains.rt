@@ -1,0 +1,74 @@
+// A train's own steps: start, pass, leave.
+ghost use mathlib.Core.Bool.{false};
+ghost use mathlib.Core.List.{[]};
+ghost use mathlib.Core.Path.{_≡_};
+ghost use Rattle.section.specs.declared.Step.the-variants.{Start, Pass, Leave};
+ghost use Rattle.site.specs.Placed.{Placed};
+ghost use Rattle.site.specs.VerdictAt.{verdictAt};
+use rules::Site;
+use section::Said;
+use section::Settings;
+use section::Trains;
+use section::Verdict;
+use site::conditions::at_end;
+use site::conditions::fault1_confirmed;
+use site::conditions::is_settled;
+use site::place::at_receiving_end;
+use site::place::at_sending_end;
+use site::stretch::pass_occupied;
+use site::stretch::stretch_occupied;
+use site::trains::Sought;
+use site::trains::any_of;
+use site::trains::train_before;
+
+pub fn start(c: Settings, e: Site, number: u16, trains: &Trains) -> Verdict
+    requires { ⌜ Placed c e ⌝ }
+    ensures { λ r. ⌜ r ≡ verdictAt c false (Start (e .post) number) e (now (trains .entry)) [] ⌝ }
+{
+    let walk = e.walk;
+    if !is_settled(walk) {
+        return Verdict::Refused(11);
+    }
+    if !at_sending_end(c, e) {
+        return Verdict::Refused(12);
+    }
+    if any_of(c.posts - 1, Sought::Number(number as u64), trains) {
+        return Verdict::Refused(17); // also where the stretch is occupied
+    }
+    if stretch_occupied(c, e, trains) {
+        return Verdict::Refused(13);
+    }
+    if !fault1_confirmed(c, e) {
+        return Verdict::Refused(18);
+    }
+    Verdict::Accepted(Said::Nothing)
+}
+
+pub fn pass(c: Settings, e: Site, number: u16, trains: &Trains) -> Verdict
+    requires { ⌜ Placed c e ⌝ }
+    ensures { λ r. ⌜ r ≡ verdictAt c false (Pass (e .post) number) e (now (trains .entry)) [] ⌝ }
+{
+    if at_end(c, e) {
+        return Verdict::Refused(12);
+    }
+    if train_before(c, e, trains) != number as u64 {
+        return Verdict::Refused(17);
+    }
+    if pass_occupied(c, e, trains) {
+        return Verdict::Refused(13);
+    }
+    Verdict::Accepted(Said::Nothing)
+}
+
+pub fn leave(c: Settings, e: Site, number: u16, trains: &Trains) -> Verdict
+    requires { ⌜ Placed c e ⌝ }
+    ensures { λ r. ⌜ r ≡ verdictAt c false (Leave (e .post) number) e (now (trains .entry)) [] ⌝ }
+{
+    if !at_receiving_end(c, e) {
+        return Verdict::Refused(12);
+    }
+    if train_before(c, e, trains) != number as u64 {
+        return Verdict::Refused(17);
+    }
+    Verdict::Accepted(Said::Nothing)
+}

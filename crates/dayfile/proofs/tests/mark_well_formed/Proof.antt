@@ -1,0 +1,45 @@
+-- The branches are the tests of the four bytes, in their order.
+use Rattle.dayfile.specs.Tests.{markWellFormed}
+use borrow.Author.Tests.{eq-eqb, ne-eqb}
+use borrow.Author.Needs.{needs}
+use Rattle.dayfile.proofs.tests.mark_well_formed.Statement.{statement}
+use Rattle.dayfile.proofs.tests.mark_well_formed.Tie as tie
+
+returns : tie.Need-returns
+unfolding markWellFormed
+returns c = rw (ne-eqb _ _ (c .if1 .taken))
+
+returns-2 : tie.Need-returns-2
+unfolding markWellFormed
+returns-2 c = let d = c .before .before in
+    rw (eq-eqb _ _ (d .if1 .left), ne-eqb _ _ (c .if2 .taken))
+
+returns-3 : tie.Need-returns-3
+unfolding markWellFormed
+returns-3 c = let e = c .before .before in
+    let d = e .before .before in
+    rw (eq-eqb _ _ (d .if1 .left), eq-eqb _ _ (e .if2 .left), ne-eqb _ _ (c .if3 .taken))
+
+returns-4 : tie.Need-returns-4
+unfolding markWellFormed
+returns-4 c = let f = c .before in
+    let e = f .before .before in
+    let d = e .before .before in
+    rw (eq-eqb _ _ (d .if1 .left), eq-eqb _ _ (e .if2 .left), eq-eqb _ _ (f .if3 .left))
+
+pub mark-well-formed-spec : {M : Type 1} → statement M
+mark-well-formed-spec =
+    tie.close
+    (tie.spec
+    (λ c. search needs)
+    (λ c. search needs)
+    returns
+    (λ c. search needs)
+    (λ c. search needs)
+    returns-2
+    (λ c. search needs)
+    (λ c. search needs)
+    returns-3
+    (λ c. search needs)
+    (λ c. search needs)
+    returns-4)

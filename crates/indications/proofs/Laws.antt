@@ -1,0 +1,102 @@
+-- The lamps by their tests, and the indications of a section by its tracks.
+use Prim.Native.Nat.{ℕ, zero, suc, _<_, _≤_}
+use mathlib.Core.Bool.{Bool, true, false, not, cond, _&&_, _||_}
+use native.Mathlib.Omega.{arith}
+use native.Mathlib.Decide.{decLt}
+use lib.Dec.{eqb, ltb, leb}
+use borrow.Author.Tests.{lt-ltb, le-ltb, le-leb, lt-leb, eq-eqb, ne-eqb, not-true, not-false}
+use mathlib.Core.List.{List}
+use mathlib.Core.Path.{_≡_, refl}
+use Rattle.section.specs.declared.Settings.{Settings}
+use Rattle.section.specs.declared.Act.{Act}
+use Rattle.section.specs.declared.Walk.{Walk}
+use Rattle.section.specs.declared.Walk.the-variants.{Turn}
+use Rattle.section.specs.declared.Section.{Section}
+use Rattle.section.specs.declared.Indications.{Indications}
+use Rattle.section.specs.Range.{walkInRange, inRange}
+use Rattle.section.specs.Settings.{isMaterialised}
+use Rattle.section.specs.Store.{trackOf}
+use Rattle.section.proofs.Laws.{turn-right}
+use Rattle.rules.specs.declared.Site.{Site}
+use Rattle.rules.specs.Site.{siteOn, upAt, rankAt, atReceivingEnd, watchedOccupied}
+use Rattle.rules.specs.Indications.{setCount, isNextToSet, lampsAt, circulation, troncon, shown, dark, indicationsOn, indications}
+
+pub next-first : (count j : ℕ) → j ≡ 0 → false ≡ isNextToSet count j
+unfolding isNextToSet
+next-first count j e = rw e
+
+pub next-over : (count j : ℕ) → count < j → false ≡ isNextToSet count j
+unfolding isNextToSet
+next-over count zero h = absurd (omega arith)
+next-over count (suc j) h = rw (le-ltb j count (omega arith))
+
+pub next-within : (count j : ℕ) → (j ≡ 0 → ⊥) → j ≤ count → leb count j ≡ isNextToSet count j
+unfolding isNextToSet
+next-within count zero z h = absurd (z refl)
+next-within count (suc j) z h = rw (lt-ltb j count (omega arith)) (go (decLt (suc j) count))
+  where
+    go : Dec (suc j < count) → leb count (suc j) ≡ not (ltb (suc j) count)
+    go (yes k) = rw (lt-leb count (suc j) k, lt-ltb (suc j) count k)
+    go (no k) = rw (le-leb count (suc j) (omega arith), le-ltb (suc j) count (omega arith))
+
+-- a turn's post is one of the line
+pub turn-below : (n : ℕ) (up : Bool) (w : Walk) (p : ℕ) (act : Act) → walkInRange n up w ≡ true → w ≡ Turn p act → p < n
+turn-below n up w p act fits is = turn-right n up p act (rw is at fits) .0
+
+-- the test of the form
+pub not-materialised : (c : Settings) → (c .form ≡ 1 → ⊥) → isMaterialised c ≡ false
+unfolding isMaterialised
+not-materialised c h = ne-eqb (c .form) 1 h
+
+pub is-materialised : (c : Settings) → c .form ≡ 1 → isMaterialised c ≡ true
+unfolding isMaterialised
+is-materialised c h = eq-eqb (c .form) 1 h
+
+-- the indications of a section by its tracks
+pub shown-is :
+    (s : Section) (track post : ℕ) (b : Bool) → inRange s ≡ true → track < 2 → post < s .settings .posts → eqb track 1 ≡ b
+    → shown (lampsAt (s .settings) (siteOn b post (trackOf s b)) (trackOf s b .trains)) ≡ indications s track post
+unfolding indications indicationsOn lampsAt watchedOccupied
+shown-is s track post b range t p e = rw (range, lt-ltb track 2 t, lt-ltb post (s .settings .posts) p, e)
+
+pub dark-out : (s : Section) (track post : ℕ) → inRange s ≡ false → dark ≡ indications s track post
+unfolding indications
+dark-out s track post h = rw h
+
+pub dark-track : (s : Section) (track post : ℕ) → inRange s ≡ true → 2 ≤ track → dark ≡ indications s track post
+unfolding indications
+dark-track s track post h k = rw (h, le-ltb track 2 k)
+
+pub dark-post :
+    (s : Section) (track post : ℕ) → inRange s ≡ true → track < 2 → s .settings .posts ≤ post → dark ≡ indications s track post
+unfolding indications
+dark-post s track post h t k = rw (h, lt-ltb track 2 t, le-ltb post (s .settings .posts) k)
+
+-- TRONÇON by its tests
+pub no-part : (x f o : Bool) → not x ≡ true → _≡_ {A = ℕ} 0 (cond x (cond (f || o) 2 1) 0)
+no-part x f o h = rw (not-true x h)
+
+pub red-by-fault : (x f o : Bool) → not x ≡ false → f ≡ true → _≡_ {A = ℕ} 2 (cond x (cond (f || o) 2 1) 0)
+red-by-fault x f o h e = rw (not-false x h, e)
+
+pub red-by-train : (x f o : Bool) → not x ≡ false → f ≡ false → o ≡ true → _≡_ {A = ℕ} 2 (cond x (cond (f || o) 2 1) 0)
+red-by-train x f o h e k = rw (not-false x h, e, k)
+
+pub white : (x f o : Bool) → not x ≡ false → f ≡ false → o ≡ false → _≡_ {A = ℕ} 1 (cond x (cond (f || o) 2 1) 0)
+white x f o h e k = rw (not-false x h, e, k)
+
+-- the bits, put together
+pub flashing-is :
+    (n k j rank : ℕ) (r u up : Bool) (w : Walk) → r ≡ isNextToSet k j → k ≡ setCount n u w → u ≡ up → j ≡ rank
+    → r ≡ isNextToSet (setCount n up w) rank
+flashing-is n k j rank r u up w a b d e = cc
+
+pub shown-parts :
+    (c : Settings) (e : Site) (trains : List ℕ) (r₁ r₂ r₃ : ℕ) (flashing last occupied : Bool)
+    → r₁ ≡ cond (e .own .faults .three) 0 (cond flashing (cond (e .own .device) 3 4) (cond (e .own .device) 2 1))
+    → flashing ≡ (isMaterialised c && isNextToSet (setCount (c .posts) (upAt c e) (e .walk)) (rankAt c e))
+    → r₂ ≡ cond (not last) (cond (e .own .faults .one || occupied) 2 1) 0 → last ≡ atReceivingEnd c e → occupied ≡ watchedOccupied c e trains
+    → r₃ ≡ cond (e .own .permission) 1 0
+    → _≡_ {A = Indications} (record { circulation = r₁; troncon = r₂; permission = r₃ }) (shown (lampsAt c e trains))
+unfolding lampsAt shown circulation troncon
+shown-parts c e trains r₁ r₂ r₃ flashing last occupied e₁ f e₂ l o e₃ = rw (e₁, f, e₂, l, o, e₃)

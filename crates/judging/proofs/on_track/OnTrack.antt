@@ -1,0 +1,50 @@
+-- A step judged on its own track: what the code puts in its places.
+use Prim.Native.Nat.{ℕ}
+use mathlib.Core.Bool.{Bool, not}
+use mathlib.Core.List.{List}
+use mathlib.Core.Path.{_≡_, sym, _∙_}
+use lib.ListN.{set}
+use Rattle.section.specs.declared.Settings.{Settings}
+use Rattle.section.specs.declared.Track.{Track}
+use Rattle.section.specs.declared.Section.{Section}
+use Rattle.section.specs.declared.TrackStep.{TrackStep}
+use Rattle.section.specs.declared.Decoded.the-variants.{Well}
+use Rattle.section.specs.Step.{decoded, postOf}
+use Rattle.section.specs.Store.{trackOf, withTrack, postOn}
+use Rattle.rules.specs.Judge.{judgeInRange}
+use Rattle.site.specs.declared.running.Running.{Running}
+use Rattle.site.specs.Running.{runningOf, onVns, siteWith}
+use Rattle.judging.specs.declared.at_post.Judged.{Judged}
+use Rattle.judging.specs.Judged.{judgedAt, trainsAt, lastAt, trackAt}
+use Rattle.judging.proofs.at_post.OnTrack as on-track
+use Rattle.judging.specs.declared.on_track.TrackAnswer.{TrackAnswer}
+use Rattle.judging.specs.OnTrack.{trackAnswer}
+
+-- what the step leaves, put in its places
+pub put-back :
+    (c : Settings) (x : TrackStep) (t : Track) (other : Running) {p : ℕ} {r : Running} {j : Judged} {trains last : List ℕ}
+    → p ≡ postOf (x .step)
+    → r ≡ runningOf t
+    → j ≡ judgedAt c (onVns other) (x .step) (siteWith (x .track) (postOf (x .step)) (postOn t p) r) (t .trains) (t .last)
+    → trains ≡ trainsAt c (onVns other) (x .step) (siteWith (x .track) (postOf (x .step)) (postOn t p) r) (t .trains) (t .last)
+    → last ≡ lastAt c (onVns other) (x .step) (siteWith (x .track) (postOf (x .step)) (postOn t p) r) (t .trains) (t .last)
+    → record {
+      verdict = j .verdict;
+      track = record {
+        posts = set (t .posts) p (j .own);
+        trains = trains;
+        last = last;
+        cvt = j .running .cvt;
+        walk = j .running .walk;
+      };
+    } ≡ trackAnswer c x t other
+unfolding trackAnswer trackAt
+put-back c x t other ep er ej et el = rw (ej, et, el, ep, er)
+
+-- the section with the track that is put back
+pub judged :
+    (s : Section) (bytes : List ℕ) (x : TrackStep) → decoded (s .settings .posts) bytes ≡ Well x → (k : Bool) → x .track ≡ k
+    → {t : Track} {other : Running} {w : TrackAnswer} → t ≡ trackOf s (x .track) → other ≡ runningOf (trackOf s (not (x .track)))
+    → w ≡ trackAnswer (s .settings) x t other → record { verdict = w .verdict; section = withTrack s k (w .track) } ≡ judgeInRange s bytes
+unfolding trackAnswer
+judged s bytes x well k ek et eo ew = rw (sym ek, ew, et, eo) (on-track.step-judged s x ∙ on-track.judged s bytes x well)

@@ -1,0 +1,95 @@
+// A step judged by the table at its site: the checks, then what an accepted step does.
+ghost use mathlib.Core.Path.{_≡_};
+ghost use Rattle.section.specs.Step.{postOf};
+ghost use Rattle.site.specs.Fit.{Fit};
+ghost use Rattle.site.specs.Running.{onVns, siteWith};
+ghost use Rattle.judging.specs.Judged.{asBefore, judgedAt, trainsAt, lastAt};
+use effects::movement;
+use rules::Site;
+use section::Post;
+use section::Settings;
+use section::Step;
+use section::TrackStep;
+use section::Trains;
+use section::Verdict;
+use site::running;
+use site::running::Running;
+
+// The verdict, and what the step leaves beside the trains: its post's record, and its track's running direction and walk.
+pub struct Judged {
+    pub verdict: Verdict,
+    pub own: Post,
+    pub running: Running,
+}
+
+// A refused step leaves what it found.
+fn as_before(verdict: Verdict, e: Site) -> Judged
+    ensures { λ r. ⌜ r ≡ asBefore verdict e ⌝ }
+{
+    let own = e.own;
+    let walk = e.walk;
+    Judged {
+        verdict: verdict,
+        own: own,
+        running: Running {
+            cvt: e.cvt,
+            walk: walk,
+        },
+    }
+}
+
+// Judges a step at its site, and moves its train where it is accepted.
+fn judge_at(
+    c: Settings,
+    x: Step,
+    e: Site,
+    other_on_vns: bool,
+    trains: &mut Trains,
+    last: &mut Trains,
+) -> Judged
+    requires { ⌜ Fit c e ⌝ }
+    ensures { λ r. ⌜ r ≡ judgedAt c «other_on_vns» x e (now (trains .entry)) (now (last .entry)) ⌝ }
+    ensures { λ _. ⌜ now (trains .exit) ≡ trainsAt c «other_on_vns» x e (now (trains .entry)) (now (last .entry)) ⌝ }
+    ensures { λ _. ⌜ now (last .exit) ≡ lastAt c «other_on_vns» x e (now (trains .entry)) (now (last .entry)) ⌝ }
+{
+    let verdict = checks::verdict(c, x, e, other_on_vns, trains, last);
+    match verdict {
+        Verdict::Accepted(_) => {
+            let f = effects::effect_of(c, x, e);
+            let train = f.train;
+            movement::move_cells(c, true, train, e, trains);
+            movement::move_cells(c, false, train, e, last);
+            let own = f.own;
+            let walk = f.walk;
+            Judged {
+                verdict: verdict,
+                own: own,
+                running: Running {
+                    cvt: f.cvt,
+                    walk: walk,
+                },
+            }
+        }
+        Verdict::Refused(_) => as_before(verdict, e),
+    }
+}
+
+// Judges a step at its post, which keeps that record, on a track that runs so beside the other.
+pub fn judge_step(
+    c: Settings,
+    x: TrackStep,
+    own: Post,
+    running: Running,
+    other: Running,
+    trains: &mut Trains,
+    last: &mut Trains,
+) -> Judged
+    requires { ⌜ Fit c (siteWith (x .track) (postOf (x .step)) own running) ⌝ }
+    ensures { λ r. ⌜ r ≡ judgedAt c (onVns other) (x .step) (siteWith (x .track) (postOf (x .step)) own running) (now (trains .entry)) (now (last .entry)) ⌝ }
+    ensures { λ _. ⌜ now (trains .exit) ≡ trainsAt c (onVns other) (x .step) (siteWith (x .track) (postOf (x .step)) own running) (now (trains .entry)) (now (last .entry)) ⌝ }
+    ensures { λ _. ⌜ now (last .exit) ≡ lastAt c (onVns other) (x .step) (siteWith (x .track) (postOf (x .step)) own running) (now (trains .entry)) (now (last .entry)) ⌝ }
+{
+    let step = x.step;
+    let e = running::site(x.track, running::post_of(step), own, running);
+    judge_at(c, step, e, running::settled_on_vns(other), trains, last)
+}

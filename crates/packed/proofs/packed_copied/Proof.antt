@@ -1,0 +1,20 @@
+use native.Mathlib.Omega.{arith}
+use Rattle.packed.specs.Packed.{packedCopied}
+use borrow.Author.Needs.{needs}
+use Rattle.packed.proofs.packed_copied.Statement.{statement}
+use Rattle.packed.proofs.packed_copied.Tie as tie
+
+add-result : tie.Need-add-result
+unfolding packedCopied
+add-result c = let h = rw (c .before .done .given .1) at (c .before .before .before .pre) in omega arith
+
+returns : tie.Need-returns
+unfolding packedCopied
+returns c = rw (c .before .done .given .1)
+
+returns-2 : tie.Need-returns-2
+unfolding packedCopied
+returns-2 c = simp (c .enum-told .given .1)
+
+pub packed-copied-spec : {M : Type 1} → statement M
+packed-copied-spec = tie.close (tie.spec (λ c. search needs) add-result (λ c. search needs) returns returns-2)

@@ -1,0 +1,19 @@
+-- A site of a track in its ranges.
+use Prim.Native.Nat.{ℕ, _<_}
+use mathlib.Core.Bool.{Bool, true}
+use mathlib.Core.Path.{_≡_}
+use Rattle.section.specs.declared.Settings.{Settings}
+use Rattle.section.specs.declared.Track.{Track}
+use Rattle.section.specs.Range.{trackInRange}
+use Rattle.section.specs.Settings.{settingsInRange}
+use Rattle.section.proofs.Laws.{posts-right, track-ranges}
+use Rattle.rules.specs.Site.{siteOn}
+use Rattle.site.specs.Fit.{Fit}
+
+pub fit-on :
+    (c : Settings) (track : Bool) (t : Track) (p : ℕ) → settingsInRange c ≡ true → trackInRange (c .posts) track t ≡ true → p < c .posts
+    → Fit c (siteOn track p t)
+fit-on c track t p right fits below =
+    let n = posts-right c right in
+    let r = track-ranges (c .posts) track t fits in
+    record { placed = record { least = n .0; most = n .1; post = below }; seals = r .seals p below; walk = r .walk }
