@@ -133,8 +133,8 @@ abbrev pub isAccepted : Verdict → Bool
 isAccepted (Accepted said) = true
 isAccepted (Refused k) = false
 
--- the section after steps that are accepted one after another; none where one of them is refused
+-- the section after steps that the table accepts one after another; none where it refuses one of them
 unfoldable pub after : Section → List TrackStep → Option Section
 unfolding refusals offeredAs
 after s [] = some s
-after s (x ∷ steps) = cond (isAccepted (judge s (encoded x) .verdict)) (after (judge s (encoded x) .section) steps) none
+after s (x ∷ steps) = cond (isAccepted (verdictOn s x)) (after (sectionAfter s x) steps) none
