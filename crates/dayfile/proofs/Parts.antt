@@ -16,7 +16,7 @@ use Rattle.section.specs.Numbers.{leastPosts, mostPosts, largestLine}
 use Rattle.section.specs.Settings.{isSignalled, noneFrom, settingsInRange}
 use Rattle.layout.specs.Layout.{mostSteps, settingsLength, trailerLength, settingsDistance, stepsDistance, mark, le16Bytes, le32Bytes}
 use Rattle.layout.specs.Layout.{le32At, settingsBytes, trailer, fromEnd, trailerIn, settingsIn, stepsIn, settingsOf}
-use Rattle.dayfile.specs.Tests.{markWellFormed, trailerWellFormed, zerosWellFormed, settingsWellFormed}
+use Rattle.file_tests.specs.Tests.{markWellFormed, trailerWellFormed, zerosWellFormed, settingsWellFormed}
 use Rattle.section.proofs.Laws.{and-parts}
 use Rattle.layout.proofs.Numbers.{le16-number, le32-number, le16-bytes, le32-bytes, listed}
 

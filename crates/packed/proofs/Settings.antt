@@ -8,7 +8,7 @@ use lib.ListN.{length}
 use borrow.Author.Tests.{eqb-true}
 use Rattle.section.proofs.Laws.{and-left}
 use Rattle.layout.specs.Layout.{settingsLength}
-use Rattle.dayfile.specs.Tests.{settingsWellFormed}
+use Rattle.file_tests.specs.Tests.{settingsWellFormed}
 use Rattle.packed.specs.Settings.{lentSettingsWellFormed}
 
 pub settings-lent : (bytes : List ℕ) → lentSettingsWellFormed bytes ≡ true → length bytes ≡ settingsLength

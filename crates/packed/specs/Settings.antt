@@ -5,7 +5,7 @@ use mathlib.Core.List.{List}
 use lib.Dec.{eqb}
 use lib.ListN.{length}
 use Rattle.layout.specs.Layout.{settingsLength}
-use Rattle.dayfile.specs.Tests.{settingsWellFormed}
+use Rattle.file_tests.specs.Tests.{settingsWellFormed}
 
 -- as many bytes as a day file has for its settings, and such that its reader takes them
 unfoldable pub lentSettingsWellFormed : List ℕ → Bool

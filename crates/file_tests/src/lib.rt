@@ -1,9 +1,9 @@
-// The tests of a day file.
+// The tests of a day file: its length, its trailer, its settings and its steps.
 ghost use mathlib.Core.Path.{_≡_};
 ghost use Prim.Native.Nat.{_≤_};
 ghost use lib.ListN.{length};
 ghost use Rattle.layout.specs.Layout.{mostSteps, settingsLength, trailerLength};
-ghost use Rattle.dayfile.specs.Tests.{lengthWrong, markWellFormed, trailerWellFormed, settingsWellFormed, firstMalformed};
+ghost use Rattle.file_tests.specs.Tests.{lengthWrong, markWellFormed, trailerWellFormed, settingsWellFormed, firstMalformed};
 use layout::LONGEST_FILE;
 use layout::MARK;
 use layout::SETTINGS_DISTANCE;

@@ -1,9 +1,9 @@
 -- The branches are the tests of the ranges and of bytes 6 and 7.
-use Rattle.dayfile.specs.Tests.{settingsWellFormed, zerosWellFormed}
+use Rattle.file_tests.specs.Tests.{settingsWellFormed, zerosWellFormed}
 use Rattle.section.proofs.Told.{told-false, told-true}
 use borrow.Author.Needs.{needs}
-use Rattle.dayfile.proofs.tests.settings_well_formed.Statement.{statement}
-use Rattle.dayfile.proofs.tests.settings_well_formed.Tie as tie
+use Rattle.file_tests.proofs.settings_well_formed.Statement.{statement}
+use Rattle.file_tests.proofs.settings_well_formed.Tie as tie
 
 returns : tie.Need-returns
 unfolding settingsWellFormed zerosWellFormed

@@ -11,7 +11,7 @@ use borrow.Author.Tests.{ltb-false, leb-true, leb-false, ne-eqb}
 use Rattle.section.specs.Numbers.{stepLength}
 use Rattle.section.specs.Step.{wellFormed}
 use Rattle.layout.specs.Layout.{stepAt, stepCount}
-use Rattle.dayfile.specs.Tests.{leading, wellAt, firstMalformed, someMalformed}
+use Rattle.file_tests.specs.Tests.{leading, wellAt, firstMalformed, someMalformed}
 
 -- ## The first number that fails a test
 

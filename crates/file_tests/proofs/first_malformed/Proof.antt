@@ -8,11 +8,11 @@ use lib.ListN.{length}
 use borrow.Author.Count.{below-more}
 use borrow.Author.Needs.{needs}
 use Rattle.layout.specs.Layout.{stepCount}
-use Rattle.dayfile.specs.Tests.{wellAt, firstMalformed}
+use Rattle.file_tests.specs.Tests.{wellAt, firstMalformed}
 use Rattle.section.proofs.Told.{told-true, told-false}
-use Rattle.dayfile.proofs.tests.Laws.{leading-is, well-here, incomplete}
-use Rattle.dayfile.proofs.tests.first_malformed.Statement.{statement}
-use Rattle.dayfile.proofs.tests.first_malformed.Tie as tie
+use Rattle.file_tests.proofs.Laws.{leading-is, well-here, incomplete}
+use Rattle.file_tests.proofs.first_malformed.Statement.{statement}
+use Rattle.file_tests.proofs.first_malformed.Tie as tie
 
 abbrev Inv-loop : tie.InvT-loop
 Inv-loop n steps whole i₀ i =
