@@ -3,7 +3,7 @@ use mathlib.Core.Path.{_≡_, refl, sym, _∙_, ap}
 use mathlib.Core.Bool.{Bool, true, false, cond, true≢false}
 use mathlib.Core.List.{List}
 use Prim.Native.Nat.{ℕ, zero, suc, _+_, _-_, _*_, _/_, _<_, _≤_}
-use native.Mathlib.Nat.{add-sub-cancel-left, not-suc-le-zero}
+use native.Mathlib.Nat.{not-suc-le-zero}
 use native.Mathlib.Omega.{arith}
 use lib.ListN.{length, take, drop, length-take, length-drop}
 use lib.Dec.{leb}
@@ -42,11 +42,10 @@ all-pass t (suc m) h = go (t 0) refl h (all-pass (λ (j : ℕ). t (suc j)) m)
 
 -- ## Steps
 
--- what a test said of the part is said of the step
-pub well-here :
-    (n : ℕ) (s : List ℕ) {v : Bool} (i : ℕ) → wellFormed n (take (i * 8 + 8 - i * 8) (drop (i * 8) s)) ≡ v → wellAt n s i ≡ v
-unfolding wellAt stepAt
-well-here n s i e = ap (λ (k : ℕ). wellFormed n (take k (drop (i * 8) s))) (sym (add-sub-cancel-left (i * 8) 8)) ∙ e
+-- what a test said of the bytes of a step is said of the step
+pub well-here : (n : ℕ) (s part : List ℕ) {v : Bool} (i : ℕ) → part ≡ stepAt s i → wellFormed n part ≡ v → wellAt n s i ≡ v
+unfolding wellAt
+well-here n s part i p e = ap (wellFormed n) (sym p) ∙ e
 
 not-eight : (n : ℕ) (s : List ℕ) → (length s ≡ 8 → ⊥) → wellFormed n s ≡ false
 unfolding wellFormed

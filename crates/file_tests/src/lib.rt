@@ -7,6 +7,7 @@ ghost use Rattle.file_tests.specs.Tests.{lengthWrong, markWellFormed, tr
 use layout::LONGEST_FILE;
 use layout::MARK;
 use layout::SETTINGS_DISTANCE;
+use layout::step_at;
 use ranges::settings;
 use section::STEP_LENGTH;
 use steps::well_formed;
@@ -79,8 +80,7 @@ pub fn first_malformed(n: u8, steps: &[u8]) -> usize
         if i == whole {
             break i;
         }
-        let at = i * STEP_LENGTH;
-        if !well_formed::is_well_formed(n, &steps[at..at + STEP_LENGTH]) {
+        if !well_formed::is_well_formed(n, step_at(steps, i)) {
             break i;
         }
         i += 1;
