@@ -1,4 +1,4 @@
--- The first number that fails a test, and the first malformed step.
+-- The length of settings, the first number that fails a test, and the first malformed step.
 use mathlib.Core.Path.{_≡_, refl, sym, _∙_, ap}
 use mathlib.Core.Bool.{Bool, true, false, cond, true≢false}
 use mathlib.Core.List.{List}
@@ -6,12 +6,22 @@ use Prim.Native.Nat.{ℕ, zero, suc, _+_, _-_, _*_, _/_, _<_, _≤_}
 use native.Mathlib.Nat.{not-suc-le-zero}
 use native.Mathlib.Omega.{arith}
 use lib.ListN.{length, take, drop, length-take, length-drop}
-use lib.Dec.{leb}
-use borrow.Author.Tests.{ltb-false, leb-true, leb-false, ne-eqb}
+use lib.Dec.{eqb, leb}
+use borrow.Author.Tests.{eqb-true, ltb-false, leb-true, leb-false, ne-eqb}
 use Rattle.section.specs.Numbers.{stepLength}
+use Rattle.section.specs.Settings.{settingsInRange}
 use Rattle.section.specs.Step.{wellFormed}
-use Rattle.layout.specs.Layout.{stepAt, stepCount}
-use Rattle.file_tests.specs.Tests.{leading, wellAt, firstMalformed, someMalformed}
+use Rattle.section.proofs.Laws.{and-right}
+use Rattle.layout.specs.Layout.{settingsLength, settingsOf, stepAt, stepCount}
+use Rattle.file_tests.specs.Tests.{zerosWellFormed, settingsWellFormed, leading, wellAt, firstMalformed, someMalformed}
+
+-- ## Settings
+
+pub settings-eight : (s : List ℕ) → settingsWellFormed s ≡ true → length s ≡ settingsLength
+unfolding settingsWellFormed
+settings-eight s e =
+    let h = and-right (settingsInRange (settingsOf s)) _ e in
+    eqb-true _ _ (and-right (zerosWellFormed s) (eqb (length s) settingsLength) h)
 
 -- ## The first number that fails a test
 

@@ -5,7 +5,6 @@ ghost use Rattle.packed.specs.Packed.{packedReading, packedWritten, pack
 ghost use Rattle.packed.specs.Settings.{lentSettingsWellFormed};
 use dayfile::Reading;
 use dayfile::Written;
-use layout::SETTINGS_LENGTH;
 use section::Indications;
 use text::Copied;
 
@@ -13,9 +12,6 @@ use text::Copied;
 pub fn lent_settings_well_formed(bytes: &[u8]) -> bool
     ensures { λ r. ⌜ r ≡ lentSettingsWellFormed (now (bytes .entry)) ⌝ }
 {
-    if bytes.len() != SETTINGS_LENGTH {
-        return false;
-    }
     file_tests::settings_well_formed(bytes)
 }
 
