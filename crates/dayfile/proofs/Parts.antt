@@ -16,9 +16,10 @@ use Rattle.section.specs.Numbers.{leastPosts, mostPosts, largestLine}
 use Rattle.section.specs.Settings.{isSignalled, noneFrom, settingsInRange}
 use Rattle.layout.specs.Layout.{mostSteps, settingsLength, trailerLength, settingsDistance, stepsDistance, mark, le16Bytes, le32Bytes}
 use Rattle.layout.specs.Layout.{le32At, settingsBytes, trailer, fromEnd, trailerIn, settingsIn, stepsIn, settingsOf}
-use Rattle.dayfile.specs.Tests.{markWellFormed, trailerWellFormed, zerosWellFormed, settingsWellFormed}
-use Rattle.section.proofs.Laws.{and-parts}
+use Rattle.file_tests.specs.Tests.{markWellFormed, trailerWellFormed, zerosWellFormed, settingsWellFormed}
+use Rattle.section.proofs.Laws.{and-left, and-right, and-parts}
 use Rattle.layout.proofs.Numbers.{le16-number, le32-number, le16-bytes, le32-bytes, listed}
+use Rattle.layout.proofs.Parts.{settings-long}
 
 -- ## Settings
 
@@ -49,7 +50,7 @@ module _ (c : Settings) (e : settingsInRange c ≡ true) where
 
   pub settings-well-formed : settingsWellFormed (settingsBytes c) ≡ true
   unfolding settingsWellFormed
-  settings-well-formed = rw (settings-said, e) (zeros-written c)
+  settings-well-formed = rw (settings-said, e, zeros-written c, settings-long c)
 
 module _ (s : List ℕ) (l : length s ≡ settingsLength) (bytes : AllBytes s) (e : settingsWellFormed s ≡ true) where
   pub settings-in-range : settingsInRange (settingsOf s) ≡ true
@@ -58,7 +59,7 @@ module _ (s : List ℕ) (l : length s ≡ settingsLength) (bytes : AllBytes s) (
 
   zeros-are : (byte s 6 ≡ 0) × (byte s 7 ≡ 0)
   unfolding settingsWellFormed zerosWellFormed le16
-  zeros-are = let z = and-parts (settingsInRange (settingsOf s)) (zerosWellFormed s) e .1 in (omega (arith, eqb-true), omega (arith, eqb-true))
+  zeros-are = let z = and-left (zerosWellFormed s) _ (and-right (settingsInRange (settingsOf s)) _ e) in (omega (arith, eqb-true), omega (arith, eqb-true))
 
   pub settings-bytes : settingsBytes (settingsOf s) ≡ s
   unfolding settingsBytes settingsOf

@@ -12,7 +12,7 @@ use Rattle.section.specs.declared.Settings.{Settings}
 use Rattle.section.specs.Numbers.{stepLength}
 use Rattle.layout.specs.Layout.{mostSteps, settingsLength, trailerLength, settingsDistance, longestFile, stepCount, fromEnd}
 use Rattle.layout.specs.Layout.{trailerIn, settingsIn, stepsIn, settingsOf}
-use Rattle.dayfile.specs.Tests.{lengthWrong, trailerWellFormed, settingsWellFormed, someMalformed, firstMalformed}
+use Rattle.file_tests.specs.Tests.{lengthWrong, trailerWellFormed, settingsWellFormed, someMalformed, firstMalformed}
 use Rattle.dayfile.specs.Answers.{refusalNumber}
 use Rattle.dayfile.specs.Answers.{readVerdict, notRead, readOf}
 use Rattle.dayfile.specs.declared.Reading.the-variants.{Day, Refused}

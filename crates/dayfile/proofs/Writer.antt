@@ -14,7 +14,7 @@ use Rattle.section.specs.Settings.{settingsInRange}
 use Rattle.section.specs.Numbers.{stepLength}
 use Rattle.layout.specs.Layout.{mostSteps, settingsLength, stepsDistance}
 use Rattle.layout.specs.Layout.{settingsBytes, trailer, stepCount, fileOf}
-use Rattle.dayfile.specs.Tests.{firstMalformed, someMalformed}
+use Rattle.file_tests.specs.Tests.{firstMalformed, someMalformed}
 use Rattle.dayfile.specs.Answers.{writerRefusalNumber, writeVerdict, writtenInto}
 use Rattle.layout.proofs.Parts.{settings-long}
 use Rattle.dayfile.proofs.Reader.{neither, past}

@@ -7,7 +7,7 @@ use lib.Dec.{eqb, ltb}
 use Rattle.section.specs.declared.Settings.{Settings}
 use Rattle.section.specs.Settings.{settingsInRange}
 use Rattle.layout.specs.Layout.{mostSteps, stepsDistance, stepCount, fileOf, trailerIn, settingsIn, stepsIn, settingsOf}
-use Rattle.dayfile.specs.Tests.{lengthWrong, trailerWellFormed, settingsWellFormed, firstMalformed, someMalformed}
+use Rattle.file_tests.specs.Tests.{lengthWrong, trailerWellFormed, settingsWellFormed, firstMalformed, someMalformed}
 use Rattle.dayfile.specs.declared.Reading.{Reading}
 use Rattle.dayfile.specs.declared.Reading.the-variants.{Day, Refused}
 use Rattle.dayfile.specs.declared.ReadAnswer.{ReadAnswer}

@@ -1,7 +1,4 @@
 // Day files (document 01, "The day file"): the reader and the writer.
-
-pub mod tests;
-
 ghost use mathlib.Core.Path.{_≡_};
 ghost use Prim.Native.Nat.{_+_, _≤_};
 ghost use mathlib.Core.List.{_++_};
@@ -52,20 +49,20 @@ fn refused(number: u8, index: usize) -> ReadAnswer
 pub fn read(file: &[u8]) -> ReadAnswer
     ensures { λ r. ⌜ r ≡ readOf (now (file .entry)) ⌝ }
 {
-    if tests::length_wrong(file.len()) {
+    if file_tests::length_wrong(file.len()) {
         return refused(1, 0);
     }
     let steps = layout::steps_in(file);
     let count = layout::step_count(steps);
-    if !tests::trailer_well_formed(count, layout::trailer_in(file)) {
+    if !file_tests::trailer_well_formed(count, layout::trailer_in(file)) {
         return refused(2, 0);
     }
     let bytes = layout::settings_in(file);
-    if !tests::settings_well_formed(bytes) {
+    if !file_tests::settings_well_formed(bytes) {
         return refused(3, 0);
     }
     let c = layout::settings_of(bytes);
-    let first = tests::first_malformed(c.posts, steps);
+    let first = file_tests::first_malformed(c.posts, steps);
     if first < count {
         return refused(4, first);
     }
@@ -117,7 +114,7 @@ pub fn write(c: Settings, steps: &[u8], buffer: &mut [u8]) -> Written
         return Written::Refused(3, 0);
     }
     let count = layout::step_count(steps);
-    let first = tests::first_malformed(c.posts, steps);
+    let first = file_tests::first_malformed(c.posts, steps);
     if first < count {
         return Written::Refused(4, first);
     }

@@ -2,8 +2,8 @@
 use mathlib.Core.Path.{refl}
 use Rattle.section.specs.Step.{wellFormed}
 use Rattle.layout.specs.Layout.{le32, le32At, stepCount, fromEnd, trailerIn, settingsIn, stepsIn, settingsOf, stepAt}
-use Rattle.dayfile.specs.Tests.{lengthWrong, markWellFormed, trailerWellFormed, zerosWellFormed, settingsWellFormed, wellAt, leading, firstMalformed}
-use Rattle.dayfile.specs.Tests.{someMalformed}
+use Rattle.file_tests.specs.Tests.{lengthWrong, markWellFormed, trailerWellFormed, zerosWellFormed, settingsWellFormed, wellAt, leading, firstMalformed}
+use Rattle.file_tests.specs.Tests.{someMalformed}
 use Rattle.dayfile.specs.Answers.{refusalNumber, readVerdict, readOf}
 use Rattle.rules.proofs.Days.{sealedAt, offeredAs, refusals, fresh}
 use Rattle.rules.proofs.Rows.{Holds}

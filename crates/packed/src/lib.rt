@@ -5,8 +5,6 @@ ghost use Rattle.packed.specs.Packed.{packedReading, packedWritten, pack
 ghost use Rattle.packed.specs.Settings.{lentSettingsWellFormed};
 use dayfile::Reading;
 use dayfile::Written;
-use dayfile::tests;
-use layout::SETTINGS_LENGTH;
 use section::Indications;
 use text::Copied;
 
@@ -14,10 +12,7 @@ use text::Copied;
 pub fn lent_settings_well_formed(bytes: &[u8]) -> bool
     ensures { λ r. ⌜ r ≡ lentSettingsWellFormed (now (bytes .entry)) ⌝ }
 {
-    if bytes.len() != SETTINGS_LENGTH {
-        return false;
-    }
-    tests::settings_well_formed(bytes)
+    file_tests::settings_well_formed(bytes)
 }
 
 // The refusal, and the count of steps or the refusal's index: every reading of a file fits.

@@ -8,7 +8,7 @@ use lib.ListN.{length}
 use lib.Dec.{ltb}
 use borrow.Author.Tests.{ltb-true}
 use Rattle.layout.specs.Layout.{stepCount, stepsIn, trailerIn, settingsIn, settingsOf}
-use Rattle.dayfile.specs.Tests.{lengthWrong, trailerWellFormed, settingsWellFormed, firstMalformed, someMalformed}
+use Rattle.file_tests.specs.Tests.{lengthWrong, trailerWellFormed, settingsWellFormed, firstMalformed, someMalformed}
 use Rattle.dayfile.specs.Answers.{readVerdict, readOf}
 use Rattle.dayfile.specs.declared.Reading.the-variants.{Day, Refused}
 use Rattle.dayfile.proofs.Reader.{length-right, few-steps}

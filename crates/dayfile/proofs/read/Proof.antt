@@ -1,6 +1,7 @@
 -- Each answer follows from the tests that led to it, as `Reader` says; a right length gives the parts their lengths.
 use mathlib.Core.Path.{_∙_}
-use Rattle.dayfile.proofs.Reader.{length-right, trailer-length, settings-length, few-steps, answer-1, answer-2, answer-3, answer-4, answer-day}
+use Rattle.dayfile.proofs.Reader.{length-right, trailer-length, few-steps, answer-1, answer-2, answer-3, answer-4, answer-day}
+use Rattle.file_tests.proofs.Laws.{settings-eight}
 use Rattle.section.proofs.Told.{told, told-false, told-true}
 use native.Mathlib.Omega.{arith}
 use denote.Ref.{now}
@@ -38,11 +39,6 @@ settings-in-requires : tie.Need-settings-in-requires
 settings-in-requires c κs = let e = c .before .before .before .before .before in
     length-right _ (told (e .before .length-wrong .ensures) (e .if1 .left)) .least
 
-settings-well-formed-requires : tie.Need-settings-well-formed-requires
-settings-well-formed-requires c κs = let e = c .before .before .before .before .before .before in
-    let h = length-right _ (told (e .before .length-wrong .ensures) (e .if1 .left)) in
-    rw (c .settings-in .ensures, settings-length (now (e .before .before .before .args .file)) (h .least)) (omega arith)
-
 returns-3 : tie.Need-returns-3
 returns-3 c = let p = c .before .before in
     let q = p .before .before .before in
@@ -54,9 +50,7 @@ returns-3 c = let p = c .before .before in
     (p .before .settings-in .ensures) (told-false (p .settings-well-formed .ensures) (c .before .if3 .taken))
 
 settings-of-requires : tie.Need-settings-of-requires
-settings-of-requires c κs = let e = c .before .before .before .before .before .before .before .before in
-    let h = length-right _ (told (e .before .length-wrong .ensures) (e .if1 .left)) in
-    rw (c .before .before .settings-in .ensures, settings-length (now (e .before .before .before .args .file)) (h .least)) (omega arith)
+settings-of-requires c κs = omega (arith, settings-eight _ (told-true (c .before .settings-well-formed .ensures) (c .if3 .left)))
 
 returns-4 : tie.Need-returns-4
 returns-4 c = let g = c .before .before in
@@ -95,7 +89,7 @@ read-spec =
     (λ c κs. search needs)
     returns-2
     settings-in-requires
-    settings-well-formed-requires
+    (λ c κs. search needs)
     (λ c κs. search needs)
     returns-3
     settings-of-requires

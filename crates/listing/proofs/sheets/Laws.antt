@@ -21,11 +21,11 @@ use Rattle.section.proofs.Laws.{and-left, and-right, fresh-in-range}
 use Rattle.rules.specs.Judge.{judge}
 use Rattle.rules.proofs.RangeLaw.{ranges-kept}
 use Rattle.layout.specs.Layout.{mostSteps, settingsOf, settingsIn, stepAt, stepsIn, stepsPart}
-use Rattle.dayfile.specs.Tests.{settingsWellFormed}
+use Rattle.file_tests.specs.Tests.{settingsWellFormed}
 use Rattle.dayfile.specs.Answers.{readOf, refusalNumber}
 use Rattle.dayfile.specs.declared.Reading.{Reading}
 use Rattle.dayfile.specs.declared.Reading.the-variants.{Day, Refused}
-use Rattle.dayfile.proofs.tests.Laws.{all-whole}
+use Rattle.file_tests.proofs.Laws.{all-whole}
 use Rattle.dayfile.proofs.Reader.{day-read, few-steps}
 use Rattle.dayfile.proofs.RoundTrip.{gives-its-steps}
 use Rattle.text.specs.Text.{written, firstTexts}

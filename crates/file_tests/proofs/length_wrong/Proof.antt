@@ -1,8 +1,8 @@
 -- The branches are the tests, in their order.
-use Rattle.dayfile.specs.Tests.{lengthWrong}
+use Rattle.file_tests.specs.Tests.{lengthWrong}
 use borrow.Author.Tests.{lt-ltb, le-ltb}
-use Rattle.dayfile.proofs.tests.length_wrong.Statement.{statement}
-use Rattle.dayfile.proofs.tests.length_wrong.Tie as tie
+use Rattle.file_tests.proofs.length_wrong.Statement.{statement}
+use Rattle.file_tests.proofs.length_wrong.Tie as tie
 
 returns : tie.Need-returns
 unfolding lengthWrong

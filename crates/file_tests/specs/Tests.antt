@@ -2,12 +2,13 @@
 use Prim.Native.Nat.{ℕ, zero, suc, _%_}
 use mathlib.Core.Bool.{Bool, not, cond, _&&_, _||_}
 use mathlib.Core.List.{List}
+use lib.ListN.{length}
 use lib.Dec.{eqb, ltb}
 use Rattle.section.specs.Bytes.{byte, le16}
 use Rattle.section.specs.Numbers.{stepLength}
 use Rattle.section.specs.Settings.{settingsInRange}
 use Rattle.section.specs.Step.{wellFormed}
-use Rattle.layout.specs.Layout.{settingsDistance, stepsDistance, longestFile, mark, le32At, stepCount, settingsOf, stepAt}
+use Rattle.layout.specs.Layout.{settingsLength, settingsDistance, stepsDistance, longestFile, mark, le32At, stepCount, settingsOf, stepAt}
 
 -- "length below 24, above 32,792 or not a multiple of 8"
 unfoldable pub lengthWrong : ℕ → Bool
@@ -28,9 +29,9 @@ trailerWellFormed count t =
 unfoldable pub zerosWellFormed : List ℕ → Bool
 zerosWellFormed s = eqb (le16 (byte s 6) (byte s 7)) 0
 
--- "settings outside the above" are refused
+-- "settings outside the above" are refused; other than eight bytes, which a file never has for them, are no settings
 unfoldable pub settingsWellFormed : List ℕ → Bool
-settingsWellFormed s = settingsInRange (settingsOf s) && zerosWellFormed s
+settingsWellFormed s = settingsInRange (settingsOf s) && (zerosWellFormed s && eqb (length s) settingsLength)
 
 unfoldable pub wellAt : ℕ → List ℕ → ℕ → Bool
 wellAt n steps i = wellFormed n (stepAt steps i)

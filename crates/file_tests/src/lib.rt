@@ -1,12 +1,14 @@
-// The tests of a day file.
+// The tests of a day file: its length, its trailer, its settings and its steps.
 ghost use mathlib.Core.Path.{_≡_};
 ghost use Prim.Native.Nat.{_≤_};
 ghost use lib.ListN.{length};
-ghost use Rattle.layout.specs.Layout.{mostSteps, settingsLength, trailerLength};
-ghost use Rattle.dayfile.specs.Tests.{lengthWrong, markWellFormed, trailerWellFormed, settingsWellFormed, firstMalformed};
+ghost use Rattle.layout.specs.Layout.{mostSteps, trailerLength};
+ghost use Rattle.file_tests.specs.Tests.{lengthWrong, markWellFormed, trailerWellFormed, settingsWellFormed, firstMalformed};
 use layout::LONGEST_FILE;
 use layout::MARK;
 use layout::SETTINGS_DISTANCE;
+use layout::SETTINGS_LENGTH;
+use layout::step_at;
 use ranges::settings;
 use section::STEP_LENGTH;
 use steps::well_formed;
@@ -58,11 +60,13 @@ pub fn trailer_well_formed(count: usize, t: &[u8]) -> bool
     layout::le32_at(t, 12) as usize == count
 }
 
-// Whether eight bytes are settings: within their ranges, and bytes 6 and 7 zero.
+// Whether bytes are settings: eight of them, within their ranges, and bytes 6 and 7 zero.
 pub fn settings_well_formed(s: &[u8]) -> bool
-    requires { ⌜ settingsLength ≤ length (now s) ⌝ }
     ensures { λ r. ⌜ r ≡ settingsWellFormed (now (s .entry)) ⌝ }
 {
+    if s.len() != SETTINGS_LENGTH {
+        return false;
+    }
     if !settings::settings_in_range(layout::settings_of(s)) {
         return false;
     }
@@ -79,8 +83,7 @@ pub fn first_malformed(n: u8, steps: &[u8]) -> usize
         if i == whole {
             break i;
         }
-        let at = i * STEP_LENGTH;
-        if !well_formed::is_well_formed(n, &steps[at..at + STEP_LENGTH]) {
+        if !well_formed::is_well_formed(n, step_at(steps, i)) {
             break i;
         }
         i += 1;

@@ -1,10 +1,10 @@
 -- The branches are the tests of the mark, the distances and the count, in their order.
-use Rattle.dayfile.specs.Tests.{trailerWellFormed}
+use Rattle.file_tests.specs.Tests.{trailerWellFormed}
 use borrow.Author.Tests.{eq-eqb, ne-eqb}
 use Rattle.section.proofs.Told.{told-false, told-true}
 use borrow.Author.Needs.{needs}
-use Rattle.dayfile.proofs.tests.trailer_well_formed.Statement.{statement}
-use Rattle.dayfile.proofs.tests.trailer_well_formed.Tie as tie
+use Rattle.file_tests.proofs.trailer_well_formed.Statement.{statement}
+use Rattle.file_tests.proofs.trailer_well_formed.Tie as tie
 
 returns : tie.Need-returns
 unfolding trailerWellFormed

@@ -1,17 +1,27 @@
--- The first number that fails a test, and the first malformed step.
+-- The length of settings, the first number that fails a test, and the first malformed step.
 use mathlib.Core.Path.{_≡_, refl, sym, _∙_, ap}
 use mathlib.Core.Bool.{Bool, true, false, cond, true≢false}
 use mathlib.Core.List.{List}
 use Prim.Native.Nat.{ℕ, zero, suc, _+_, _-_, _*_, _/_, _<_, _≤_}
-use native.Mathlib.Nat.{add-sub-cancel-left, not-suc-le-zero}
+use native.Mathlib.Nat.{not-suc-le-zero}
 use native.Mathlib.Omega.{arith}
 use lib.ListN.{length, take, drop, length-take, length-drop}
-use lib.Dec.{leb}
-use borrow.Author.Tests.{ltb-false, leb-true, leb-false, ne-eqb}
+use lib.Dec.{eqb, leb}
+use borrow.Author.Tests.{eqb-true, ltb-false, leb-true, leb-false, ne-eqb}
 use Rattle.section.specs.Numbers.{stepLength}
+use Rattle.section.specs.Settings.{settingsInRange}
 use Rattle.section.specs.Step.{wellFormed}
-use Rattle.layout.specs.Layout.{stepAt, stepCount}
-use Rattle.dayfile.specs.Tests.{leading, wellAt, firstMalformed, someMalformed}
+use Rattle.section.proofs.Laws.{and-right}
+use Rattle.layout.specs.Layout.{settingsLength, settingsOf, stepAt, stepCount}
+use Rattle.file_tests.specs.Tests.{zerosWellFormed, settingsWellFormed, leading, wellAt, firstMalformed, someMalformed}
+
+-- ## Settings
+
+pub settings-eight : (s : List ℕ) → settingsWellFormed s ≡ true → length s ≡ settingsLength
+unfolding settingsWellFormed
+settings-eight s e =
+    let h = and-right (settingsInRange (settingsOf s)) _ e in
+    eqb-true _ _ (and-right (zerosWellFormed s) (eqb (length s) settingsLength) h)
 
 -- ## The first number that fails a test
 
@@ -42,11 +52,10 @@ all-pass t (suc m) h = go (t 0) refl h (all-pass (λ (j : ℕ). t (suc j)) m)
 
 -- ## Steps
 
--- what a test said of the part is said of the step
-pub well-here :
-    (n : ℕ) (s : List ℕ) {v : Bool} (i : ℕ) → wellFormed n (take (i * 8 + 8 - i * 8) (drop (i * 8) s)) ≡ v → wellAt n s i ≡ v
-unfolding wellAt stepAt
-well-here n s i e = ap (λ (k : ℕ). wellFormed n (take k (drop (i * 8) s))) (sym (add-sub-cancel-left (i * 8) 8)) ∙ e
+-- what a test said of the bytes of a step is said of the step
+pub well-here : (n : ℕ) (s part : List ℕ) {v : Bool} (i : ℕ) → part ≡ stepAt s i → wellFormed n part ≡ v → wellAt n s i ≡ v
+unfolding wellAt
+well-here n s part i p e = ap (wellFormed n) (sym p) ∙ e
 
 not-eight : (n : ℕ) (s : List ℕ) → (length s ≡ 8 → ⊥) → wellFormed n s ≡ false
 unfolding wellFormed

@@ -8,11 +8,11 @@ use lib.ListN.{length}
 use borrow.Author.Count.{below-more}
 use borrow.Author.Needs.{needs}
 use Rattle.layout.specs.Layout.{stepCount}
-use Rattle.dayfile.specs.Tests.{wellAt, firstMalformed}
+use Rattle.file_tests.specs.Tests.{wellAt, firstMalformed}
 use Rattle.section.proofs.Told.{told-true, told-false}
-use Rattle.dayfile.proofs.tests.Laws.{leading-is, well-here, incomplete}
-use Rattle.dayfile.proofs.tests.first_malformed.Statement.{statement}
-use Rattle.dayfile.proofs.tests.first_malformed.Tie as tie
+use Rattle.file_tests.proofs.Laws.{leading-is, well-here, incomplete}
+use Rattle.file_tests.proofs.first_malformed.Statement.{statement}
+use Rattle.file_tests.proofs.first_malformed.Tie as tie
 
 abbrev Inv-loop : tie.InvT-loop
 Inv-loop n steps whole i₀ i =
@@ -24,20 +24,8 @@ abbrev μ-loop : tie.MeasureT-loop
 loop-holds : tie.Need-loop-holds Inv-loop μ-loop
 loop-holds c = (refl, omega arith, λ k h. absurd (not-suc-le-zero h))
 
-mul-at : tie.Need-mul-at Inv-loop μ-loop
-mul-at c = omega arith
-
-add-is-well-formed : tie.Need-add-is-well-formed Inv-loop μ-loop
-add-is-well-formed c = omega arith
-
-sub-is-well-formed : tie.Need-sub-is-well-formed Inv-loop μ-loop
-sub-is-well-formed c = omega arith
-
-part-is-well-formed-start : tie.Need-part-is-well-formed-start Inv-loop μ-loop
-part-is-well-formed-start c = omega arith
-
-part-is-well-formed-end : tie.Need-part-is-well-formed-end Inv-loop μ-loop
-part-is-well-formed-end c = omega arith
+step-at-requires : tie.Need-step-at-requires Inv-loop μ-loop
+step-at-requires c κs = omega arith
 
 add-i : tie.Need-add-i Inv-loop μ-loop
 add-i c = omega arith
@@ -47,8 +35,10 @@ loop-less c = omega arith
 
 loop-again : tie.Need-loop-again Inv-loop μ-loop
 loop-again c =
-    let b = c .before .before .before .before in
-    (refl, omega arith, below-more _ _ (b .loop .inv .2) (well-here _ _ (b .loop .i) (told-true (c .before .is-well-formed .ensures) (c .if2 .left))))
+    let at-step = c .before .before in
+    let l = at-step .before .before .loop in
+    let well = told-true (c .before .is-well-formed .ensures) (c .if2 .left) in
+    (refl, omega arith, below-more _ _ (l .inv .2) (well-here _ _ _ (l .i) (at-step .step-at .ensures) well))
 
 returns : tie.Need-returns Inv-loop μ-loop
 unfolding firstMalformed stepCount
@@ -59,9 +49,10 @@ returns c =
 returns-2 : tie.Need-returns-2 Inv-loop μ-loop
 unfolding firstMalformed stepCount
 returns-2 c =
-    let b = c .before .before .before .before in
-    leading-is _ _ (b .loop .i) (omega arith) (b .loop .inv .2)
-    (λ h. well-here _ _ (b .loop .i) (told-false (c .before .is-well-formed .ensures) (c .if2 .taken)))
+    let at-step = c .before .before in
+    let l = at-step .before .before .loop in
+    let malformed = told-false (c .before .is-well-formed .ensures) (c .if2 .taken) in
+    leading-is _ _ (l .i) (omega arith) (l .inv .2) (λ h. well-here _ _ _ (l .i) (at-step .step-at .ensures) malformed)
 
 pub first-malformed-spec : {M : Type 1} → statement M
 first-malformed-spec =
@@ -70,11 +61,7 @@ first-malformed-spec =
     Inv-loop
     μ-loop
     loop-holds
-    mul-at
-    add-is-well-formed
-    sub-is-well-formed
-    part-is-well-formed-start
-    part-is-well-formed-end
+    step-at-requires
     (λ c κs. search needs)
     add-i
     loop-less

@@ -1,9 +1,9 @@
 -- The branches are the tests of the four bytes, in their order.
-use Rattle.dayfile.specs.Tests.{markWellFormed}
+use Rattle.file_tests.specs.Tests.{markWellFormed}
 use borrow.Author.Tests.{eq-eqb, ne-eqb}
 use borrow.Author.Needs.{needs}
-use Rattle.dayfile.proofs.tests.mark_well_formed.Statement.{statement}
-use Rattle.dayfile.proofs.tests.mark_well_formed.Tie as tie
+use Rattle.file_tests.proofs.mark_well_formed.Statement.{statement}
+use Rattle.file_tests.proofs.mark_well_formed.Tie as tie
 
 returns : tie.Need-returns
 unfolding markWellFormed
