@@ -4,7 +4,7 @@ use Prim.Native.Nat.{ℕ, zero, suc, _-_, _<_}
 use mathlib.Core.Bool.{Bool, true, false, cond, not, _&&_, _||_, Bool·beq}
 use mathlib.Core.Path.{_≡_}
 use mathlib.Core.Logic.{_⊎_}
-use mathlib.Core.List.{List, [], _∷_, _++_, Perm}
+use mathlib.Core.List.{List, [], _∷_, _++_}
 use mathlib.Core.Option.{Option, none, some}
 use lib.ListN.{getD, length}
 use lib.Dec.{T, eqb}
@@ -97,6 +97,13 @@ module _ {A : Type 0} where
   abbrev pub All : (A → Type 0) → List A → Type 0
   All P [] = Unit {0}
   All P (x ∷ l) = P x × All P l
+
+  -- the same steps, each as often, in another order
+  pub data Reordering : List A → List A → Type 0 where
+    none-left : Reordering [] []
+    same : (x : A) {l m : List A} → Reordering l m → Reordering (x ∷ l) (x ∷ m)
+    swapped : (x y : A) (l : List A) → Reordering (x ∷ y ∷ l) (y ∷ x ∷ l)
+    chained : {l m k : List A} → Reordering l m → Reordering m k → Reordering l k
 
 -- ## Runs
 
@@ -255,8 +262,8 @@ module _ (c : Settings) where
 
   pub record NewOrder (ds : List AcceptedStep) (s : Section) : Type 0 where
     pub order : List AcceptedStep
-    -- "each accepted step stands once and nothing else does": `Perm` of the library, the same elements, each as often
-    pub each-once : Perm order ds
+    -- "each accepted step stands once and nothing else does"
+    pub each-once : Reordering order ds
     -- per track, each post's own steps in sequence
     pub posts-in-sequence : (b : Bool) (p : ℕ) → keep (isOfPost b p) order ≡ keep (isOfPost b p) ds
     -- each train's own steps in sequence, those of both tracks together
