@@ -1,10 +1,9 @@
 -- Lists that hold the same elements, and what is kept of them in sequence: a step put at the end, or before steps none of which has an owner in
 -- common with it, changes no owner's sequence.
 use Prim.Native.Nat.{ℕ}
-use mathlib.Core.Bool.{Bool, true, false, cond, not}
+use mathlib.Core.Bool.{Bool, true, false, cond, true≢false}
 use mathlib.Core.Path.{_≡_, refl, sym, ap, _∙_}
 use mathlib.Core.List.{List, [], _∷_, _++_, append-nil}
-use lib.Dec.{T}
 use Rattle.rules.specs.Demand3.{AcceptedStep, keep, All, Reordering, none-left, same, swapped, chained, isOfPost, isStepOfTrain, isAnnouncement}
 
 module _ {A : Type 0} where
@@ -48,19 +47,19 @@ module _ {A : Type 0} where
   keep-append f [] b = refl
   keep-append f (x ∷ a) b = cond-cons (f x) x (keep f (a ++ b)) (keep f a) (keep f b) (keep-append f a b)
 
-  cond-none : (t : Bool) (x : A) (l : List A) → T (not t) → l ≡ [] → cond t (x ∷ l) l ≡ []
-  cond-none true x l h e = absurd h
+  cond-none : (t : Bool) (x : A) (l : List A) → t ≡ false → l ≡ [] → cond t (x ∷ l) l ≡ []
+  cond-none true x l h e = absurd (true≢false h)
   cond-none false x l h e = e
 
-  pub keep-none : (f : A → Bool) (l : List A) → All (λ x. T (not (f x))) l → keep f l ≡ []
+  pub keep-none : (f : A → Bool) (l : List A) → All (λ x. f x ≡ false) l → keep f l ≡ []
   keep-none f [] h = refl
   keep-none f (x ∷ l) h = cond-none (f x) x (keep f l) (h .0) (keep-none f l (h .1))
 
-  insert-kept : (t : Bool) (x : A) (a l : List A) → (T t → l ≡ []) → (a ++ cond t (x ∷ []) []) ++ l ≡ (a ++ l) ++ cond t (x ∷ []) []
-  insert-kept true x a l h = rw (h tt) (append-nil (a ++ x ∷ []) ∙ ap (λ k. k ++ x ∷ []) (sym (append-nil a)))
+  insert-kept : (t : Bool) (x : A) (a l : List A) → (t ≡ true → l ≡ []) → (a ++ cond t (x ∷ []) []) ++ l ≡ (a ++ l) ++ cond t (x ∷ []) []
+  insert-kept true x a l h = rw (h refl) (append-nil (a ++ x ∷ []) ∙ ap (λ k. k ++ x ∷ []) (sym (append-nil a)))
   insert-kept false x a l h = ap (λ k. k ++ l) (append-nil a) ∙ sym (append-nil (a ++ l))
 
-  keep-insert : (f : A → Bool) (x : A) (a l : List A) → (T (f x) → keep f l ≡ []) → keep f ((a ++ x ∷ []) ++ l) ≡ keep f (a ++ l) ++ keep f (x ∷ [])
+  keep-insert : (f : A → Bool) (x : A) (a l : List A) → (f x ≡ true → keep f l ≡ []) → keep f ((a ++ x ∷ []) ++ l) ≡ keep f (a ++ l) ++ keep f (x ∷ [])
   keep-insert f x a l h =
       keep-append f (a ++ x ∷ []) l ∙ ap (λ k. k ++ keep f l) (keep-append f a (x ∷ []))
       ∙ insert-kept (f x) x (keep f a) (keep f l) h ∙ ap (λ k. k ++ keep f (x ∷ [])) (sym (keep-append f a l))
@@ -93,7 +92,7 @@ reordered-last ds new x r = record {
 }
 
 -- one more step, before the part l, none of which has the same owner
-pub reordered-insert : (ds a l : List AcceptedStep) (x : AcceptedStep) → ((o : Owner) → T (owns o x) → keep (owns o) l ≡ []) → Reordered ds (a ++ l)
+pub reordered-insert : (ds a l : List AcceptedStep) (x : AcceptedStep) → ((o : Owner) → owns o x ≡ true → keep (owns o) l ≡ []) → Reordered ds (a ++ l)
     → Reordered (ds ++ x ∷ []) ((a ++ x ∷ []) ++ l)
 reordered-insert ds a l x h r = record {
   each-once = chained (reordering-insert x a l) (reordering-right (x ∷ []) (r .each-once));

@@ -7,7 +7,7 @@ use mathlib.Core.Logic.{_⊎_}
 use mathlib.Core.List.{List, [], _∷_, _++_}
 use mathlib.Core.Option.{Option, none, some}
 use lib.ListN.{getD, length}
-use lib.Dec.{T, eqb}
+use lib.Dec.{eqb}
 use Rattle.section.specs.declared.Settings.{Settings}
 use Rattle.section.specs.declared.Said.{Said}
 use Rattle.section.specs.declared.Said.the-variants.{Nothing, Cvt, Cvtz, Vns, Vnsz}
@@ -147,7 +147,7 @@ hasEnded (some p) = true
 -- "A number may have several runs, one after another": all but the latest have ended
 abbrev pub OneAfterAnother : List Run → Type 0
 OneAfterAnother [] = Unit {0}
-OneAfterAnother (r ∷ earlier) = All (λ (q : Run). T (hasEnded (q .left))) earlier
+OneAfterAnother (r ∷ earlier) = All (λ (q : Run). hasEnded (q .left) ≡ true) earlier
 
 -- ## Under way
 
@@ -230,7 +230,7 @@ module _ (c : Settings) where
 
   -- "if it has start permission, or if a start with some number, offered there next, would be accepted"
   pub data MayStart (s : Section) (b : Bool) (p : ℕ) : Type 0 where
-    permission : p < c .posts → T (postOn (trackOf s b) p .permission) → MayStart s b p
+    permission : p < c .posts → postOn (trackOf s b) p .permission ≡ true → MayStart s b p
     start : (d : AcceptedStep) → kind d ≡ startKind → track d ≡ b → post d ≡ p → judge s (d .bytes) .verdict ≡ Accepted (d .said) → MayStart s b p
 
   -- ## The claim for one track
