@@ -2,9 +2,8 @@
 -- parameter, so that what follows is about tracks.
 use Prim.Native.Nat.{ℕ}
 use mathlib.Core.Bool.{Bool, true, false}
-use mathlib.Core.Path.{_≡_, refl, sym, ap, _∙_, subst}
+use mathlib.Core.Path.{_≡_, refl, sym, ap, _∙_}
 use mathlib.Core.List.{List, [], _∷_}
-use lib.Dec.{T}
 use Rattle.section.specs.declared.Settings.{Settings}
 use Rattle.section.specs.declared.Track.{Track}
 use Rattle.section.specs.declared.Section.{Section}
@@ -18,7 +17,6 @@ use Rattle.section.specs.Store.{trackOf, withTrack}
 use Rattle.rules.specs.Site.{siteOn, otherSettledOnVns, Occupancy, occupancyAt}
 use Rattle.rules.specs.Table.{Check, checks, effect, trackAfter}
 use Rattle.rules.specs.Judge.{verdictOf, answerOf, verdictOn, sectionAfter, judgeStep, judgeDecoded, judgeInRange, judge}
-use Rattle.rules.proofs.Facts.{T-true}
 use Rattle.rules.proofs.View.{View, flat, post-flat, Seen, shown, seen, shown-seen}
 use Rattle.rules.proofs.Reading.{Fits, decoded-says}
 
@@ -26,12 +24,12 @@ use Rattle.rules.proofs.Reading.{Fits, decoded-says}
 
 abbrev pub AllHold : List Check → Type 0
 AllHold [] = Unit {0}
-AllHold (k ∷ ks) = T (k .holds) × AllHold ks
+AllHold (k ∷ ks) = (k .holds ≡ true) × AllHold ks
 
 pub all-accepted : (ks : List Check) (w : Said) → AllHold ks → verdictOf ks w ≡ Accepted w
 unfolding verdictOf
 all-accepted [] w h = refl
-all-accepted (k ∷ ks) w h = rw (T-true (k .holds) (h .0)) (all-accepted ks w (h .1))
+all-accepted (k ∷ ks) w h = rw (h .0) (all-accepted ks w (h .1))
 
 pub data Ruled (ks : List Check) (w : Said) : Type 0 where
   passed : AllHold ks → Ruled ks w
@@ -43,7 +41,7 @@ ruled [] w = passed tt
 ruled (k ∷ ks) w = go (k .holds) refl (ruled ks w)
   where
     go : (x : Bool) → k .holds ≡ x → Ruled ks w → Ruled (k ∷ ks) w
-    go true e (passed h) = passed (subst T (sym e) tt, h)
+    go true e (passed h) = passed (e, h)
     go true e (failed n q) = failed n (rw e q)
     go false e r = failed (k .refusal) (rw e refl)
 

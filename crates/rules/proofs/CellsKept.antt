@@ -71,14 +71,14 @@ module _ (c : Settings) where
     -- a start is at the sending end, a pass at neither end, a leave at the receiving end
     stores-inside : (k : View) → AcceptedOn c v b p k t → StoresInside (effect c (flat p k) e .train) e
     unfolding checks effect flat
-    stores-inside (walks r) h = rw (no-movement c p (walks r) e tt) tt
+    stores-inside (walks r) h = rw (no-movement c p (walks r) e refl) tt
     stores-inside (runs start z) h = ahead-lt (c .posts) up p (h .fits .below) (first-not-last (c .posts) up p n2 (start-held h .first))
     stores-inside (runs pass z) h = (
       before-lt (c .posts) up p (h .fits .below) (pass-held h .not-first),
       ahead-lt (c .posts) up p (h .fits .below) (pass-held h .not-last),
     )
     stores-inside (runs leave z) h = before-lt (c .posts) up p (h .fits .below) (leave-not-first n2 h)
-    stores-inside (notes k) h = rw (no-movement c p (notes k) e tt) tt
+    stores-inside (notes k) h = rw (no-movement c p (notes k) e refl) tt
     stores-inside (releases z) h = tt
 
     track-past : (k : View) → AcceptedOn c v b p k t → SamePast (c .posts) (trackAfterStep c b p k t) t

@@ -37,7 +37,7 @@ use Rattle.rules.specs.Table.{effect, vacated, cellsAfter, trackAfter}
 use Rattle.rules.specs.Judge.{answerOf, siteOf, occupancyOf, verdictOn, sectionAfter, judgeStep, judgeDecoded, judgeInRange, judge}
 use Rattle.rules.specs.Indications.{lampsAt, shown, indicationsOn, indications, dark}
 use Rattle.rules.specs.CellsPast.{SameBelow, AgreeBelow, CellsPastNotTested}
-use Rattle.rules.proofs.Facts.{false-T, by-track, ahead-lt, before-lt, first-cells, set-alike}
+use Rattle.rules.proofs.Facts.{by-track, ahead-lt, before-lt, first-cells, set-alike}
 use Rattle.rules.proofs.Frame.{vacated-length, cells-length}
 
 -- ## Tests over cells
@@ -80,7 +80,7 @@ where-false false d a b h = h refl
 
 module _ (c : Settings) (e : Site) (below : e .post < c .posts) (l k : List ℕ) (same : AlikeBelow (c .posts) l k) where
   ahead-alike : atReceivingEnd c e ≡ false → getD l (blockAhead c e) 0 ≡ getD k (blockAhead c e) 0
-  ahead-alike q = same _ (ahead-lt (c .posts) (upAt c e) (e .post) below (false-T (atReceivingEnd c e) q))
+  ahead-alike q = same _ (ahead-lt (c .posts) (upAt c e) (e .post) below q)
 
   watched-alike : watchedOccupied c e l ≡ watchedOccupied c e k
   unfolding watchedOccupied
@@ -101,7 +101,7 @@ module _ (c : Settings) (e : Site) (below : e .post < c .posts) (l k : List ℕ)
 
   before-alike : trainBefore c e l ≡ trainBefore c e k
   unfolding trainBefore
-  before-alike = where-false (atSendingEnd c e) 0 _ _ (λ q. same _ (before-lt (c .posts) (upAt c e) (e .post) below (false-T (atSendingEnd c e) q)))
+  before-alike = where-false (atSendingEnd c e) 0 _ _ (λ q. same _ (before-lt (c .posts) (upAt c e) (e .post) below q))
 
   entered-alike : lastEntered c e l ≡ lastEntered c e k
   unfolding lastEntered

@@ -1,10 +1,9 @@
 -- Two steps on a section change places: l, and then an x that leaves walk and direction alone. On one track this is the exchange of Swap. On two
 -- tracks neither touches what the other sees: only an order looks at the other track, at its walk and direction, and x leaves these.
 use Prim.Native.Nat.{ℕ, _≤_}
-use mathlib.Core.Bool.{Bool, true, false, not, _&&_}
+use mathlib.Core.Bool.{Bool, true, false, not, _&&_, false≢true}
 use mathlib.Core.Path.{_≡_, refl, ap, ap₂, _∙_}
 use mathlib.Core.Logic.{_≢_}
-use lib.Dec.{T}
 use Rattle.section.specs.declared.Settings.{Settings}
 use Rattle.section.specs.declared.Said.the-variants.{Nothing}
 use Rattle.section.specs.declared.Track.{Track}
@@ -38,28 +37,28 @@ module _ (c : Settings) where
 
   -- ## A step that leaves walk and running direction
 
-  pub walk-kept : (b : Bool) (p : ℕ) (k : View) (t : Track) → T (keepsRunning k) → trackAfterStep c b p k t .walk ≡ t .walk
+  pub walk-kept : (b : Bool) (p : ℕ) (k : View) (t : Track) → keepsRunning k ≡ true → trackAfterStep c b p k t .walk ≡ t .walk
   unfolding trackAfter
   walk-kept b p k t i = running-kept c p k (siteOn b p t) i .walk
 
-  pub cvt-kept : (b : Bool) (p : ℕ) (k : View) (t : Track) → T (keepsRunning k) → trackAfterStep c b p k t .cvt ≡ t .cvt
+  pub cvt-kept : (b : Bool) (p : ℕ) (k : View) (t : Track) → keepsRunning k ≡ true → trackAfterStep c b p k t .cvt ≡ t .cvt
   unfolding trackAfter
   cvt-kept b p k t i = running-kept c p k (siteOn b p t) i .cvt
 
-  pub vns-kept : (b : Bool) (p : ℕ) (k : View) (t : Track) → T (keepsRunning k) → settledOnVns (trackAfterStep c b p k t) ≡ settledOnVns t
+  pub vns-kept : (b : Bool) (p : ℕ) (k : View) (t : Track) → keepsRunning k ≡ true → settledOnVns (trackAfterStep c b p k t) ≡ settledOnVns t
   vns-kept b p k t i = ap₂ (λ w d. isSettled w && not d) (walk-kept b p k t i) (cvt-kept b p k t i)
 
-  pub says-nothing : (s : Section) (b : Bool) (p : ℕ) (k : View) → T (keepsRunning k) → saidIn c s (on b p k) ≡ Nothing
+  pub says-nothing : (s : Section) (b : Bool) (p : ℕ) (k : View) → keepsRunning k ≡ true → saidIn c s (on b p k) ≡ Nothing
   unfolding saidIn
   says-nothing s b p k i = running-kept c p k (siteOn b p (trackOf s b)) i .said
 
-  pub walks-kept : (s : Section) (b : Bool) (p : ℕ) (k : View) → T (keepsRunning k) → (d : Bool)
+  pub walks-kept : (s : Section) (b : Bool) (p : ℕ) (k : View) → keepsRunning k ≡ true → (d : Bool)
       → trackOf (sectionAfterStep c s (on b p k)) d .walk ≡ trackOf s d .walk
   walks-kept s b p k i =
       by-track (λ d. trackOf (sectionAfterStep c s (on b p k)) d .walk ≡ trackOf s d .walk) b
       (ap (λ t. t .walk) (here-after s b p k) ∙ walk-kept b p k (trackOf s b) i) (ap (λ t. t .walk) (there-after s b p k))
 
-  pub cvts-kept : (s : Section) (b : Bool) (p : ℕ) (k : View) → T (keepsRunning k) → (d : Bool)
+  pub cvts-kept : (s : Section) (b : Bool) (p : ℕ) (k : View) → keepsRunning k ≡ true → (d : Bool)
       → trackOf (sectionAfterStep c s (on b p k)) d .cvt ≡ trackOf s d .cvt
   cvts-kept s b p k i =
       by-track (λ d. trackOf (sectionAfterStep c s (on b p k)) d .cvt ≡ trackOf s d .cvt) b
@@ -67,9 +66,9 @@ module _ (c : Settings) where
 
   -- ## The other track matters to an order alone
 
-  accepted-vns : (v v′ b : Bool) (p : ℕ) (k : View) (t : Track) → T (keepsRunning k) → AcceptedOn c v b p k t → AcceptedOn c v′ b p k t
+  accepted-vns : (v v′ b : Bool) (p : ℕ) (k : View) (t : Track) → keepsRunning k ≡ true → AcceptedOn c v b p k t → AcceptedOn c v′ b p k t
   unfolding checks occupancyAt watchedOccupied trainBefore lastEntered flat
-  accepted-vns v v′ b p (walks r) t i h = absurd i
+  accepted-vns v v′ b p (walks r) t i h = absurd (false≢true i)
   accepted-vns v v′ b p (runs start z) t i h = record { fits = h .fits; held = h .held }
   accepted-vns v v′ b p (runs pass z) t i h = record { fits = h .fits; held = h .held }
   accepted-vns v v′ b p (runs leave z) t i h = record { fits = h .fits; held = h .held }
@@ -99,7 +98,7 @@ module _ (c : Settings) where
   exchange-note false s q l p k h hl hx = on-one-track false s q l p (notes k) (swap-note c (otherSettledOnVns s false) false q l p k (s .a) h hl hx)
   exchange-note true s q l p k h hl hx = on-one-track true s q l p (notes k) (swap-note c (otherSettledOnVns s true) true q l p k (s .b) h hl hx)
 
-  pub exchange-onward : 2 ≤ c .posts → (b : Bool) (s : Section) (q : ℕ) (l : View) (p : ℕ) (m : Motion) (z : ℕ) → T (onward m) → T (movesNoTrain l) → q ≢ p
+  pub exchange-onward : 2 ≤ c .posts → (b : Bool) (s : Section) (q : ℕ) (l : View) (p : ℕ) (m : Motion) (z : ℕ) → onward m ≡ true → movesNoTrain l ≡ true → q ≢ p
       → trackOf (sectionAfterStep c s (on b q l)) b .cvt ≡ trackOf s b .cvt
       → AcceptedIn c s (on b q l) → AcceptedIn c (sectionAfterStep c s (on b q l)) (on b p (runs m z)) → Exchanged s (on b q l) (on b p (runs m z))
   unfolding AcceptedIn sectionAfterStep
@@ -109,7 +108,7 @@ module _ (c : Settings) where
       on-one-track true s q l p (runs m z) (swap-onward c (otherSettledOnVns s true) true n2 q l p m z (s .b) i j h ec hl hx)
 
   -- l on one track, x on the other
-  pub exchange-other : (b : Bool) (s : Section) (q : ℕ) (l : View) (p : ℕ) (x : View) → T (keepsRunning x)
+  pub exchange-other : (b : Bool) (s : Section) (q : ℕ) (l : View) (p : ℕ) (x : View) → keepsRunning x ≡ true
       → AcceptedIn c s (on b q l) → AcceptedIn c (sectionAfterStep c s (on b q l)) (on (not b) p x) → Exchanged s (on b q l) (on (not b) p x)
   unfolding AcceptedIn saidIn sectionAfterStep
   exchange-other false s q l p x i hl hx = record {

@@ -1,11 +1,12 @@
 -- What a step leaves alone, by its kind: its effect is computed, once for each kind. A step of a reversal moves no train; any other step leaves
 -- the walk and the running direction.
 use Prim.Native.Nat.{ℕ}
-use mathlib.Core.Bool.{Bool, true, false}
+use mathlib.Core.Bool.{Bool, true, false, false≢true}
 use mathlib.Core.Path.{_≡_, refl, _∙_}
 use mathlib.Core.List.{List}
 use lib.ListN.{length, length-set}
-use lib.Dec.{T, eqb, eqb→eq}
+use lib.Dec.{eqb}
+use borrow.Author.Tests.{eqb-true}
 use Rattle.section.specs.declared.Settings.{Settings}
 use Rattle.section.specs.declared.Fault.the-variants.{One, Two, Three}
 use Rattle.section.specs.declared.Act.{Act}
@@ -13,13 +14,13 @@ use Rattle.section.specs.declared.Act.the-variants as act
 use Rattle.section.specs.declared.Walk.{Walk}
 use Rattle.section.specs.declared.Walk.the-variants.{Settled, Turn}
 use Rattle.section.specs.declared.Said.the-variants.{Nothing}
+use Rattle.section.proofs.Laws.{and-left, and-right}
 use Rattle.rules.specs.declared.Site.{Site}
 use Rattle.rules.specs.declared.Effect.{Effect}
 use Rattle.rules.specs.declared.Movement.{Movement}
 use Rattle.rules.specs.declared.Movement.the-variants.{Stays, Enters, Moves, Leaves}
 use Rattle.rules.specs.Site.{sameAct, isTurn, isSettled, blockAhead, blockBefore}
 use Rattle.rules.specs.Table.{effect, vacated, cellsAfter}
-use Rattle.rules.proofs.Facts.{and-l, and-r}
 use Rattle.rules.proofs.View.{order, setDevice, announce, acknowledge, key, Motion, start, pass, leave, measures, fault, View, walks, runs}
 use Rattle.rules.proofs.View.{notes, releases, flat}
 
@@ -45,25 +46,25 @@ onward leave = true
 
 -- ## Tests on the walk
 
-same-act : (a a′ : Act) → T (sameAct a a′) → a ≡ a′
+same-act : (a a′ : Act) → sameAct a a′ ≡ true → a ≡ a′
 same-act act.Set act.Set h = refl
-same-act act.Set act.Announce h = absurd h
-same-act act.Set act.Acknowledge h = absurd h
-same-act act.Announce act.Set h = absurd h
+same-act act.Set act.Announce h = absurd (false≢true h)
+same-act act.Set act.Acknowledge h = absurd (false≢true h)
+same-act act.Announce act.Set h = absurd (false≢true h)
 same-act act.Announce act.Announce h = refl
-same-act act.Announce act.Acknowledge h = absurd h
-same-act act.Acknowledge act.Set h = absurd h
-same-act act.Acknowledge act.Announce h = absurd h
+same-act act.Announce act.Acknowledge h = absurd (false≢true h)
+same-act act.Acknowledge act.Set h = absurd (false≢true h)
+same-act act.Acknowledge act.Announce h = absurd (false≢true h)
 same-act act.Acknowledge act.Acknowledge h = refl
 
-pub is-turn : (w : Walk) (p : ℕ) (a : Act) → T (isTurn w p a) → w ≡ Turn p a
-is-turn Settled p a h = absurd h
+pub is-turn : (w : Walk) (p : ℕ) (a : Act) → isTurn w p a ≡ true → w ≡ Turn p a
+is-turn Settled p a h = absurd (false≢true h)
 is-turn (Turn q a′) p a h =
-    rw (eqb→eq q p (and-l (eqb q p) (sameAct a′ a) h), same-act a′ a (and-r (eqb q p) (sameAct a′ a) h)) refl
+    rw (eqb-true q p (and-left (eqb q p) (sameAct a′ a) h), same-act a′ a (and-right (eqb q p) (sameAct a′ a) h)) refl
 
-pub is-settled : (w : Walk) → T (isSettled w) → w ≡ Settled
+pub is-settled : (w : Walk) → isSettled w ≡ true → w ≡ Settled
 is-settled Settled h = refl
-is-settled (Turn p a) h = absurd h
+is-settled (Turn p a) h = absurd (false≢true h)
 
 -- ## Lengths
 
@@ -81,14 +82,14 @@ module _ (c : Settings) where
 
   -- ## Effects
 
-  pub no-movement : (p : ℕ) (k : View) (e : Site) → T (movesNoTrain k) → effect c (flat p k) e .train ≡ Stays
+  pub no-movement : (p : ℕ) (k : View) (e : Site) → movesNoTrain k ≡ true → effect c (flat p k) e .train ≡ Stays
   unfolding effect flat
   no-movement p (walks order) e i = refl
   no-movement p (walks setDevice) e i = refl
   no-movement p (walks announce) e i = refl
   no-movement p (walks acknowledge) e i = refl
   no-movement p (walks key) e i = refl
-  no-movement p (runs m z) e i = absurd i
+  no-movement p (runs m z) e i = absurd (false≢true i)
   no-movement p (notes (measures true)) e i = refl
   no-movement p (notes (measures false)) e i = refl
   no-movement p (notes (fault true f)) e i = refl
@@ -102,9 +103,9 @@ module _ (c : Settings) where
     pub permission : x .own .permission ≡ e .own .permission
     pub seals : x .own .seals ≡ e .own .seals
 
-  pub running-kept : (p : ℕ) (k : View) (e : Site) → T (keepsRunning k) → KeepsRunning e (effect c (flat p k) e)
+  pub running-kept : (p : ℕ) (k : View) (e : Site) → keepsRunning k ≡ true → KeepsRunning e (effect c (flat p k) e)
   unfolding effect flat
-  running-kept p (walks r) e i = absurd i
+  running-kept p (walks r) e i = absurd (false≢true i)
   running-kept p (runs start z) e i = record { walk = refl; cvt = refl; said = refl; permission = refl; seals = refl }
   running-kept p (runs pass z) e i = record { walk = refl; cvt = refl; said = refl; permission = refl; seals = refl }
   running-kept p (runs leave z) e i = record { walk = refl; cvt = refl; said = refl; permission = refl; seals = refl }

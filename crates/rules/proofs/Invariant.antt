@@ -1,7 +1,7 @@
 -- What holds of a track in every state reached: what a reversal has cleared holds no train, only the sending end of a settled track has
 -- permission, and the ranges hold. Each accepted step keeps this, kind by kind.
 use Prim.Native.Nat.{ℕ, suc, _-_, _≤_, _<_}
-use mathlib.Core.Bool.{Bool, true, false, cond, not, _&&_, _||_}
+use mathlib.Core.Bool.{Bool, true, false, cond, not, _&&_, _||_, false≢true, true≢false}
 use mathlib.Core.Path.{_≡_, refl, sym, _∙_, subst}
 use mathlib.Core.Logic.{_≢_, _⊎_, inl, inr}
 use mathlib.Core.List.{List}
@@ -9,7 +9,8 @@ use native.Mathlib.Omega.{arith}
 use native.Mathlib.Decide.{ℕ-discrete, decLt}
 use lib.ListN.{getD, set, length, length-set}
 use lib.Seq.{getD-set-other, getD-set-same}
-use lib.Dec.{T, eqb, eqb→eq}
+use lib.Dec.{eqb}
+use borrow.Author.Tests.{eqb-true, not-false}
 use Rattle.section.specs.declared.Settings.{Settings}
 use Rattle.section.specs.declared.Post.{Post}
 use Rattle.section.specs.declared.Act.the-variants as act
@@ -24,8 +25,7 @@ use Rattle.rules.specs.declared.Site.{Site}
 use Rattle.rules.specs.Site.{siteOn, isTurn, atReceivingEnd, blockAhead, blockBefore, nextPost, trainAt, watchedOccupied}
 use Rattle.rules.specs.Site.{occupancyAt}
 use Rattle.rules.specs.Table.{checks, effect, cellsAfter, trackAfter}
-use Rattle.rules.proofs.Facts.{true-T, false-T, notnot, first-rank}
-use Rattle.rules.proofs.Facts.{not-first-rank, last-rank, not-last-rank, next-rank, far-end, set-zero}
+use Rattle.rules.proofs.Facts.{first-rank, not-first-rank, last-rank, not-last-rank, next-rank, far-end, set-zero}
 use Rattle.rules.proofs.View.{order, setDevice, announce, acknowledge, key, start, pass, leave, View, walks, runs, notes, releases, flat}
 use Rattle.rules.proofs.Frame.{is-turn, is-settled, movesNoTrain, keepsRunning, running-kept, no-movement, cells-length}
 use Rattle.rules.proofs.Accept.{AcceptedOn, trackAfterStep}
@@ -46,7 +46,7 @@ module _ (c : Settings) (b : Bool) where
   MayHold (Turn p a) r = ⊥
 
   abbrev pub Permits : Bool → Walk → List Post → Type 0
-  Permits cvt w l = (p : ℕ) → p < c .posts → T (getD l p blank .permission) → MayHold w (rankOn c b cvt p)
+  Permits cvt w l = (p : ℕ) → p < c .posts → getD l p blank .permission ≡ true → MayHold w (rankOn c b cvt p)
 
   pub record Sizes (t : Track) : Type 0 where
     pub posts : length (t .posts) ≡ mostPosts
@@ -69,18 +69,18 @@ module _ (c : Settings) (b : Bool) where
     -- ## What is cleared
 
     -- the block section ahead, of a post that is not the last
-    pub ahead-free : T (not (isLast (c .posts) (upward b (t .cvt)) p)) → T (not (watchedOccupied c e (t .trains))) → trainAt c b (t .cvt) (t .trains) r ≡ 0
+    pub ahead-free : isLast (c .posts) (upward b (t .cvt)) p ≡ false → watchedOccupied c e (t .trains) ≡ false → trainAt c b (t .cvt) (t .trains) r ≡ 0
     unfolding watchedOccupied
-    ahead-free n h = eqb→eq (trainAt c b (t .cvt) (t .trains) r) 0 (go (isLast (c .posts) (upward b (t .cvt)) p) n h)
+    ahead-free n h = eqb-true (trainAt c b (t .cvt) (t .trains) r) 0 (go (isLast (c .posts) (upward b (t .cvt)) p) n h)
       where
         empty : Bool
         empty = eqb (trainAt c b (t .cvt) (t .trains) r) 0
 
-        go : (last : Bool) → T (not last) → T (not (not last && not empty)) → T empty
-        go true x y = absurd x
-        go false x y = notnot empty y
+        go : (last : Bool) → last ≡ false → (not last && not empty) ≡ false → empty ≡ true
+        go true x y = absurd (true≢false x)
+        go false x y = not-false empty y
 
-    clear-set : (last : Bool) → isLast (c .posts) (upward b (t .cvt)) p ≡ last → T (isTurn (t .walk) p act.Set) → T (not (watchedOccupied c e (t .trains)))
+    clear-set : (last : Bool) → isLast (c .posts) (upward b (t .cvt)) p ≡ last → isTurn (t .walk) p act.Set ≡ true → watchedOccupied c e (t .trains) ≡ false
         → ClearedBelow (t .cvt) (t .walk) (t .trains) → ClearedBelow (cond last (not (t .cvt)) (t .cvt)) (cond last Settled (Turn p act.Announce)) (t .trains)
     clear-set true q hw ha clear j h k = absurd (none-below j _ (cleared-settled c b (not (t .cvt))) h)
     clear-set false q hw ha clear j h k = go (cleared-set c b (t .cvt) p j h)
@@ -89,7 +89,7 @@ module _ (c : Settings) (b : Bool) where
         before = subst (λ (w : Walk). ClearedBelow (t .cvt) w (t .trains)) (is-turn (t .walk) p act.Set hw) clear
 
         go : (j ≡ r) ⊎ (j < cleared c b (t .cvt) (Turn p act.Set)) → trainAt c b (t .cvt) (t .trains) j ≡ 0
-        go (inl x) = rw x (ahead-free (false-T (isLast (c .posts) (upward b (t .cvt)) p) q) ha)
+        go (inl x) = rw x (ahead-free q ha)
         go (inr l) = before j l k
 
     -- a train before a post stands at or past what is cleared
@@ -113,7 +113,7 @@ module _ (c : Settings) (b : Bool) where
         ∙ set-zero (t .trains) (blockBefore c e) (block (c .posts) (upward b (t .cvt)) j) (clear j h k)
 
     -- a step that moves no train and leaves walk and direction alone
-    clear-unmoved : (k : View) → T (movesNoTrain k) → T (keepsRunning k) → ClearedBelow (t .cvt) (t .walk) (t .trains)
+    clear-unmoved : (k : View) → movesNoTrain k ≡ true → keepsRunning k ≡ true → ClearedBelow (t .cvt) (t .walk) (t .trains)
         → ClearedBelow (trackAfterStep c b p k t .cvt) (trackAfterStep c b p k t .walk) (trackAfterStep c b p k t .trains)
     unfolding trackAfter cellsAfter
     clear-unmoved k i j clear = rw (no-movement c p k e i, running-kept c p k e j .walk, running-kept c p k e j .cvt) clear
@@ -139,7 +139,7 @@ module _ (c : Settings) (b : Bool) where
         clear-pass z (h .fits .below) (not-first-rank (c .posts) (upward b (t .cvt)) p (pass-held h .not-first))
         (not-last-rank (c .posts) (upward b (t .cvt)) p (h .fits .below) (pass-held h .not-last)) (h .fits .number .0) (pass-before h) clear
     clear-kept (runs leave z) h clear f = λ j l m. set-zero (t .trains) (blockBefore c e) (block (c .posts) (upward b (t .cvt)) j) (clear j l m)
-    clear-kept (notes k) h clear f = clear-unmoved (notes k) tt tt clear
+    clear-kept (notes k) h clear f = clear-unmoved (notes k) refl refl clear
     clear-kept (releases z) h clear f = clear
 
     -- ## Permission
@@ -149,7 +149,7 @@ module _ (c : Settings) (b : Bool) where
 
     module _ (n16 : c .posts ≤ mostPosts) (z : Sizes t) where
       -- a step that gives its post no permission
-      permit-same : (o : Post) (w : Walk) → p < c .posts → (T (o .permission) → T (e .own .permission))
+      permit-same : (o : Post) (w : Walk) → p < c .posts → (o .permission ≡ true → e .own .permission ≡ true)
           → ((r : ℕ) → MayHold (t .walk) r → MayHold w r) → Permits (t .cvt) (t .walk) (t .posts) → Permits (t .cvt) w (set (t .posts) p o)
       permit-same o w p<n f g old q q<n h = go (ℕ-discrete q p)
         where
@@ -158,7 +158,7 @@ module _ (c : Settings) (b : Bool) where
           go (no ne) = g (rankOn c b (t .cvt) q) (old q q<n (rw (getD-set-other (t .posts) p q o blank ne) at h))
 
       -- an order takes the one permission away
-      permit-order : (o : Post) (w : Walk) → p < c .posts → (T (o .permission) → ⊥) → r ≡ 0 → t .walk ≡ Settled
+      permit-order : (o : Post) (w : Walk) → p < c .posts → (o .permission ≡ true → ⊥) → r ≡ 0 → t .walk ≡ Settled
           → Permits (t .cvt) (t .walk) (t .posts) → Permits (t .cvt) w (set (t .posts) p o)
       permit-order o w p<n f e0 ew old q q<n h = go (ℕ-discrete q p)
         where
@@ -170,14 +170,14 @@ module _ (c : Settings) (b : Bool) where
               absurd (ne (rank-inj (c .posts) (upward b (t .cvt)) q p q<n p<n (r0 ∙ sym e0)))
 
       -- the last set or key gives it to the last post
-      permit-set : (last : Bool) → isLast (c .posts) (upward b (t .cvt)) p ≡ last → p < c .posts → T (isTurn (t .walk) p act.Set)
+      permit-set : (last : Bool) → isLast (c .posts) (upward b (t .cvt)) p ≡ last → p < c .posts → isTurn (t .walk) p act.Set ≡ true
           → (o : Post) → o .permission ≡ (last || e .own .permission) → Permits (t .cvt) (t .walk) (t .posts)
           → Permits (cond last (not (t .cvt)) (t .cvt)) (cond last Settled (Turn p act.Announce)) (set (t .posts) p o)
       permit-set true ew p<n hw o eo old q q<n h = go (ℕ-discrete q p)
         where
           go : Dec (q ≡ p) → rankOn c b (not (t .cvt)) q ≡ 0
           go (yes x) =
-              let far : suc r ≡ c .posts = last-rank (c .posts) (upward b (t .cvt)) p (true-T (isLast (c .posts) (upward b (t .cvt)) p) ew) in
+              let far : suc r ≡ c .posts = last-rank (c .posts) (upward b (t .cvt)) p ew in
               rw x (far-end (c .posts) b (t .cvt) p p<n far)
           go (no ne) =
               absurd (subst (λ (v : Walk). MayHold v (rankOn c b (t .cvt) q)) (is-turn (t .walk) p act.Set hw)
@@ -185,7 +185,7 @@ module _ (c : Settings) (b : Bool) where
       permit-set false ew p<n hw o eo old q q<n h =
           permit-same o (Turn p act.Announce) p<n (λ u. rw eo at u) (λ r m. subst (λ (v : Walk). MayHold v r) (is-turn (t .walk) p act.Set hw) m) old q q<n h
 
-      permit-running : (k : View) → AcceptedOn c v b p k t → T (keepsRunning k) → Permits (t .cvt) (t .walk) (t .posts)
+      permit-running : (k : View) → AcceptedOn c v b p k t → keepsRunning k ≡ true → Permits (t .cvt) (t .walk) (t .posts)
           → Permits (trackAfterStep c b p k t .cvt) (trackAfterStep c b p k t .walk) (trackAfterStep c b p k t .posts)
       unfolding trackAfter
       permit-running k h i old =
@@ -196,7 +196,7 @@ module _ (c : Settings) (b : Bool) where
           → Permits (trackAfterStep c b p k t .cvt) (trackAfterStep c b p k t .walk) (trackAfterStep c b p k t .posts)
       unfolding checks trackAfter effect flat
       permits-kept (walks order) h old =
-          permit-order (effect c (flat p (walks order)) e .own) (Turn p act.Set) (h .fits .below) (λ u. u)
+          permit-order (effect c (flat p (walks order)) e .own) (Turn p act.Set) (h .fits .below) false≢true
           (first-rank (c .posts) (upward b (t .cvt)) p (order-held h .first)) (is-settled (t .walk) (order-held h .settled)) old
       permits-kept (walks setDevice) h old =
           permit-set (atReceivingEnd c e) refl (h .fits .below) (set-held h .in-turn) (effect c (flat p (walks setDevice)) e .own) refl old
@@ -208,9 +208,9 @@ module _ (c : Settings) (b : Bool) where
           (λ r m. subst (λ (v : Walk). MayHold v r) (is-turn (t .walk) p act.Acknowledge (acknowledge-held h .in-turn)) m) old
       permits-kept (walks key) h old =
           permit-set (atReceivingEnd c e) refl (h .fits .below) (key-held h .in-turn) (effect c (flat p (walks key)) e .own) refl old
-      permits-kept (runs m y) h old = permit-running (runs m y) h tt old
-      permits-kept (notes k) h old = permit-running (notes k) h tt old
-      permits-kept (releases y) h old = permit-running (releases y) h tt old
+      permits-kept (runs m y) h old = permit-running (runs m y) h refl old
+      permits-kept (notes k) h old = permit-running (notes k) h refl old
+      permits-kept (releases y) h old = permit-running (releases y) h refl old
 
     -- ## The whole
 
@@ -235,7 +235,7 @@ module _ (c : Settings) (b : Bool) where
 abbrev pub NoTrain : Settings → Track → Type 0
 NoTrain c t = (i : ℕ) → suc i < c .posts → getD (t .trains) i 0 ≡ 0
 
-pub all-free : (c : Settings) (b : Bool) (t : Track) (p : ℕ) → T (isLast (c .posts) (upward b (t .cvt)) p)
+pub all-free : (c : Settings) (b : Bool) (t : Track) (p : ℕ) → isLast (c .posts) (upward b (t .cvt)) p ≡ true
     → ClearedBelow c b (t .cvt) (Turn p act.Set) (t .trains) → NoTrain c t
 all-free c b t p hr clear i h =
     let e : suc (rankOn c b (t .cvt) p) ≡ c .posts = last-rank (c .posts) (upward b (t .cvt)) p hr in
@@ -243,7 +243,7 @@ all-free c b t p hr clear i h =
     rw (block-block (c .posts) (upward b (t .cvt)) i h) at (clear (block (c .posts) (upward b (t .cvt)) i) (cleared-all c b (t .cvt) p _ e l) l)
 
 -- a turn at the last post, with its act set
-pub last-free : (c : Settings) (b : Bool) (t : Track) (p : ℕ) → T (isLast (c .posts) (upward b (t .cvt)) p) → T (isTurn (t .walk) p act.Set)
+pub last-free : (c : Settings) (b : Bool) (t : Track) (p : ℕ) → isLast (c .posts) (upward b (t .cvt)) p ≡ true → isTurn (t .walk) p act.Set ≡ true
     → ClearedBelow c b (t .cvt) (t .walk) (t .trains) → NoTrain c t
 last-free c b t p hr hw clear =
     all-free c b t p hr (subst (λ (w : Walk). ClearedBelow c b (t .cvt) w (t .trains)) (is-turn (t .walk) p act.Set hw) clear)

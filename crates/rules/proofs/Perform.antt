@@ -1,10 +1,10 @@
 -- Performing accepted steps from a section, and the steps of a reversal, which are held back so that other steps go before them. A step that
 -- changes places with each of them goes before them all; where the track is empty at the end, it was empty throughout, and they are performed.
 use Prim.Native.Nat.{ℕ}
-use mathlib.Core.Bool.{Bool, true, false, not}
+use mathlib.Core.Bool.{Bool, true, false, not, false≢true}
 use mathlib.Core.Path.{_≡_, refl, sym, ap, _∙_, subst}
 use mathlib.Core.List.{List, [], _∷_, _++_}
-use lib.Dec.{T}
+use borrow.Author.Tests.{not-true}
 use Rattle.section.specs.declared.Settings.{Settings}
 use Rattle.section.specs.declared.Answer.{Answer}
 use Rattle.section.specs.declared.Verdict.the-variants.{Accepted}
@@ -28,7 +28,7 @@ use Rattle.rules.proofs.Reached.{Reached, reached-kept, reached-in-rang
 use Rattle.rules.proofs.UnderWay.{Agrees, agrees-kept, under-way}
 
 not-settled : (w : Walk) → w ≡ Settled → isSettled w ≡ false → ⊥
-not-settled w q e = let z : T (isSettled w) = rw q tt in rw e at z
+not-settled w q e = false≢true (sym e ∙ ap isSettled q)
 
 module _ (c : Settings) where
   -- an accepted step on track b: its bytes, what they say, and what was said
@@ -98,19 +98,14 @@ module _ (c : Settings) where
       settled-not : (d : Bool) → underWay (c .posts) d (behind ++ i .as-accepted ∷ []) ≡ true
           → isSettled (trackOf (sectionAfterStep c s (stepOf b i)) d .walk) ≡ false
       settled-not d u =
-          go (isSettled (trackOf (sectionAfterStep c s (stepOf b i)) d .walk))
-          (sym (under-way c (sectionAfterStep c s (stepOf b i)) (behind ++ i .as-accepted ∷ []) after d) ∙ u)
-        where
-          go : (x : Bool) → not x ≡ true → x ≡ false
-          go true e = sym e
-          go false e = refl
+          not-true _ (sym (under-way c (sectionAfterStep c s (stepOf b i)) (behind ++ i .as-accepted ∷ []) after d) ∙ u)
 
   -- ## The steps held back: they move no train and leave the running direction
 
   pub record LateStep (b : Bool) (s : Section) (i : DecodedStep b) : Type 0 where
     pub ok : AcceptedIn c s (stepOf b i)
     pub said : saidIn c s (stepOf b i) ≡ i .as-accepted .said
-    pub moves-none : T (movesNoTrain (i .kind))
+    pub moves-none : movesNoTrain (i .kind) ≡ true
     pub cvt-kept : trackOf (sectionAfterStep c s (stepOf b i)) b .cvt ≡ trackOf s b .cvt
 
   abbrev pub Late : (b : Bool) → Section → List (DecodedStep b) → Section → Type 0
@@ -122,7 +117,7 @@ module _ (c : Settings) where
   late-last b [] s end i e h = (subst (λ w. LateStep b w i) (sym e) h, ap (λ w. sectionAfterStep c w (stepOf b i)) e)
   late-last b (j ∷ is) s end i l h = (l .0, late-last b is (sectionAfterStep c s (stepOf b j)) end i (l .1) h)
 
-  pub late-unmoved : (b : Bool) (is : List (DecodedStep b)) (s end : Section) → Late b s is end → All (λ (i : DecodedStep b). T (movesNoTrain (i .kind))) is
+  pub late-unmoved : (b : Bool) (is : List (DecodedStep b)) (s end : Section) → Late b s is end → All (λ (i : DecodedStep b). movesNoTrain (i .kind) ≡ true) is
   late-unmoved b [] s end l = tt
   late-unmoved b (i ∷ is) s end l = (l .0 .moves-none, late-unmoved b is (sectionAfterStep c s (stepOf b i)) end (l .1))
 
@@ -146,7 +141,7 @@ module _ (c : Settings) where
       (late-performed b is (sectionAfterStep c s (stepOf b i)) end (l .1) w₁ f)
 
   -- a step that leaves walk and direction, and changes places with each of them goes before them all
-  pub goes-first : (b : Bool) (x : Seen) (P : DecodedStep b → Type 0) → T (keepsRunning (x .kind))
+  pub goes-first : (b : Bool) (x : Seen) (P : DecodedStep b → Type 0) → keepsRunning (x .kind) ≡ true
       → ((s : Section) (i : DecodedStep b) → P i → LateStep b s i → AcceptedIn c (sectionAfterStep c s (stepOf b i)) x → Exchanged c s (stepOf b i) x)
       → (is : List (DecodedStep b)) (s end : Section) → All P is → Late b s is end → AcceptedIn c end x
       → AcceptedIn c s x × Late b (sectionAfterStep c s x) is (sectionAfterStep c end x)

@@ -2,11 +2,12 @@
 -- goes to a post that the section has.
 use Prim.Native.Nat.{ℕ, suc, _-_, _≤_, _<_}
 use mathlib.Core.Bool.{Bool, true, false, cond, not}
-use mathlib.Core.Path.{_≡_, refl, subst}
+use mathlib.Core.Path.{_≡_, refl, ap, subst}
 use mathlib.Core.List.{List}
 use native.Mathlib.Omega.{arith}
 use lib.ListN.{getD, set}
-use lib.Dec.{T, ltb, ltb→lt, lt→ltb}
+use lib.Dec.{ltb}
+use borrow.Author.Tests.{ltb-true, eqb-false, lt-ltb, not-true}
 use Rattle.section.specs.declared.Settings.{Settings}
 use Rattle.section.specs.declared.Post.{Post}
 use Rattle.section.specs.declared.Act.the-variants as act
@@ -18,14 +19,13 @@ use Rattle.section.specs.Numbers.{mostSeals, largestTrain}
 use Rattle.section.specs.Post.{blank}
 use Rattle.section.specs.Range.{actInRange, walkInRange, trackInRange}
 use Rattle.section.specs.Store.{postOn}
-use Rattle.section.proofs.Laws.{track-ranges, ranges-hold, set-keeps}
+use Rattle.section.proofs.Laws.{track-ranges, ranges-hold, set-keeps, and-left, and-right, both}
 use Rattle.rules.specs.declared.Site.{Site}
 use Rattle.rules.specs.declared.Movement.{Movement}
 use Rattle.rules.specs.declared.Movement.the-variants.{Stays, Enters, Moves, Leaves}
 use Rattle.rules.specs.Site.{siteOn, isTurn, atReceivingEnd}
 use Rattle.rules.specs.Table.{checks, effect, vacated, cellsAfter, trackAfter}
-use Rattle.rules.proofs.Facts.{and-l, and-r, and-i, T-true, true-T, neqb→ne, false-T, next-rank, next-lt, not-first-rank, rank-not-first, not-last-rank}
-use Rattle.rules.proofs.Facts.{rank-not-last}
+use Rattle.rules.proofs.Facts.{next-rank, next-lt, not-first-rank, rank-not-first, not-last-rank, rank-not-last}
 use Rattle.rules.proofs.View.{order, setDevice, announce, acknowledge, key, start, pass, leave, View, walks, runs, notes, releases, flat}
 use Rattle.rules.proofs.Frame.{is-turn, running-kept, no-movement}
 use Rattle.rules.proofs.Accept.{AcceptedOn, trackAfterStep}
@@ -44,27 +44,26 @@ module _ (c : Settings) (b : Bool) where
   TurnFits cvt (Turn p act.Announce) = (p < c .posts) × (suc (rankOn cvt p) < c .posts)
   TurnFits cvt (Turn p act.Acknowledge) = (p < c .posts) × (0 < rankOn cvt p)
 
-  turn-in : (cvt : Bool) (w : Walk) → T (walkInRange (c .posts) (upward b cvt) w) → TurnFits cvt w
+  turn-in : (cvt : Bool) (w : Walk) → walkInRange (c .posts) (upward b cvt) w ≡ true → TurnFits cvt w
   unfolding walkInRange actInRange
   turn-in cvt Settled h = tt
-  turn-in cvt (Turn p act.Set) h = ltb→lt p (c .posts) (and-l (ltb p (c .posts)) true h)
+  turn-in cvt (Turn p act.Set) h = ltb-true p (c .posts) (and-left (ltb p (c .posts)) true h)
   turn-in cvt (Turn p act.Announce) h =
-      let p<n : p < c .posts = ltb→lt p (c .posts) (and-l (ltb p (c .posts)) (not (isLast (c .posts) (upward b cvt) p)) h) in
-      (p<n, not-last-rank (c .posts) (upward b cvt) p p<n (and-r (ltb p (c .posts)) (not (isLast (c .posts) (upward b cvt) p)) h))
+      let p<n : p < c .posts = ltb-true p (c .posts) (and-left (ltb p (c .posts)) (not (isLast (c .posts) (upward b cvt) p)) h) in
+      (p<n, not-last-rank (c .posts) (upward b cvt) p p<n (not-true _ (and-right (ltb p (c .posts)) (not (isLast (c .posts) (upward b cvt) p)) h)))
   turn-in cvt (Turn p act.Acknowledge) h = (
-    ltb→lt p (c .posts) (and-l (ltb p (c .posts)) (not (isFirst (c .posts) (upward b cvt) p)) h),
-    omega (arith, not-first-rank (c .posts) (upward b cvt) p (and-r (ltb p (c .posts)) (not (isFirst (c .posts) (upward b cvt) p)) h)),
+    ltb-true p (c .posts) (and-left (ltb p (c .posts)) (not (isFirst (c .posts) (upward b cvt) p)) h),
+    omega (arith, not-first-rank (c .posts) (upward b cvt) p (not-true _ (and-right (ltb p (c .posts)) (not (isFirst (c .posts) (upward b cvt) p)) h))),
   )
 
-  turn-out : (cvt : Bool) (w : Walk) → TurnFits cvt w → T (walkInRange (c .posts) (upward b cvt) w)
+  turn-out : (cvt : Bool) (w : Walk) → TurnFits cvt w → walkInRange (c .posts) (upward b cvt) w ≡ true
   unfolding walkInRange actInRange
-  turn-out cvt Settled h = tt
-  turn-out cvt (Turn p act.Set) h = and-i (ltb p (c .posts)) true (lt→ltb p (c .posts) h) tt
+  turn-out cvt Settled h = refl
+  turn-out cvt (Turn p act.Set) h = both (lt-ltb p (c .posts) h) refl
   turn-out cvt (Turn p act.Announce) h =
-      and-i (ltb p (c .posts)) (not (isLast (c .posts) (upward b cvt) p)) (lt→ltb p (c .posts) (h .0)) (rank-not-last (c .posts) (upward b cvt) p (h .1))
+      both (lt-ltb p (c .posts) (h .0)) (ap not (rank-not-last (c .posts) (upward b cvt) p (h .1)))
   turn-out cvt (Turn p act.Acknowledge) h =
-      and-i (ltb p (c .posts)) (not (isFirst (c .posts) (upward b cvt) p)) (lt→ltb p (c .posts) (h .0))
-      (rank-not-first (c .posts) (upward b cvt) p (omega arith))
+      both (lt-ltb p (c .posts) (h .0)) (ap not (rank-not-first (c .posts) (upward b cvt) p (omega arith)))
 
   -- ## The track
 
@@ -77,12 +76,12 @@ module _ (c : Settings) (b : Bool) where
   pub track-in : (t : Track) → trackInRange (c .posts) b t ≡ true → InRange t
   track-in t h =
       let r = track-ranges (c .posts) b t h in
-      record { seals = r .seals; trains = r .trains; last = r .last; turn = turn-in (t .cvt) (t .walk) (true-T _ (r .walk)) }
+      record { seals = r .seals; trains = r .trains; last = r .last; turn = turn-in (t .cvt) (t .walk) (r .walk) }
 
   pub track-out : (t : Track) → InRange t → trackInRange (c .posts) b t ≡ true
   track-out t r =
       ranges-hold (c .posts) b t
-      (record { seals = r .seals; trains = r .trains; last = r .last; walk = T-true _ (turn-out (t .cvt) (t .walk) (r .turn)) })
+      (record { seals = r .seals; trains = r .trains; last = r .last; walk = turn-out (t .cvt) (t .walk) (r .turn) })
 
   -- ## Kept by an accepted step
 
@@ -117,11 +116,11 @@ module _ (c : Settings) (b : Bool) where
 
     movement-fits : (k : View) → AcceptedOn c v b p k t → MovementFits (effect c (flat p k) e .train)
     unfolding MovementFits effect flat
-    movement-fits (walks r) h = rw (no-movement c p (walks r) e tt) tt
+    movement-fits (walks r) h = rw (no-movement c p (walks r) e refl) tt
     movement-fits (runs start z) h = h .fits .number .1
     movement-fits (runs pass z) h = h .fits .number .1
     movement-fits (runs leave z) h = tt
-    movement-fits (notes k) h = rw (no-movement c p (notes k) e tt) tt
+    movement-fits (notes k) h = rw (no-movement c p (notes k) e refl) tt
     movement-fits (releases z) h = tt
 
     -- a key is refused at 999
@@ -131,19 +130,19 @@ module _ (c : Settings) (b : Bool) where
     seals-fit (walks setDevice) h o = o
     seals-fit (walks announce) h o = o
     seals-fit (walks acknowledge) h o = o
-    seals-fit (walks key) h o = omega (arith, neqb→ne (e .own .seals) mostSeals (key-held h .seal-left))
-    seals-fit (runs m z) h o = rw (running-kept c p (runs m z) e tt .seals) o
-    seals-fit (notes k) h o = rw (running-kept c p (notes k) e tt .seals) o
+    seals-fit (walks key) h o = omega (arith, eqb-false (e .own .seals) mostSeals (key-held h .seal-left))
+    seals-fit (runs m z) h o = rw (running-kept c p (runs m z) e refl .seals) o
+    seals-fit (notes k) h o = rw (running-kept c p (notes k) e refl .seals) o
     seals-fit (releases z) h o = o
 
     -- set or key: announce is next, unless it was at the last post
     set-turn : (last : Bool) → isLast (c .posts) (upward b (t .cvt)) p ≡ last → p < c .posts
         → TurnFits (cond last (not (t .cvt)) (t .cvt)) (cond last Settled (Turn p act.Announce))
     set-turn true q p<n = tt
-    set-turn false q p<n = (p<n, not-last-rank (c .posts) (upward b (t .cvt)) p p<n (false-T (isLast (c .posts) (upward b (t .cvt)) p) q))
+    set-turn false q p<n = (p<n, not-last-rank (c .posts) (upward b (t .cvt)) p p<n q)
 
     -- the post after the one that announces
-    pub announce-next : T (isTurn (t .walk) p act.Announce) → TurnFits (t .cvt) (t .walk) → suc (rankOn (t .cvt) p) < c .posts
+    pub announce-next : isTurn (t .walk) p act.Announce ≡ true → TurnFits (t .cvt) (t .walk) → suc (rankOn (t .cvt) p) < c .posts
     announce-next h f = (subst (TurnFits (t .cvt)) (is-turn (t .walk) p act.Announce h) f) .1
 
     turn-kept : (k : View) → AcceptedOn c v b p k t → TurnFits (t .cvt) (t .walk) → TurnFits (effect c (flat p k) e .cvt) (effect c (flat p k) e .walk)
@@ -155,8 +154,8 @@ module _ (c : Settings) (b : Bool) where
         (next-lt (c .posts) (upward b (t .cvt)) p (h .fits .below) n, omega (arith, next-rank (c .posts) (upward b (t .cvt)) p (h .fits .below) n))
     turn-kept (walks acknowledge) h f = h .fits .below
     turn-kept (walks key) h f = set-turn (atReceivingEnd c e) refl (h .fits .below)
-    turn-kept (runs m z) h f = rw (running-kept c p (runs m z) e tt .walk, running-kept c p (runs m z) e tt .cvt) f
-    turn-kept (notes k) h f = rw (running-kept c p (notes k) e tt .walk, running-kept c p (notes k) e tt .cvt) f
+    turn-kept (runs m z) h f = rw (running-kept c p (runs m z) e refl .walk, running-kept c p (runs m z) e refl .cvt) f
+    turn-kept (notes k) h f = rw (running-kept c p (notes k) e refl .walk, running-kept c p (notes k) e refl .cvt) f
     turn-kept (releases z) h f = f
 
     pub in-range-kept : (k : View) → AcceptedOn c v b p k t → InRange t → InRange (trackAfterStep c b p k t)

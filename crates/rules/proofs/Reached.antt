@@ -1,14 +1,13 @@
 -- The invariant of the sections that are reached from a fresh one: each track is sound, and at most one is not settled on VNS. The fresh section
 -- has it, an accepted step keeps it, and it implies the ranges.
 use Prim.Native.Nat.{ℕ, _-_, _≤_, _<_}
-use mathlib.Core.Bool.{Bool, true, false, cond, not, _||_}
+use mathlib.Core.Bool.{Bool, true, false, cond, not, _||_, false≢true, or-comm}
 use mathlib.Core.Path.{_≡_, refl, _∙_}
 use mathlib.Core.List.{List}
 use native.Mathlib.Omega.{arith}
 use native.Mathlib.Decide.{ℕ-discrete}
 use lib.ListN.{getD, set, length-set, replicate, getD-replicate}
 use lib.Seq.{getD-set-other}
-use lib.Dec.{T}
 use Rattle.section.specs.declared.Settings.{Settings}
 use Rattle.section.specs.declared.Post.{Post}
 use Rattle.section.specs.declared.Act.the-variants as act
@@ -26,7 +25,7 @@ use Rattle.section.proofs.Laws.{posts-right, set-keeps}
 use Rattle.rules.specs.Site.{settledOnVns, otherSettledOnVns, occupancyAt}
 use Rattle.rules.specs.Table.{effect, trackAfter}
 use Rattle.rules.specs.Judge.{judge}
-use Rattle.rules.proofs.Facts.{or-right, or-swap, by-track, replicate-keeps}
+use Rattle.rules.proofs.Facts.{or-right, by-track, replicate-keeps}
 use Rattle.rules.proofs.View.{order, setDevice, announce, acknowledge, key, View, walks, runs, notes, releases, flat, Seen}
 use Rattle.rules.proofs.Frame.{is-turn, is-settled}
 use Rattle.rules.proofs.Accept.{AcceptedOn, trackAfterStep, AcceptedIn, sectionAfterStep, Judged, refused, accepted, judged}
@@ -41,16 +40,16 @@ module _ (c : Settings) where
     pub settings : s .settings ≡ c
     pub sound : (b : Bool) → Sound c b (trackOf s b)
     -- at most one track is not settled on VNS
-    pub single : (b : Bool) → T (settledOnVns (trackOf s b) || otherSettledOnVns s b)
+    pub single : (b : Bool) → (settledOnVns (trackOf s b) || otherSettledOnVns s b) ≡ true
 
   -- ## Kept by every accepted step
 
-  single-kept : (v b : Bool) (p : ℕ) (k : View) (t : Track) → AcceptedOn c v b p k t → T (settledOnVns t || v)
-      → T (settledOnVns (trackAfterStep c b p k t) || v)
+  single-kept : (v b : Bool) (p : ℕ) (k : View) (t : Track) → AcceptedOn c v b p k t → (settledOnVns t || v) ≡ true
+      → (settledOnVns (trackAfterStep c b p k t) || v) ≡ true
   unfolding trackAfter effect flat occupancyAt
   single-kept v b p (walks order) t h o = go (t .cvt) (order-held h .allowed) (rw (is-settled (t .walk) (order-held h .settled)) at o)
     where
-      go : (d : Bool) → T (d || v) → T (not d || v) → T v
+      go : (d : Bool) → (d || v) ≡ true → (not d || v) ≡ true → v ≡ true
       go true u w = w
       go false u w = u
   single-kept v b p (walks setDevice) t h o =
@@ -59,8 +58,8 @@ module _ (c : Settings) where
   single-kept v b p (walks acknowledge) t h o = rw (is-turn (t .walk) p act.Acknowledge (acknowledge-held h .in-turn)) at o
   single-kept v b p (walks key) t h o =
       or-right (settledOnVns (trackAfterStep c b p (walks key) t)) v (rw (is-turn (t .walk) p act.Set (key-held h .in-turn)) at o)
-  single-kept v b p (runs m z) t h o = rw (vns-kept c b p (runs m z) t tt) o
-  single-kept v b p (notes k) t h o = rw (vns-kept c b p (notes k) t tt) o
+  single-kept v b p (runs m z) t h o = rw (vns-kept c b p (runs m z) t refl) o
+  single-kept v b p (notes k) t h o = rw (vns-kept c b p (notes k) t refl) o
   single-kept v b p (releases z) t h o = o
 
   other-other : (s : Section) (b : Bool) → trackOf s (not (not b)) ≡ trackOf s b
@@ -72,8 +71,8 @@ module _ (c : Settings) where
   reached-kept n16 s x h r = record {
     settings = settings-after c s x ∙ r .settings;
     sound = by-track (λ d. Sound c d (trackOf after d)) b (rw here (sound-kept c b v (trackOf s b) p n16 k h (r .sound b))) (rw there (r .sound (not b)));
-    single = by-track (λ d. T (settledOnVns (trackOf after d) || otherSettledOnVns after d)) b (rw (here, there) one)
-        (rw (other-other after b, here, there) (or-swap (settledOnVns (trackAfterStep c b p k (trackOf s b))) v one));
+    single = by-track (λ d. (settledOnVns (trackOf after d) || otherSettledOnVns after d) ≡ true) b (rw (here, there) one)
+        (rw (other-other after b, here, there) (or-comm v (settledOnVns (trackAfterStep c b p k (trackOf s b))) ∙ one));
   }
     where
       b : Bool
@@ -97,20 +96,20 @@ module _ (c : Settings) where
       there : trackOf after (not b) ≡ trackOf s (not b)
       there = there-after c s b p k
 
-      one : T (settledOnVns (trackAfterStep c b p k (trackOf s b)) || v)
+      one : (settledOnVns (trackAfterStep c b p k (trackOf s b)) || v) ≡ true
       one = single-kept v b p k (trackOf s b) h (r .single b)
 
   -- ## The fresh section
 
-  fresh-only : (e p : ℕ) (o : Post) → p < mostPosts → T (getD (set (replicate mostPosts blank) e o) p blank .permission) → p ≡ e
+  fresh-only : (e p : ℕ) (o : Post) → p < mostPosts → getD (set (replicate mostPosts blank) e o) p blank .permission ≡ true → p ≡ e
   fresh-only e p o h t = go (ℕ-discrete p e)
     where
       go : Dec (p ≡ e) → p ≡ e
       go (yes q) = q
-      go (no ne) = absurd (rw (getD-set-other (replicate mostPosts blank) e p o blank ne, getD-replicate mostPosts p blank blank h) at t)
+      go (no ne) = absurd (false≢true (rw (getD-set-other (replicate mostPosts blank) e p o blank ne, getD-replicate mostPosts p blank blank h) at t))
 
   module _ (n2 : leastPosts ≤ c .posts) (n16 : c .posts ≤ mostPosts) where
-    fresh-permits : (b : Bool) (p : ℕ) → p < c .posts → T (getD (freshTrack (c .posts) b .posts) p blank .permission) → rank (c .posts) (upward b false) p ≡ 0
+    fresh-permits : (b : Bool) (p : ℕ) → p < c .posts → getD (freshTrack (c .posts) b .posts) p blank .permission ≡ true → rank (c .posts) (upward b false) p ≡ 0
     unfolding freshTrack rank upward
     fresh-permits false p p<n h = fresh-only 0 p (permitted true blank) (omega arith) h
     fresh-permits true p p<n h = omega (arith, fresh-only (c .posts - 1) p (permitted true blank) (omega arith) h)
@@ -130,10 +129,10 @@ module _ (c : Settings) where
       };
     }
 
-    fresh-single : (b : Bool) → T (settledOnVns (trackOf (freshSection c) b) || otherSettledOnVns (freshSection c) b)
+    fresh-single : (b : Bool) → (settledOnVns (trackOf (freshSection c) b) || otherSettledOnVns (freshSection c) b) ≡ true
     unfolding freshSection freshTrack
-    fresh-single true = tt
-    fresh-single false = tt
+    fresh-single true = refl
+    fresh-single false = refl
 
     pub fresh-reached : Reached (freshSection c)
     unfolding freshSection

@@ -4,7 +4,8 @@ use Prim.Native.Nat.{ℕ, _≤_, _<_}
 use mathlib.Core.Bool.{true}
 use mathlib.Core.Path.{_≡_}
 use mathlib.Core.List.{List}
-use lib.Dec.{T, eqb, leb→le}
+use lib.Dec.{eqb}
+use borrow.Author.Tests.{leb-true}
 use Rattle.section.specs.declared.Step.{Step}
 use Rattle.section.specs.declared.TrackStep.{TrackStep}
 use Rattle.section.specs.declared.Decoded.the-variants.{Well}
@@ -12,7 +13,7 @@ use Rattle.section.specs.Bytes.{byte, le16, within}
 use Rattle.section.specs.Numbers.{largestTrain}
 use Rattle.section.specs.Step.{decoded, numberWellFormed, kindOf, postOf, numberOf}
 use Rattle.section.proofs.Codec.{decoded-track, decoded-kind, decoded-post, decoded-number, decoded-post-below, decoded-number-well-formed}
-use Rattle.rules.proofs.Facts.{true-T, within→}
+use Rattle.rules.proofs.Facts.{within→}
 use Rattle.rules.proofs.View.{start, pass, leave, View, walks, runs, notes, releases, flat, view, flat-view}
 
 -- ## A step whose post is below n, and whose number is in the range of its kind
@@ -27,14 +28,14 @@ pub record Fits (n p : ℕ) (k : View) : Type 0 where
   pub below : p < n
   pub number : NumberFits k
 
-number-fits : (p : ℕ) (k : View) → T (numberWellFormed (kindOf (flat p k)) (numberOf (flat p k))) → NumberFits k
+number-fits : (p : ℕ) (k : View) → numberWellFormed (kindOf (flat p k)) (numberOf (flat p k)) ≡ true → NumberFits k
 unfolding numberWellFormed within kindOf numberOf flat
 number-fits p (walks r) h = tt
 number-fits p (runs start z) h = within→ 1 largestTrain z h
 number-fits p (runs pass z) h = within→ 1 largestTrain z h
 number-fits p (runs leave z) h = within→ 1 largestTrain z h
 number-fits p (notes k) h = tt
-number-fits p (releases z) h = leb→le z largestTrain h
+number-fits p (releases z) h = leb-true z largestTrain h
 
 -- ## Bytes
 
@@ -57,7 +58,7 @@ decoded-says n bytes x e = record {
   fields = record {
     fits = record {
       below = decoded-post-below n bytes x e;
-      number = number-fits (postOf (x .step)) (view (x .step)) (rw (flat-view (x .step)) (true-T _ (decoded-number-well-formed n bytes x e)));
+      number = number-fits (postOf (x .step)) (view (x .step)) (rw (flat-view (x .step)) (decoded-number-well-formed n bytes x e));
     };
     post-is = decoded-post n bytes x e;
     kind-is = decoded-kind n bytes x e;

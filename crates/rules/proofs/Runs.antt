@@ -9,7 +9,8 @@ use mathlib.Core.Option.{Option, none, some}
 use native.Mathlib.Omega.{arith}
 use native.Mathlib.Decide.{ℕ-discrete}
 use lib.ListN.{getD, length, length-append}
-use lib.Dec.{T, eqb, eqb→eq}
+use lib.Dec.{eqb}
+use borrow.Author.Tests.{eqb-true, eqb-false, ne-eqb}
 use Rattle.section.specs.declared.Settings.{Settings}
 use Rattle.section.specs.declared.Track.{Track}
 use Rattle.section.specs.Geometry.{upward, rank, block}
@@ -17,7 +18,6 @@ use Rattle.section.proofs.Laws.{block-lt, block-block}
 use Rattle.rules.specs.Demand3.{AcceptedStep, All, Run, notePass, noteLeave, latest, runsOf, hasEnded, OneAfterAnother, otherEnd}
 use Rattle.rules.specs.Demand3.{placeOf, BetweenThePosts, TrainThere, inTurn, LeftAtTheFarEnd, Fate}
 use Rattle.rules.specs.Site.{trainAt}
-use Rattle.rules.proofs.Facts.{neqb→ne, ne→neqb, T-false, true-T, false-T}
 use Rattle.rules.proofs.View.{Motion, start, pass, leave}
 use Rattle.rules.proofs.Stretches.{TrainEnters, TrainMoves, TrainLeaves}
 
@@ -34,7 +34,7 @@ module _ (c : Settings) (n2 : 2 ≤ c .posts) where
   pub up-from : (up : Bool) → eqb (rank (c .posts) up 0) 0 ≡ up
   unfolding rank
   up-from true = refl
-  up-from false = T-false (eqb (c .posts - 1) 0) (ne→neqb (c .posts - 1) 0 (omega arith))
+  up-from false = ne-eqb (c .posts - 1) 0 (omega arith)
 
   began-at : (up : Bool) → (rank (c .posts) up 0 ≡ 0) ⊎ (rank (c .posts) up 0 ≡ c .posts - 1)
   unfolding rank
@@ -220,9 +220,9 @@ module _ (c : Settings) (n2 : 2 ≤ c .posts) where
       where
         go : (w : Bool) → eqb y z ≡ w → Follows up g z (cond w after runs)
         go true e =
-            let q : y ≡ z = eqb→eq y z (true-T (eqb y z) e) in
+            let q : y ≡ z = eqb-true y z e in
             subst (λ v. Follows up g v after) q (own (subst (λ v. Follows up f v runs) (sym q) h))
-        go false e = other-follows up f g y z runs nz (neqb→ne y z (false-T (eqb y z) e)) t h
+        go false e = other-follows up f g y z runs nz (eqb-false y z e) t h
 
     pub enters-follows : (p : ℕ) → p ≡ rank (c .posts) up 0 → TrainEnters (c .posts) f g y → Follows up f z runs
         → Follows up g z (cond (eqb y z) (noteMotion start p runs) runs)
@@ -246,13 +246,13 @@ module _ (c : Settings) (n2 : 2 ≤ c .posts) where
       go none g = absurd g
       go (some p) g = g
 
-  gone-ended : (runs : List Run) → All Gone runs → All (λ (r : Run). T (hasEnded (r .left))) runs
+  gone-ended : (runs : List Run) → All Gone runs → All (λ (r : Run). hasEnded (r .left) ≡ true) runs
   gone-ended [] h = tt
   gone-ended (r ∷ runs) h = (go (r .left) (h .0), gone-ended runs (h .1))
     where
-      go : (o : Option ℕ) → GoneAs r o → T (hasEnded o)
+      go : (o : Option ℕ) → GoneAs r o → hasEnded o ≡ true
       go none g = absurd g
-      go (some p) g = tt
+      go (some p) g = refl
 
   gone-in-turn : (runs : List Run) → All Gone runs → OneAfterAnother runs
   gone-in-turn [] h = tt

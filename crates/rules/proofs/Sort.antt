@@ -2,13 +2,14 @@
 -- past the turn's post, a condition concerns its own post, so each changes places with the steps held back. At the last set the track is empty,
 -- and they are performed.
 use Prim.Native.Nat.{ℕ, _≤_, _<_}
-use mathlib.Core.Bool.{Bool, true, false, cond, not, _&&_, _||_, Bool·beq}
+use mathlib.Core.Bool.{Bool, true, false, cond, not, _&&_, _||_, Bool·beq, or-false, false≢true, true≢false}
 use mathlib.Core.Path.{_≡_, refl, sym, ap, ap₂, _∙_, subst}
 use mathlib.Core.Logic.{_≢_, _⊎_, inl, inr}
 use mathlib.Core.List.{List, [], _∷_, _++_, append-assoc}
 use native.Mathlib.Omega.{arith}
 use native.Mathlib.Decide.{decLe}
-use lib.Dec.{T, eqb, eqb→eq}
+use lib.Dec.{eqb}
+use borrow.Author.Tests.{eqb-true, ne-eqb, not-true}
 use Rattle.section.specs.declared.Settings.{Settings}
 use Rattle.section.specs.declared.Act.{Act}
 use Rattle.section.specs.declared.Act.the-variants as act
@@ -19,10 +20,11 @@ use Rattle.section.specs.declared.Section.{Section}
 use Rattle.section.specs.Fresh.{freshSection}
 use Rattle.section.specs.Geometry.{upward}
 use Rattle.section.specs.Store.{trackOf}
+use Rattle.section.proofs.Laws.{and-left, and-right}
 use Rattle.rules.specs.Site.{isSettled, isTurn, siteOn, otherSettledOnVns, atSendingEnd, atReceivingEnd, nextPost, occupancyAt}
 use Rattle.rules.specs.Table.{checks, effect, trackAfter}
 use Rattle.rules.specs.Demand3.{AcceptedStep, All, keep, isOfPost, isStepOfTrain, isSpoken}
-use Rattle.rules.proofs.Facts.{and-l, and-r, or-false, true-T, ne→neqb, by-track, next-rank}
+use Rattle.rules.proofs.Facts.{by-track, next-rank}
 use Rattle.rules.proofs.View.{Reversal, order, setDevice, announce, acknowledge, key, Motion, start, pass, leave, Condition, View, walks, runs}
 use Rattle.rules.proofs.View.{notes, releases, flat, post-flat, on}
 use Rattle.rules.proofs.Frame.{is-turn, is-settled, movesNoTrain, keepsRunning, onward}
@@ -48,39 +50,39 @@ module _ (c : Settings) where
   -- ## What an accepted step can be
 
   -- on a settled track: one that leaves walk and direction, or an order
-  settled-kind : (v b : Bool) (p : ℕ) (k : View) (t : Track) → AcceptedOn c v b p k t → t .walk ≡ Settled → T (keepsRunning k) ⊎ (k ≡ walks order)
+  settled-kind : (v b : Bool) (p : ℕ) (k : View) (t : Track) → AcceptedOn c v b p k t → t .walk ≡ Settled → (keepsRunning k ≡ true) ⊎ (k ≡ walks order)
   unfolding checks flat
   settled-kind v b p (walks order) t h e = inr refl
-  settled-kind v b p (walks setDevice) t h e = absurd (rw e at (set-held h .in-turn))
-  settled-kind v b p (walks announce) t h e = absurd (rw e at (announce-held h .in-turn))
-  settled-kind v b p (walks acknowledge) t h e = absurd (rw e at (acknowledge-held h .in-turn))
-  settled-kind v b p (walks key) t h e = absurd (rw e at (key-held h .in-turn))
-  settled-kind v b p (runs m z) t h e = inl tt
-  settled-kind v b p (notes k) t h e = inl tt
-  settled-kind v b p (releases z) t h e = inl tt
+  settled-kind v b p (walks setDevice) t h e = absurd (false≢true (rw e at (set-held h .in-turn)))
+  settled-kind v b p (walks announce) t h e = absurd (false≢true (rw e at (announce-held h .in-turn)))
+  settled-kind v b p (walks acknowledge) t h e = absurd (false≢true (rw e at (acknowledge-held h .in-turn)))
+  settled-kind v b p (walks key) t h e = absurd (false≢true (rw e at (key-held h .in-turn)))
+  settled-kind v b p (runs m z) t h e = inl refl
+  settled-kind v b p (notes k) t h e = inl refl
+  settled-kind v b p (releases z) t h e = inl refl
 
   -- at post q, on a track whose turn is at p: a train rolls on past the turn's post, a condition is noted, the turn's post does something, or
   -- the reversal ends on an empty track
   pub data Does (v b : Bool) (t : Track) (p q : ℕ) (k : View) : Type 0 where
-    movesOn : (m : Motion) (z : ℕ) → k ≡ runs m z → T (onward m) → rankOn c b (t .cvt) p < rankOn c b (t .cvt) q → Does v b t p q k
+    movesOn : (m : Motion) (z : ℕ) → k ≡ runs m z → onward m ≡ true → rankOn c b (t .cvt) p < rankOn c b (t .cvt) q → Does v b t p q k
     notesCondition : (n : Condition) → k ≡ notes n → Does v b t p q k
-    actsInTurn : T (movesNoTrain k) → q ≡ p → (p′ : ℕ) (a′ : Act) → trackAfterStep c b q k t .walk ≡ Turn p′ a′ → trackAfterStep c b q k t .cvt ≡ t .cvt
+    actsInTurn : movesNoTrain k ≡ true → q ≡ p → (p′ : ℕ) (a′ : Act) → trackAfterStep c b q k t .walk ≡ Turn p′ a′ → trackAfterStep c b q k t .cvt ≡ t .cvt
         → rankOn c b (t .cvt) p ≤ rankOn c b (t .cvt) p′ → Does v b t p q k
     endsReversal : trackAfterStep c b q k t .walk ≡ Settled → NoTrain c t → Does v b t p q k
 
   module _ (v b : Bool) (n2 : 2 ≤ c .posts) (t : Track) (p : ℕ) (a : Act) (e : t .walk ≡ Turn p a) (so : Sound c b t) where
-    does-set : (q : ℕ) (k : Reversal) (last : Bool) → atReceivingEnd c (siteOn b q t) ≡ last → T (isTurn (t .walk) q act.Set)
+    does-set : (q : ℕ) (k : Reversal) (last : Bool) → atReceivingEnd c (siteOn b q t) ≡ last → isTurn (t .walk) q act.Set ≡ true
         → trackAfterStep c b q (walks k) t .walk ≡ cond (atReceivingEnd c (siteOn b q t)) Settled (Turn q act.Announce)
         → trackAfterStep c b q (walks k) t .cvt ≡ cond (atReceivingEnd c (siteOn b q t)) (not (t .cvt)) (t .cvt) → Does v b t p q (walks k)
     does-set q k true er hw ew ec =
         endsReversal (ew ∙ ap (λ r. cond r Settled (Turn q act.Announce)) er)
-        (last-free c b t q (true-T (atReceivingEnd c (siteOn b q t)) er) hw (so .clear))
+        (last-free c b t q er hw (so .clear))
     does-set q k false er hw ew ec =
         let eq : q ≡ p = turn-post (t .walk) p q a act.Set e (is-turn (t .walk) q act.Set hw) in
-        actsInTurn tt eq q act.Announce (ew ∙ ap (λ r. cond r Settled (Turn q act.Announce)) er)
+        actsInTurn refl eq q act.Announce (ew ∙ ap (λ r. cond r Settled (Turn q act.Announce)) er)
         (ec ∙ ap (λ r. cond r (not (t .cvt)) (t .cvt)) er) (omega (arith, ap (rankOn c b (t .cvt)) eq))
 
-    does-onward : (q : ℕ) (m : Motion) (z : ℕ) → T (onward m) → AcceptedOn c v b q (runs m z) t → Does v b t p q (runs m z)
+    does-onward : (q : ℕ) (m : Motion) (z : ℕ) → onward m ≡ true → AcceptedOn c v b q (runs m z) t → Does v b t p q (runs m z)
     does-onward q m z o h =
         let f = onward-facts c v b n2 m z q t o h in
         let l : rankOn c b (t .cvt) p ≤ cleared c b (t .cvt) (t .walk) =
@@ -92,28 +94,28 @@ module _ (c : Settings) where
         before : (x y z : ℕ) → x ≤ y → y < z → x < z
         before x y z h k = omega arith
 
-    pub release-turn : (q : ℕ) → T (isTurn (t .walk) q act.Set || (isSettled (t .walk) && atSendingEnd c (siteOn b q t))) → q ≡ p
+    pub release-turn : (q : ℕ) → (isTurn (t .walk) q act.Set || (isSettled (t .walk) && atSendingEnd c (siteOn b q t))) ≡ true → q ≡ p
     release-turn q h =
-        let g : T (isTurn (Turn p a) q act.Set || false) = rw e at h in
-        turn-post (Turn p a) p q a act.Set refl (is-turn (Turn p a) q act.Set (or-false (isTurn (Turn p a) q act.Set) g))
+        let g : (isTurn (Turn p a) q act.Set || false) ≡ true = rw e at h in
+        turn-post (Turn p a) p q a act.Set refl (is-turn (Turn p a) q act.Set (sym (or-false (isTurn (Turn p a) q act.Set)) ∙ g))
 
     does : (k : View) (q : ℕ) → AcceptedOn c v b q k t → Does v b t p q k
     unfolding checks trackAfter effect flat
-    does (walks order) q h = absurd (rw e at (order-held h .settled))
+    does (walks order) q h = absurd (false≢true (rw e at (order-held h .settled)))
     does (walks setDevice) q h = does-set q setDevice (atReceivingEnd c (siteOn b q t)) refl (set-held h .in-turn) refl refl
     does (walks announce) q h =
         let eq : q ≡ p = turn-post (t .walk) p q a act.Announce e (is-turn (t .walk) q act.Announce (announce-held h .in-turn)) in
         let n = next-rank (c .posts) (upward b (t .cvt)) q (h .fits .below) (announce-next c b v t q (announce-held h .in-turn) (so .ranges .turn)) in
-        actsInTurn tt eq (nextPost c (siteOn b q t)) act.Acknowledge refl refl (omega (arith, n, ap (rankOn c b (t .cvt)) eq))
+        actsInTurn refl eq (nextPost c (siteOn b q t)) act.Acknowledge refl refl (omega (arith, n, ap (rankOn c b (t .cvt)) eq))
     does (walks acknowledge) q h =
         let eq : q ≡ p = turn-post (t .walk) p q a act.Acknowledge e (is-turn (t .walk) q act.Acknowledge (acknowledge-held h .in-turn)) in
-        actsInTurn tt eq q act.Set refl refl (omega (arith, ap (rankOn c b (t .cvt)) eq))
+        actsInTurn refl eq q act.Set refl refl (omega (arith, ap (rankOn c b (t .cvt)) eq))
     does (walks key) q h = does-set q key (atReceivingEnd c (siteOn b q t)) refl (key-held h .in-turn) refl refl
-    does (runs start z) q h = absurd (rw e at (start-held h .settled))
-    does (runs pass z) q h = does-onward q pass z tt h
-    does (runs leave z) q h = does-onward q leave z tt h
+    does (runs start z) q h = absurd (false≢true (rw e at (start-held h .settled)))
+    does (runs pass z) q h = does-onward q pass z refl h
+    does (runs leave z) q h = does-onward q leave z refl h
     does (notes k) q h = notesCondition k refl
-    does (releases z) q h = actsInTurn tt (release-turn q (release-held h .in-turn)) p a e refl (omega arith)
+    does (releases z) q h = actsInTurn refl (release-turn q (release-held h .in-turn)) p a e refl (omega arith)
 
   -- ## The order so far
 
@@ -147,54 +149,54 @@ module _ (c : Settings) where
   post-test b i b′ p′ =
       ap₂ (λ w q. Bool·beq w b′ && eqb q p′) (sym (i .says .track-is)) (sym (i .says .fields .post-is) ∙ post-flat (i .post) (i .kind))
 
-  still-no-train : (b : Bool) (i : DecodedStep c b) → T (movesNoTrain (i .kind)) → (z : ℕ) → T (not (isStepOfTrain z (i .as-accepted)))
+  still-no-train : (b : Bool) (i : DecodedStep c b) → movesNoTrain (i .kind) ≡ true → (z : ℕ) → isStepOfTrain z (i .as-accepted) ≡ false
   still-no-train b i j z = rw (own-test (c .posts) (i .as-accepted) (stepOf c b i) (i .says) z) (go (i .kind) j)
     where
-      go : (k : View) → T (movesNoTrain k) → T (not (ofTrain z k))
-      go (walks r) j = tt
-      go (runs m y) j = absurd j
-      go (notes k) j = tt
-      go (releases y) j = tt
+      go : (k : View) → movesNoTrain k ≡ true → ofTrain z k ≡ false
+      go (walks r) j = refl
+      go (runs m y) j = absurd (false≢true j)
+      go (notes k) j = refl
+      go (releases y) j = refl
 
   -- a step is of another post, or of another track, than a late one
   abbrev Apart : (b : Bool) → DecodedStep c b → (d : Bool) → DecodedStep c d → Type 0
-  Apart b x d i = (b′ : Bool) (p′ : ℕ) → T (isOfPost b′ p′ (x .as-accepted)) → T (not (isOfPost b′ p′ (i .as-accepted)))
+  Apart b x d i = (b′ : Bool) (p′ : ℕ) → isOfPost b′ p′ (x .as-accepted) ≡ true → isOfPost b′ p′ (i .as-accepted) ≡ false
 
   pub apart-post : (b : Bool) (x i : DecodedStep c b) → i .post ≢ x .post → Apart b x b i
   apart-post b x i ne b′ p′ t = rw (post-test b i b′ p′) (go (Bool·beq b b′) (rw (post-test b x b′ p′) at t))
     where
-      go : (w : Bool) → T (w && eqb (x .post) p′) → T (not (w && eqb (i .post) p′))
-      go true u = ne→neqb (i .post) p′ (λ e. ne (e ∙ sym (eqb→eq (x .post) p′ u)))
-      go false u = tt
+      go : (w : Bool) → (w && eqb (x .post) p′) ≡ true → (w && eqb (i .post) p′) ≡ false
+      go true u = ne-eqb (i .post) p′ (λ e. ne (e ∙ sym (eqb-true (x .post) p′ u)))
+      go false u = refl
 
   pub apart-track : (b : Bool) (x : DecodedStep c (not b)) (i : DecodedStep c b) → Apart (not b) x b i
   apart-track b x i b′ p′ t = rw (post-test b i b′ p′) (go b b′ (eqb (x .post) p′) (eqb (i .post) p′) (rw (post-test (not b) x b′ p′) at t))
     where
-      go : (b b′ u w : Bool) → T (Bool·beq (not b) b′ && u) → T (not (Bool·beq b b′ && w))
-      go true true u w t = absurd t
-      go true false u w t = tt
-      go false true u w t = tt
-      go false false u w t = absurd t
+      go : (b b′ u w : Bool) → (Bool·beq (not b) b′ && u) ≡ true → (Bool·beq b b′ && w) ≡ false
+      go true true u w t = absurd (false≢true t)
+      go true false u w t = refl
+      go false true u w t = refl
+      go false false u w t = absurd (false≢true t)
 
   module _ (s : Section) (ds : List AcceptedStep) (g : Reversing s ds) where
     -- a step that leaves walk and direction has no owner in common with the late ones
-    pub no-owner : (b : Bool) (x : DecodedStep c b) → T (keepsRunning (x .kind)) → saidIn c s (stepOf c b x) ≡ x .as-accepted .said
+    pub no-owner : (b : Bool) (x : DecodedStep c b) → keepsRunning (x .kind) ≡ true → saidIn c s (stepOf c b x) ≡ x .as-accepted .said
         → All (Apart b x (g .track)) (g .late)
-        → (o : Owner) → T (owns o (x .as-accepted)) → keep (owns o) (allAccepted c (g .track) (g .late)) ≡ []
+        → (o : Owner) → owns o (x .as-accepted) ≡ true → keep (owns o) (allAccepted c (g .track) (g .late)) ≡ []
     no-owner b x j said h (aPost b′ p′) t =
         keep-none (isOfPost b′ p′) (allAccepted c (g .track) (g .late))
-        (accepted-all c (g .track) (Apart b x (g .track)) (λ d. T (not (isOfPost b′ p′ d))) (λ i f. f b′ p′ t) (g .late) h)
+        (accepted-all c (g .track) (Apart b x (g .track)) (λ d. isOfPost b′ p′ d ≡ false) (λ i f. f b′ p′ t) (g .late) h)
     no-owner b x j said h (aTrain z) t =
         keep-none (isStepOfTrain z) (allAccepted c (g .track) (g .late))
-        (accepted-all c (g .track) (λ (i : DecodedStep c (g .track)). T (movesNoTrain (i .kind))) (λ d. T (not (isStepOfTrain z d)))
+        (accepted-all c (g .track) (λ (i : DecodedStep c (g .track)). movesNoTrain (i .kind) ≡ true) (λ d. isStepOfTrain z d ≡ false)
         (λ i f. still-no-train (g .track) i f z) (g .late)
         (late-unmoved c (g .track) (g .late) (g .base) s (g .held)))
     no-owner b x j said h announcers t =
-        absurd (subst (λ w. T (isSpoken w)) (sym said ∙ says-nothing c s b (x .post) (x .kind) j) t)
+        absurd (false≢true (subst (λ w. isSpoken w ≡ true) (sym said ∙ says-nothing c s b (x .post) (x .kind) j) t))
 
     -- ## A step goes before the late ones, or is held back with them
 
-    goes-before : (b : Bool) (x : DecodedStep c b) → T (keepsRunning (x .kind)) → saidIn c s (stepOf c b x) ≡ x .as-accepted .said
+    goes-before : (b : Bool) (x : DecodedStep c b) → keepsRunning (x .kind) ≡ true → saidIn c s (stepOf c b x) ≡ x .as-accepted .said
         → All (Apart b x (g .track)) (g .late)
         → AcceptedIn c (g .base) (stepOf c b x) × Late c (g .track) (sectionAfterStep c (g .base) (stepOf c b x)) (g .late)
         (sectionAfterStep c s (stepOf c b x)) → Onward s ds b x
@@ -228,7 +230,7 @@ module _ (c : Settings) where
     abbrev after : DecodedStep c (g .track) → Track
     after x = trackAfterStep c (g .track) (x .post) (x .kind) (trackOf s (g .track))
 
-    held-back : (x : DecodedStep c (g .track)) → T (movesNoTrain (x .kind)) → AcceptedIn c s (stepOf c (g .track) x)
+    held-back : (x : DecodedStep c (g .track)) → movesNoTrain (x .kind) ≡ true → AcceptedIn c s (stepOf c (g .track) x)
         → saidIn c s (stepOf c (g .track) x) ≡ x .as-accepted .said
         → (p′ : ℕ) (a′ : Act) → after x .walk ≡ Turn p′ a′ → after x .cvt ≡ trackOf s (g .track) .cvt → rk (g .post) ≤ rk p′ → rk (x .post) ≤ rk (g .post)
         → Onward s ds (g .track) x
@@ -253,31 +255,31 @@ module _ (c : Settings) where
 
   -- ## While one track is reversing, the other is settled on VNS
 
-  pub other-vns : (s : Section) (b : Bool) (p : ℕ) (a : Act) → Reached c s → trackOf s b .walk ≡ Turn p a → T (otherSettledOnVns s b)
+  pub other-vns : (s : Section) (b : Bool) (p : ℕ) (a : Act) → Reached c s → trackOf s b .walk ≡ Turn p a → otherSettledOnVns s b ≡ true
   other-vns s b p a r e = go (trackOf s b .walk) e (r .single b)
     where
-      go : (w : Walk) → w ≡ Turn p a → T (isSettled w && not (trackOf s b .cvt) || otherSettledOnVns s b) → T (otherSettledOnVns s b)
+      go : (w : Walk) → w ≡ Turn p a → (isSettled w && not (trackOf s b .cvt) || otherSettledOnVns s b) ≡ true → otherSettledOnVns s b ≡ true
       go Settled f h = let z : _≡_ {A = ℕ} 0 1 = cc in absurd (omega arith)
       go (Turn q a′) f h = h
 
-  pub other-settled : (s : Section) (b : Bool) → T (otherSettledOnVns s b) → trackOf s (not b) .walk ≡ Settled
-  other-settled s b h = is-settled (trackOf s (not b) .walk) (and-l (isSettled (trackOf s (not b) .walk)) (not (trackOf s (not b) .cvt)) h)
+  pub other-settled : (s : Section) (b : Bool) → otherSettledOnVns s b ≡ true → trackOf s (not b) .walk ≡ Settled
+  other-settled s b h = is-settled (trackOf s (not b) .walk) (and-left (isSettled (trackOf s (not b) .walk)) (not (trackOf s (not b) .cvt)) h)
 
   -- so no order is accepted there
-  pub no-second : (s : Section) (b : Bool) (p : ℕ) (a : Act) (q : ℕ) (k : View) → k ≡ walks order → trackOf s b .walk ≡ Turn p a → T (otherSettledOnVns s b)
+  pub no-second : (s : Section) (b : Bool) (p : ℕ) (a : Act) (q : ℕ) (k : View) → k ≡ walks order → trackOf s b .walk ≡ Turn p a → otherSettledOnVns s b ≡ true
       → AcceptedIn c s (on (not b) q k) → ⊥
   unfolding AcceptedIn occupancyAt
   no-second s b p a q k ek w v h =
       let g : AcceptedIn c s (on (not b) q (walks order)) = rw ek at h in
-      let u : T (trackOf s (not b) .cvt || otherSettledOnVns s (not b)) = order-held g .allowed in
-      refuse (trackOf s (not b) .cvt) (and-r (isSettled (trackOf s (not b) .walk)) (not (trackOf s (not b) .cvt)) v) u
+      let u : (trackOf s (not b) .cvt || otherSettledOnVns s (not b)) ≡ true = order-held g .allowed in
+      refuse (trackOf s (not b) .cvt) (not-true _ (and-right (isSettled (trackOf s (not b) .walk)) (not (trackOf s (not b) .cvt)) v)) u
     where
-      back : (b : Bool) → trackOf s b .walk ≡ Turn p a → T (otherSettledOnVns s (not b)) → ⊥
-      back true w t = rw w at t
-      back false w t = rw w at t
+      back : (b : Bool) → trackOf s b .walk ≡ Turn p a → otherSettledOnVns s (not b) ≡ true → ⊥
+      back true w t = false≢true (rw w at t)
+      back false w t = false≢true (rw w at t)
 
-      refuse : (d : Bool) → T (not d) → T (d || otherSettledOnVns s (not b)) → ⊥
-      refuse true x y = x
+      refuse : (d : Bool) → d ≡ false → (d || otherSettledOnVns s (not b)) ≡ true → ⊥
+      refuse true x y = true≢false x
       refuse false x y = back b w y
 
   -- ## Each accepted step
@@ -329,7 +331,7 @@ module _ (c : Settings) where
           May k s₀ i =
               AcceptedIn c (sectionAfterStep c s₀ (stepOf c (g .track) i)) (on (g .track) q k) → Exchanged c s₀ (stepOf c (g .track) i) (on (g .track) q k)
 
-          before : (k : View) → x .kind ≡ k → T (keepsRunning k) → rk s ds g (g .post) < rk s ds g q
+          before : (k : View) → x .kind ≡ k → keepsRunning k ≡ true → rk s ds g (g .post) < rk s ds g q
               → ((s₀ : Section) (i : DecodedStep c (g .track)) → Under i → LateStep c (g .track) s₀ i → May k s₀ i) → Onward s ds (g .track) x
           before k e j lt f =
               goes-before s ds g (g .track) x (rw e j) said
@@ -339,17 +341,17 @@ module _ (c : Settings) where
 
           go : Does (otherSettledOnVns s (g .track)) (g .track) (trackOf s (g .track)) (g .post) q (x .kind) → Onward s ds (g .track) x
           go (movesOn m z e o lt) =
-              before (runs m z) e tt lt
+              before (runs m z) e refl lt
               (λ s₀ i u st. exchange-onward c n2 (g .track) s₀ (i .post) (i .kind) q m z o (st .moves-none) (differ lt i u) (st .cvt-kept) (st .ok))
           go (notesCondition n e) = decide (decLe (rk s ds g q) (rk s ds g (g .post)))
             where
               decide : Dec (rk s ds g q ≤ rk s ds g (g .post)) → Onward s ds (g .track) x
               decide (yes le) =
-                  held-back s ds g x (rw e tt) h said (g .post) (g .act)
-                  (walk-kept c (g .track) q (x .kind) (trackOf s (g .track)) (rw e tt) ∙ g .turns)
-                  (cvt-kept c (g .track) q (x .kind) (trackOf s (g .track)) (rw e tt)) (omega arith) le
+                  held-back s ds g x (rw e refl) h said (g .post) (g .act)
+                  (walk-kept c (g .track) q (x .kind) (trackOf s (g .track)) (rw e refl) ∙ g .turns)
+                  (cvt-kept c (g .track) q (x .kind) (trackOf s (g .track)) (rw e refl)) (omega arith) le
               decide (no nle) =
-                  before (notes n) e tt (omega arith)
+                  before (notes n) e refl (omega arith)
                   (λ s₀ i u st. exchange-note c (g .track) s₀ (i .post) (i .kind) q n (differ (omega arith) i u) (st .ok))
           go (actsInTurn j eq p′ a′ ew ec le) = held-back s ds g x j h said p′ a′ ew ec le (omega (arith, ap (rk s ds g) eq))
           go (endsReversal ew free) = closes x h said ew free
@@ -363,10 +365,10 @@ module _ (c : Settings) where
           go (settled-kind (otherSettledOnVns s (not (g .track))) (not (g .track)) (x .post) (x .kind) (trackOf s (not (g .track))) h
           (other-settled s (g .track) vns))
         where
-          vns : T (otherSettledOnVns s (g .track))
+          vns : otherSettledOnVns s (g .track) ≡ true
           vns = other-vns s (g .track) (g .post) (g .act) r (g .turns)
 
-          go : T (keepsRunning (x .kind)) ⊎ (x .kind ≡ walks order) → Onward s ds (not (g .track)) x
+          go : (keepsRunning (x .kind) ≡ true) ⊎ (x .kind ≡ walks order) → Onward s ds (not (g .track)) x
           go (inl j) =
               goes-before s ds g (not (g .track)) x j said
               (all-map Under (Apart (not (g .track)) x (g .track)) (g .late) (λ i u. apart-track (g .track) x i) (g .under))
@@ -388,7 +390,7 @@ module _ (c : Settings) where
       base = s;
       performed = pf;
       settled-before = ws;
-      held = (record { ok = h; said = said; moves-none = rw e tt; cvt-kept = cvt-same }, refl);
+      held = (record { ok = h; said = said; moves-none = rw e refl; cvt-kept = cvt-same }, refl);
       turns = ap (λ t. t .walk) (here-after c s b (x .post) (x .kind)) ∙ rw e (order-moves b (x .post) (trackOf s b) .0);
       under = (omega arith, tt);
       kept = reordered-last ds first (x .as-accepted) kp;
@@ -403,10 +405,10 @@ module _ (c : Settings) where
     unfolding AcceptedIn by-track settled-kind begins same-track other-track does does-set does-onward goes-before held-back closes
     progress b x h said (settled first pf kp ws) = go (settled-kind (otherSettledOnVns s b) b (x .post) (x .kind) (trackOf s b) h (ws b))
       where
-        still-settled : T (keepsRunning (x .kind)) → (d : Bool) → trackOf (sectionAfterStep c s (stepOf c b x)) d .walk ≡ Settled
+        still-settled : keepsRunning (x .kind) ≡ true → (d : Bool) → trackOf (sectionAfterStep c s (stepOf c b x)) d .walk ≡ Settled
         still-settled j d = walks-kept c s b (x .post) (x .kind) j d ∙ ws d
 
-        go : T (keepsRunning (x .kind)) ⊎ (x .kind ≡ walks order) → Onward s ds b x
+        go : (keepsRunning (x .kind) ≡ true) ⊎ (x .kind ≡ walks order) → Onward s ds b x
         go (inl j) =
             settled (first ++ x .as-accepted ∷ []) (performed-append c (x .as-accepted ∷ []) pf (performed-one c s b x h said (still-settled j)))
             (reordered-last ds first (x .as-accepted) kp) (still-settled j)
@@ -428,7 +430,7 @@ module _ (c : Settings) where
   sorted s ds (reversing g) h = absurd (no-turn (trackOf s (g .track) .walk) (g .turns) (h (g .track)))
     where
       no-turn : (w : Walk) → w ≡ Turn (g .post) (g .act) → isSettled w ≡ true → ⊥
-      no-turn w e f = true-T (isSettled (Turn (g .post) (g .act))) (rw e at f)
+      no-turn w e f = false≢true (rw e at f)
 
   unfoldable pub fresh-progress : Progress (freshSection c) []
   fresh-progress = settled [] done reordered-nil (fresh-settled c)

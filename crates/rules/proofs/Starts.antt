@@ -4,7 +4,6 @@ use Prim.Native.Nat.{ℕ, _<_}
 use mathlib.Core.Bool.{Bool, true, false, not}
 use mathlib.Core.Path.{_≡_, refl, sym, ap, _∙_, subst}
 use native.Mathlib.Omega.{arith}
-use lib.Dec.{T}
 use Rattle.section.specs.Numbers.{startKind}
 use Rattle.section.specs.declared.Settings.{Settings}
 use Rattle.section.specs.declared.Said.{Said}
@@ -37,7 +36,7 @@ use Rattle.rules.proofs.Reached.{Reached, reached-in-range}
 module _ (c : Settings) where
   -- a step of kind 5 is a start
   start-first : (v b : Bool) (p : ℕ) (k : View) (t : Track) → kindOf (flat p k) ≡ startKind → AcceptedOn c v b p k t
-      → (rankOn c b (t .cvt) p ≡ 0) × T (isSettled (t .walk))
+      → (rankOn c b (t .cvt) p ≡ 0) × (isSettled (t .walk) ≡ true)
   unfolding checks flat kindOf
   start-first v b p (walks order) t e h = absurd (omega arith)
   start-first v b p (walks setDevice) t e h = absurd (omega arith)
@@ -54,7 +53,7 @@ module _ (c : Settings) where
   start-first v b p (releases z) t e h = absurd (omega arith)
 
   abbrev Sends : Section → Bool → ℕ → Type 0
-  Sends s b p = (p < c .posts) × ((rankOn c b (trackOf s b .cvt) p ≡ 0) × T (isSettled (trackOf s b .walk)))
+  Sends s b p = (p < c .posts) × ((rankOn c b (trackOf s b .cvt) p ≡ 0) × (isSettled (trackOf s b .walk) ≡ true))
 
   not-refused : (v : Verdict) (w : Said) (k : ℕ) → v ≡ Accepted w → v ≡ Refused k → ⊥
   not-refused v w k e f = let z : _≡_ {A = ℕ} 0 1 = cc in omega arith
@@ -69,8 +68,8 @@ module _ (c : Settings) where
   may-start-sends : settingsInRange c ≡ true → (s : Section) (b : Bool) (p : ℕ) → Reached c s → MayStart c s b p → Sends s b p
   may-start-sends right s b p r (permission p<n h) = (p<n, go (trackOf s b .walk) (r .sound b .permits p p<n h))
     where
-      go : (w : Walk) → MayHold c b w (rankOn c b (trackOf s b .cvt) p) → (rankOn c b (trackOf s b .cvt) p ≡ 0) × T (isSettled w)
-      go Settled e = (e, tt)
+      go : (w : Walk) → MayHold c b w (rankOn c b (trackOf s b .cvt) p) → (rankOn c b (trackOf s b .cvt) p ≡ 0) × (isSettled w ≡ true)
+      go Settled e = (e, refl)
       go (Turn q a) e = absurd e
   may-start-sends right s b p r (start d ek et ep ev) =
       subst (λ b. Sends s b p) et (subst (Sends s (track d)) ep (go (judged c s (r .settings) (reached-in-range c right s r) (d .bytes))))
@@ -91,9 +90,5 @@ module _ (c : Settings) where
   starter right s b r p f agrees =
       let a = may-start-sends right s b p r f in (
         sym (rank-rank (c .posts) (upward b (trackOf s b .cvt)) p (a .0)) ∙ ap (rank (c .posts) (upward b (trackOf s b .cvt))) (a .1 .0),
-        agrees ∙ go (isSettled (trackOf s b .walk)) (a .1 .1),
+        agrees ∙ ap not (a .1 .1),
       )
-    where
-      go : (w : Bool) → T w → not w ≡ false
-      go true t = refl
-      go false t = absurd t

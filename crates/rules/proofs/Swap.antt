@@ -1,14 +1,15 @@
 -- Two steps on one track at different posts change places, where the first moves no train and the second notes a condition, passes or leaves.
 -- The second sees nothing that the first changes. The first finds the same or fewer trains where it looks, so its checks still hold.
 use Prim.Native.Nat.{ℕ, suc, _-_, _≤_, _<_}
-use mathlib.Core.Bool.{Bool, true, false, cond, not, _&&_}
-use mathlib.Core.Path.{_≡_, refl, sym, ap, ap₂, _∙_, subst}
+use mathlib.Core.Bool.{Bool, true, false, cond, not, _&&_, false≢true}
+use mathlib.Core.Path.{_≡_, refl, sym, ap, ap₂, _∙_}
 use mathlib.Core.Logic.{_≢_}
 use mathlib.Core.List.{List}
 use native.Mathlib.Omega.{arith}
 use lib.ListN.{getD, set}
 use lib.Seq.{getD-set-other, set-comm, set-getD}
-use lib.Dec.{T, eqb, eqb→eq}
+use lib.Dec.{eqb}
+use borrow.Author.Tests.{eqb-true, not-false, eq-eqb}
 use Rattle.section.specs.declared.Settings.{Settings}
 use Rattle.section.specs.declared.Post.{Post}
 use Rattle.section.specs.declared.Track.{Track}
@@ -21,8 +22,7 @@ use Rattle.rules.specs.declared.Site.{Site}
 use Rattle.rules.specs.Site.{siteOn, Occupancy, isTrain, anyOf, occupancyAt, watchedOccupied, atReceivingEnd, blockAhead, blockBefore}
 use Rattle.rules.specs.Site.{trainAt, trainBefore}
 use Rattle.rules.specs.Table.{checks, effect, cellsAfter, trackAfter}
-use Rattle.rules.proofs.Facts.{eq→eqb, notnot, T-true, false-T, not-first-rank}
-use Rattle.rules.proofs.Facts.{not-last-rank, entered-is, set-zero, any-zero}
+use Rattle.rules.proofs.Facts.{not-first-rank, not-last-rank, entered-is, set-zero, any-zero}
 use Rattle.rules.proofs.View.{order, setDevice, announce, acknowledge, key, Motion, start, pass, leave, Condition, measures, fault, View}
 use Rattle.rules.proofs.View.{walks, runs, notes, releases, flat}
 use Rattle.rules.proofs.Frame.{movesNoTrain, onward, running-kept, no-movement}
@@ -87,8 +87,8 @@ module _ (c : Settings) (v b : Bool) where
   note-moved : (k : Condition) (p : ℕ) (t : Track) → trackAfterStep c b p (notes k) t ≡ withPost t p (noted k p t)
   unfolding trackAfter cellsAfter
   note-moved k p t =
-      let same = running-kept c p (notes k) (siteOn b p t) tt in
-      rw (no-movement c p (notes k) (siteOn b p t) tt, same .walk, same .cvt) refl
+      let same = running-kept c p (notes k) (siteOn b p t) refl in
+      rw (no-movement c p (notes k) (siteOn b p t) refl, same .walk, same .cvt) refl
 
   pub swap-note : (q : ℕ) (l : View) (p : ℕ) (k : Condition) (t : Track) → q ≢ p
       → AcceptedOn c v b q l t → AcceptedOn c v b p (notes k) (trackAfterStep c b q l t) → Swapped q l p (notes k) t
@@ -107,10 +107,10 @@ module _ (c : Settings) (v b : Bool) where
 
   -- ## A pass or a leave at p: it looks at the direction and the trains alone
 
-  onward-checks : (m : Motion) (z p : ℕ) (t t′ : Track) → T (onward m) → t .cvt ≡ t′ .cvt → t .trains ≡ t′ .trains
+  onward-checks : (m : Motion) (z p : ℕ) (t t′ : Track) → onward m ≡ true → t .cvt ≡ t′ .cvt → t .trains ≡ t′ .trains
       → AcceptedOn c v b p (runs m z) t → AcceptedOn c v b p (runs m z) t′
   unfolding checks occupancyAt trainBefore flat
-  onward-checks start z p t t′ i ec et h = absurd i
+  onward-checks start z p t t′ i ec et h = absurd (false≢true i)
   onward-checks pass z p t t′ i ec et h = record { fits = h .fits; held = rw (ec, et) at (h .held) }
   onward-checks leave z p t t′ i ec et h = record { fits = h .fits; held = rw (ec, et) at (h .held) }
 
@@ -120,40 +120,40 @@ module _ (c : Settings) (v b : Bool) where
   abbrev lastOf : Motion → ℕ → ℕ → Track → List ℕ
   lastOf m z p t = trackAfterStep c b p (runs m z) t .last
 
-  onward-moved : (m : Motion) (z p : ℕ) (t : Track) → T (onward m) → trackAfterStep c b p (runs m z) t ≡ withTrains t (trainsOf m z p t) (lastOf m z p t)
+  onward-moved : (m : Motion) (z p : ℕ) (t : Track) → onward m ≡ true → trackAfterStep c b p (runs m z) t ≡ withTrains t (trainsOf m z p t) (lastOf m z p t)
   unfolding trackAfter effect flat
-  onward-moved start z p t i = absurd i
+  onward-moved start z p t i = absurd (false≢true i)
   onward-moved pass z p t i = rw (set-getD (t .posts) p blank) refl
   onward-moved leave z p t i = rw (set-getD (t .posts) p blank) refl
 
-  onward-cells : (clears : Bool) (m : Motion) (z p : ℕ) (t t′ : Track) (l l′ : List ℕ) → T (onward m) → t .cvt ≡ t′ .cvt → l ≡ l′
+  onward-cells : (clears : Bool) (m : Motion) (z p : ℕ) (t t′ : Track) (l l′ : List ℕ) → onward m ≡ true → t .cvt ≡ t′ .cvt → l ≡ l′
       → cellsAfter c clears (effect c (flat p (runs m z)) (siteOn b p t) .train) (siteOn b p t) l
       ≡ cellsAfter c clears (effect c (flat p (runs m z)) (siteOn b p t′) .train) (siteOn b p t′) l′
   unfolding effect flat cellsAfter
-  onward-cells clears start z p t t′ l l′ i ec el = absurd i
+  onward-cells clears start z p t t′ l l′ i ec el = absurd (false≢true i)
   onward-cells clears pass z p t t′ l l′ i ec el = rw (ec, el) refl
   onward-cells clears leave z p t t′ l l′ i ec el = rw (ec, el) refl
 
-  onward-trains : (m : Motion) (z p : ℕ) (t t′ : Track) → T (onward m) → t .cvt ≡ t′ .cvt → t .trains ≡ t′ .trains → trainsOf m z p t ≡ trainsOf m z p t′
+  onward-trains : (m : Motion) (z p : ℕ) (t t′ : Track) → onward m ≡ true → t .cvt ≡ t′ .cvt → t .trains ≡ t′ .trains → trainsOf m z p t ≡ trainsOf m z p t′
   unfolding trackAfter
   onward-trains m z p t t′ i ec et = onward-cells true m z p t t′ (t .trains) (t′ .trains) i ec et
 
-  onward-last : (m : Motion) (z p : ℕ) (t t′ : Track) → T (onward m) → t .cvt ≡ t′ .cvt → t .last ≡ t′ .last → lastOf m z p t ≡ lastOf m z p t′
+  onward-last : (m : Motion) (z p : ℕ) (t t′ : Track) → onward m ≡ true → t .cvt ≡ t′ .cvt → t .last ≡ t′ .last → lastOf m z p t ≡ lastOf m z p t′
   unfolding trackAfter
   onward-last m z p t t′ i ec el = onward-cells false m z p t t′ (t .last) (t′ .last) i ec el
 
   -- a step that moves no train stays acceptable where the trains that it asks for are fewer
   pub record Fewer (e : Site) (g g′ : Occupancy) : Type 0 where
-    pub watched : T (not (g .watched)) → T (not (g′ .watched))
-    pub anywhere : T (not (g .anywhere)) → T (not (g′ .anywhere))
-    pub last-ahead : T (not (atReceivingEnd c e)) → g .lastAhead ≡ g′ .lastAhead
+    pub watched : g .watched ≡ false → g′ .watched ≡ false
+    pub anywhere : g .anywhere ≡ false → g′ .anywhere ≡ false
+    pub last-ahead : atReceivingEnd c e ≡ false → g .lastAhead ≡ g′ .lastAhead
 
-  order-fewer : (e : Site) (g g′ : Occupancy) → Fewer e g g′ → (m : Bool) → T (not (cond m (g .watched) (g .anywhere)))
-      → T (not (cond m (g′ .watched) (g′ .anywhere)))
+  order-fewer : (e : Site) (g g′ : Occupancy) → Fewer e g g′ → (m : Bool) → cond m (g .watched) (g .anywhere) ≡ false
+      → cond m (g′ .watched) (g′ .anywhere) ≡ false
   order-fewer e g g′ f true u = f .watched u
   order-fewer e g g′ f false u = f .anywhere u
 
-  fewer-trains : (l : View) (p : ℕ) (t : Track) (trains last : List ℕ) → T (movesNoTrain l)
+  fewer-trains : (l : View) (p : ℕ) (t : Track) (trains last : List ℕ) → movesNoTrain l ≡ true
       → Fewer (siteOn b p t) (occupancyOn c v b p l t) (occupancyOn c v b p l (withTrains t trains last))
       → AcceptedOn c v b p l t → AcceptedOn c v b p l (withTrains t trains last)
   unfolding occupancyAt
@@ -186,7 +186,7 @@ module _ (c : Settings) (v b : Bool) where
         measures-suffice = k .measures-suffice;
         seal-left = k .seal-left;
       })
-  fewer-trains (runs m z) p t trains last i f h = absurd i
+  fewer-trains (runs m z) p t trains last i f h = absurd (false≢true i)
   fewer-trains (notes k) p t trains last i f h =
       record { fits = h .fits; held = note-checks k p (siteOn b p t) (siteOn b p t) _ _ refl (h .held) }
   fewer-trains (releases z) p t trains last i f h =
@@ -206,8 +206,8 @@ module _ (c : Settings) (v b : Bool) where
     pub number : 0 < z
     pub before : trainAt c b (t .cvt) (t .trains) (rankOn c b (t .cvt) p - 1) ≡ z
 
-  pub onward-facts : 2 ≤ c .posts → (m : Motion) (z p : ℕ) (t : Track) → T (onward m) → AcceptedOn c v b p (runs m z) t → Onward z p t
-  onward-facts n2 start z p t o h = absurd o
+  pub onward-facts : 2 ≤ c .posts → (m : Motion) (z p : ℕ) (t : Track) → onward m ≡ true → AcceptedOn c v b p (runs m z) t → Onward z p t
+  onward-facts n2 start z p t o h = absurd (false≢true o)
   onward-facts n2 pass z p t o h = record {
     below = h .fits .below;
     not-first = not-first-rank (c .posts) (upward b (t .cvt)) p (pass-held h .not-first);
@@ -222,7 +222,7 @@ module _ (c : Settings) (v b : Bool) where
   }
 
   -- so a train is on the track
-  not-empty : (z p : ℕ) (t : Track) → Onward z p t → T (not (anyOf isTrain (c .posts - 1) (t .trains))) → ⊥
+  not-empty : (z p : ℕ) (t : Track) → Onward z p t → anyOf isTrain (c .posts - 1) (t .trains) ≡ false → ⊥
   not-empty z p t w hy =
       let r<n : rankOn c b (t .cvt) p < c .posts = rank-lt (c .posts) (upward b (t .cvt)) p (w .below) in
       let i<n : suc (blockBefore c (siteOn b p t)) < c .posts =
@@ -233,57 +233,56 @@ module _ (c : Settings) (v b : Bool) where
 
   -- a block section that is not ahead of p stays empty, and keeps its last train
   abbrev NotAhead : ℕ → Track → ℕ → Type 0
-  NotAhead p t i = T (not (isLast (c .posts) (upward b (t .cvt)) p)) → i ≢ blockAhead c (siteOn b p t)
+  NotAhead p t i = isLast (c .posts) (upward b (t .cvt)) p ≡ false → i ≢ blockAhead c (siteOn b p t)
 
-  stays-empty : (m : Motion) (z p : ℕ) (t : Track) (i : ℕ) → T (onward m) → NotAhead p t i
+  stays-empty : (m : Motion) (z p : ℕ) (t : Track) (i : ℕ) → onward m ≡ true → NotAhead p t i
       → AcceptedOn c v b p (runs m z) t → getD (t .trains) i 0 ≡ 0 → getD (trainsOf m z p t) i 0 ≡ 0
   unfolding checks trackAfter effect flat cellsAfter
-  stays-empty start z p t i o ne h e = absurd o
+  stays-empty start z p t i o ne h e = absurd (false≢true o)
   stays-empty pass z p t i o ne h e =
       getD-set-other (set (t .trains) (blockBefore c (siteOn b p t)) 0) (blockAhead c (siteOn b p t)) i z 0
       (ne (pass-held h .not-last))
       ∙ set-zero (t .trains) (blockBefore c (siteOn b p t)) i e
   stays-empty leave z p t i o ne h e = set-zero (t .trains) (blockBefore c (siteOn b p t)) i e
 
-  stays-last : (m : Motion) (z p : ℕ) (t : Track) (i : ℕ) → T (onward m) → NotAhead p t i
+  stays-last : (m : Motion) (z p : ℕ) (t : Track) (i : ℕ) → onward m ≡ true → NotAhead p t i
       → AcceptedOn c v b p (runs m z) t → getD (t .last) i 0 ≡ getD (lastOf m z p t) i 0
   unfolding checks trackAfter effect flat cellsAfter
-  stays-last start z p t i o ne h = absurd o
+  stays-last start z p t i o ne h = absurd (false≢true o)
   stays-last pass z p t i o ne h =
       sym (getD-set-other (t .last) (blockAhead c (siteOn b p t)) i z 0
       (ne (pass-held h .not-last)))
   stays-last leave z p t i o ne h = refl
 
   -- what a step that moves no train leaves as it was
-  pub trains-unmoved : (l : View) (q : ℕ) (t : Track) → T (movesNoTrain l) → trackAfterStep c b q l t .trains ≡ t .trains
+  pub trains-unmoved : (l : View) (q : ℕ) (t : Track) → movesNoTrain l ≡ true → trackAfterStep c b q l t .trains ≡ t .trains
   unfolding trackAfter cellsAfter
   trains-unmoved l q t i = rw (no-movement c q l (siteOn b q t) i) refl
 
-  last-unmoved : (l : View) (q : ℕ) (t : Track) → T (movesNoTrain l) → trackAfterStep c b q l t .last ≡ t .last
+  last-unmoved : (l : View) (q : ℕ) (t : Track) → movesNoTrain l ≡ true → trackAfterStep c b q l t .last ≡ t .last
   unfolding trackAfter cellsAfter
   last-unmoved l q t i = rw (no-movement c q l (siteOn b q t) i) refl
 
-  unmoved-with : (l : View) (q : ℕ) (t : Track) (trains last : List ℕ) → T (movesNoTrain l)
+  unmoved-with : (l : View) (q : ℕ) (t : Track) (trains last : List ℕ) → movesNoTrain l ≡ true
       → trackAfterStep c b q l (withTrains t trains last) ≡ withTrains (trackAfterStep c b q l t) trains last
   unfolding trackAfter cellsAfter
   unmoved-with l q t trains last i = rw (no-movement c q l (siteOn b q t) i) refl
 
-  module _ (n2 : 2 ≤ c .posts) (q : ℕ) (l : View) (p : ℕ) (m : Motion) (z : ℕ) (t : Track) (o : T (onward m)) (i : T (movesNoTrain l)) (apart : q ≢ p) where
-    elsewhere : q < c .posts → p < c .posts → T (not (isLast (c .posts) (upward b (t .cvt)) q)) → NotAhead p t (blockAhead c (siteOn b q t))
+  module _ (n2 : 2 ≤ c .posts) (q : ℕ) (l : View) (p : ℕ) (m : Motion) (z : ℕ) (t : Track) (o : onward m ≡ true) (i : movesNoTrain l ≡ true) (apart : q ≢ p) where
+    elsewhere : q < c .posts → p < c .posts → isLast (c .posts) (upward b (t .cvt)) q ≡ false → NotAhead p t (blockAhead c (siteOn b q t))
     elsewhere q<n p<n u w e =
         apart (rank-inj (c .posts) (upward b (t .cvt)) q p q<n p<n
         (block-inj (c .posts) (upward b (t .cvt)) (rankOn c b (t .cvt) q) (rankOn c b (t .cvt) p)
         (not-last-rank (c .posts) (upward b (t .cvt)) q q<n u) (not-last-rank (c .posts) (upward b (t .cvt)) p p<n w) e))
 
     watched-less : (last : Bool) → isLast (c .posts) (upward b (t .cvt)) q ≡ last → q < c .posts → AcceptedOn c v b p (runs m z) t
-        → T (not (not last && not (eqb (getD (t .trains) (blockAhead c (siteOn b q t)) 0) 0)))
-        → T (not (not last && not (eqb (getD (trainsOf m z p t) (blockAhead c (siteOn b q t)) 0) 0)))
-    watched-less true e q<n hx u = tt
+        → (not last && not (eqb (getD (t .trains) (blockAhead c (siteOn b q t)) 0) 0)) ≡ false
+        → (not last && not (eqb (getD (trainsOf m z p t) (blockAhead c (siteOn b q t)) 0) 0)) ≡ false
+    watched-less true e q<n hx u = refl
     watched-less false e q<n hx u =
-        subst (λ (w : Bool). T (not (not w))) (sym (T-true (eqb (getD (trainsOf m z p t) (blockAhead c (siteOn b q t)) 0) 0)
-        (eq→eqb (getD (trainsOf m z p t) (blockAhead c (siteOn b q t)) 0) 0
-        (stays-empty m z p t (blockAhead c (siteOn b q t)) o (elsewhere q<n (hx .fits .below) (false-T (isLast (c .posts) (upward b (t .cvt)) q) e)) hx
-        (eqb→eq (getD (t .trains) (blockAhead c (siteOn b q t)) 0) 0 (notnot (eqb (getD (t .trains) (blockAhead c (siteOn b q t)) 0) 0) u)))))) tt
+        ap not (eq-eqb (getD (trainsOf m z p t) (blockAhead c (siteOn b q t)) 0) 0
+        (stays-empty m z p t (blockAhead c (siteOn b q t)) o (elsewhere q<n (hx .fits .below) e) hx
+        (eqb-true (getD (t .trains) (blockAhead c (siteOn b q t)) 0) 0 (not-false (eqb (getD (t .trains) (blockAhead c (siteOn b q t)) 0) 0) u))))
 
     onward-light : AcceptedOn c v b q l t → AcceptedOn c v b p (runs m z) t → AcceptedOn c v b q l (withTrains t (trainsOf m z p t) (lastOf m z p t))
     unfolding occupancyAt watchedOccupied

@@ -1,14 +1,14 @@
 -- Every accepted step keeps the trains of its track a stretch apart, and the runs in step with the cells. A start, a pass and a leave move one
 -- train by one block section, by rank; the last set finds the track empty; every other step leaves the trains.
 use Prim.Native.Nat.{ℕ, suc, _-_, _≤_, _<_}
-use mathlib.Core.Bool.{Bool, true, false, cond, not}
+use mathlib.Core.Bool.{Bool, true, false, cond, not, false≢true}
 use mathlib.Core.Path.{_≡_, refl, sym, ap, _∙_, subst}
 use mathlib.Core.Logic.{_≢_}
 use mathlib.Core.List.{List}
 use native.Mathlib.Omega.{arith}
 use lib.ListN.{getD, set, length, length-set}
 use lib.Seq.{getD-set-other, getD-set-same}
-use lib.Dec.{T, eqb}
+use borrow.Author.Tests.{ne-eqb}
 use Rattle.section.specs.declared.Settings.{Settings}
 use Rattle.section.specs.declared.Act.the-variants as act
 use Rattle.section.specs.declared.Track.{Track}
@@ -20,8 +20,7 @@ use Rattle.rules.specs.declared.Site.{Site}
 use Rattle.rules.specs.Site.{siteOn, isTurn, atReceivingEnd, stretchEnds, stretchHolds, trainAt, occupancyAt}
 use Rattle.rules.specs.Table.{checks, effect, cellsAfter, trackAfter}
 use Rattle.rules.specs.Demand3.{Run}
-use Rattle.rules.proofs.Facts.{nand-r, true-T, T-false, ne→neqb, first-rank, not-first-rank}
-use Rattle.rules.proofs.Facts.{last-rank, not-last-rank, number-none}
+use Rattle.rules.proofs.Facts.{nand-r, first-rank, not-first-rank, last-rank, not-last-rank, number-none}
 use Rattle.rules.proofs.View.{Reversal, order, setDevice, announce, acknowledge, key, start, pass, leave, View, walks, runs, notes, releases}
 use Rattle.rules.proofs.View.{flat}
 use Rattle.rules.proofs.Frame.{movesNoTrain, running-kept, no-movement}
@@ -144,13 +143,13 @@ module _ (c : Settings) (n2 : 2 ≤ c .posts) (n16 : c .posts ≤ mostPosts) whe
           before = pass-before h
 
           -- 13, at a post that begins a stretch
-          check : T (ends r) → FreeFrom (c .posts) ends f r
+          check : ends r ≡ true → FreeFrom (c .posts) ends f r
           check u = free-from (c .posts) ends f r (nand-r (ends r) (stretchHolds ends f (c .posts - suc r) r) u (pass-held h .free))
 
           free : SpacedOn (t .cvt) (t .trains) → FreeFrom (c .posts) ends f (suc q)
           free sp =
               free-ahead (c .posts) ends f q sp (λ x. ny (sym before ∙ x))
-              (subst (λ (i : ℕ). T (ends i) → FreeFrom (c .posts) ends f i) (sym past) check)
+              (subst (λ (i : ℕ). ends i ≡ true → FreeFrom (c .posts) ends f i) (sym past) check)
 
           moves : SpacedOn (t .cvt) (t .trains) → TrainMoves (c .posts) f g y q
           moves sp = record {
@@ -201,7 +200,7 @@ module _ (c : Settings) (n2 : 2 ≤ c .posts) (n16 : c .posts ≤ mostPosts) whe
       empty-cells : NoTrain c t → (cvt : Bool) (j : ℕ) → suc j < c .posts → trainAt c b cvt (t .trains) j ≡ 0
       empty-cells h cvt j k = h (block (c .posts) (upward b cvt) j) (block-lt (c .posts) (upward b cvt) j k)
 
-      set-kept : (w : Reversal) (last : Bool) → atReceivingEnd c e ≡ last → T (isTurn (t .walk) p act.Set) → ClearedBelow c b (t .cvt) (t .walk) (t .trains)
+      set-kept : (w : Reversal) (last : Bool) → atReceivingEnd c e ≡ last → isTurn (t .walk) p act.Set ≡ true → ClearedBelow c b (t .cvt) (t .walk) (t .trains)
           → TrainsKept (t .cvt) (t .trains) (cond last (not (t .cvt)) (t .cvt)) (t .trains) (walks w) p
       set-kept w true q hw clear = record {
         spaced = λ sp. empty-spaced (c .posts) (stretchEnds c b (not (t .cvt))) (trainAt c b (not (t .cvt)) (t .trains)) (empty (not (t .cvt)));
@@ -210,16 +209,16 @@ module _ (c : Settings) (n2 : 2 ≤ c .posts) (n16 : c .posts ≤ mostPosts) whe
       }
         where
           empty : (cvt : Bool) (j : ℕ) → suc j < c .posts → trainAt c b cvt (t .trains) j ≡ 0
-          empty = empty-cells (last-free c b t p (true-T (atReceivingEnd c e) q) hw clear)
+          empty = empty-cells (last-free c b t p q hw clear)
       set-kept w false q hw clear = record { spaced = λ sp. sp; follows = λ z rs nz sp h. h }
 
-      unmoved-other : (z : ℕ) (k : View) → T (movesNoTrain k) → ofTrain z k ≡ false
+      unmoved-other : (z : ℕ) (k : View) → movesNoTrain k ≡ true → ofTrain z k ≡ false
       unmoved-other z (walks w) i = refl
-      unmoved-other z (runs m y) i = absurd i
+      unmoved-other z (runs m y) i = absurd (false≢true i)
       unmoved-other z (notes k) i = refl
       unmoved-other z (releases y) i = refl
 
-      unmoved-kept : (k : View) → T (movesNoTrain k) → effect c (flat p k) e .cvt ≡ t .cvt → Kept k
+      unmoved-kept : (k : View) → movesNoTrain k ≡ true → effect c (flat p k) e .cvt ≡ t .cvt → Kept k
       unfolding trackAfter cellsAfter
       unmoved-kept k i q = record {
         spaced = λ sp. rw (q, no-movement c p k e i) sp;
@@ -230,20 +229,20 @@ module _ (c : Settings) (n2 : 2 ≤ c .posts) (n16 : c .posts ≤ mostPosts) whe
 
       pub trains-kept : (k : View) → AcceptedOn c v b p k t → ClearedBelow c b (t .cvt) (t .walk) (t .trains) → Kept k
       unfolding checks trackAfter effect cellsAfter flat
-      trains-kept (walks order) h clear = unmoved-kept (walks order) tt refl
+      trains-kept (walks order) h clear = unmoved-kept (walks order) refl refl
       trains-kept (walks setDevice) h clear = set-kept setDevice (atReceivingEnd c e) refl (set-held h .in-turn) clear
-      trains-kept (walks announce) h clear = unmoved-kept (walks announce) tt refl
-      trains-kept (walks acknowledge) h clear = unmoved-kept (walks acknowledge) tt refl
+      trains-kept (walks announce) h clear = unmoved-kept (walks announce) refl refl
+      trains-kept (walks acknowledge) h clear = unmoved-kept (walks acknowledge) refl refl
       trains-kept (walks key) h clear = set-kept key (atReceivingEnd c e) refl (key-held h .in-turn) clear
       trains-kept (runs start y) h clear = start-kept y h
       trains-kept (runs pass y) h clear = pass-kept y h
       trains-kept (runs leave y) h clear = leave-kept y h
-      trains-kept (notes k) h clear = unmoved-kept (notes k) tt (running-kept c p (notes k) e tt .cvt)
-      trains-kept (releases y) h clear = unmoved-kept (releases y) tt refl
+      trains-kept (notes k) h clear = unmoved-kept (notes k) refl (running-kept c p (notes k) e refl .cvt)
+      trains-kept (releases y) h clear = unmoved-kept (releases y) refl refl
 
       -- no train has the number 0
       pub no-zero : (k : View) → AcceptedOn c v b p k t → ofTrain 0 k ≡ false
       no-zero (walks w) h = refl
-      no-zero (runs m y) h = T-false (eqb y 0) (ne→neqb y 0 (omega (arith, h .fits .number .0)))
+      no-zero (runs m y) h = ne-eqb y 0 (omega (arith, h .fits .number .0))
       no-zero (notes k) h = refl
       no-zero (releases y) h = refl

@@ -1,12 +1,13 @@
 -- A reversal is under way, over the accepted steps, where the walk says so. What is kept names the last post of the reversal too: an order notes
 -- the far end, and the set or key there, and no other, ends it.
 use Prim.Native.Nat.{ℕ, suc, _-_, _≤_, _<_}
-use mathlib.Core.Bool.{Bool, true, false, cond, not, _||_, Bool·beq}
+use mathlib.Core.Bool.{Bool, true, false, cond, not, _||_, Bool·beq, false≢true}
 use mathlib.Core.Path.{_≡_, refl, sym, ap, ap₂, _∙_}
 use mathlib.Core.List.{List, [], _∷_, _++_}
 use mathlib.Core.Option.{Option, none, some}
 use native.Mathlib.Omega.{arith}
-use lib.Dec.{T, eqb}
+use lib.Dec.{eqb}
+use borrow.Author.Tests.{eq-eqb, ne-eqb}
 use Rattle.section.specs.Numbers.{orderKind, setKind, keyKind}
 use Rattle.section.specs.declared.Settings.{Settings}
 use Rattle.section.specs.declared.Act.{Act}
@@ -23,8 +24,7 @@ use Rattle.section.proofs.Laws.{rank-rank}
 use Rattle.rules.specs.Site.{isSettled, isTurn, siteOn, otherSettledOnVns, atReceivingEnd}
 use Rattle.rules.specs.Table.{checks, effect, trackAfter}
 use Rattle.rules.specs.Demand3.{AcceptedStep, track, post, kind, isOnTrack, keep, otherEnd, endsAt, noteReversal, reversalFrom, runs?, underWay}
-use Rattle.rules.proofs.Facts.{T-true, T-false, true-T, false-T, eq→eqb, ne→neqb, by-track, beq-same, beq-other}
-use Rattle.rules.proofs.Facts.{first-rank, last-rank, not-last-rank}
+use Rattle.rules.proofs.Facts.{by-track, beq-same, beq-other, first-rank, last-rank, not-last-rank}
 use Rattle.rules.proofs.View.{order, setDevice, announce, acknowledge, key, start, pass, leave, measures, fault, View, walks, runs, notes}
 use Rattle.rules.proofs.View.{releases, flat, post-flat, Seen, shown}
 use Rattle.rules.proofs.Reading.{Says}
@@ -39,19 +39,18 @@ use Rattle.rules.proofs.Lists.{keep-append}
 -- the other end post of the sending end is the receiving end
 far-post : (n : ℕ) (up : Bool) (p : ℕ) → 2 ≤ n → p < n → rank n up p ≡ 0 → otherEnd n p ≡ rank n up (n - 1)
 unfolding rank
-far-post n true p n2 p<n e = rw (T-true (eqb p 0) (eq→eqb p 0 e)) refl
-far-post n false p n2 p<n e = rw (T-false (eqb p 0) (ne→neqb p 0 (omega arith))) (omega arith)
+far-post n true p n2 p<n e = rw (eq-eqb p 0 e) refl
+far-post n false p n2 p<n e = rw (ne-eqb p 0 (omega arith)) (omega arith)
 
 -- a post is the receiving end, or it is not that post
 is-far-post : (n : ℕ) (up : Bool) (p : ℕ) → p < n → (last : Bool) → isLast n up p ≡ last → eqb p (rank n up (n - 1)) ≡ last
 unfolding isLast
 is-far-post n up p p<n true e =
-    let q : suc (rank n up p) ≡ n = last-rank n up p (true-T (isLast n up p) e) in
-    T-true (eqb p (rank n up (n - 1))) (eq→eqb p (rank n up (n - 1)) (sym (rank-rank n up p p<n) ∙ ap (rank n up) (omega arith)))
+    let q : suc (rank n up p) ≡ n = last-rank n up p e in
+    eq-eqb p (rank n up (n - 1)) (sym (rank-rank n up p p<n) ∙ ap (rank n up) (omega arith))
 is-far-post n up p p<n false e =
-    let l : suc (rank n up p) < n = not-last-rank n up p p<n (false-T (isLast n up p) e) in
-    T-false (eqb p (rank n up (n - 1)))
-    (ne→neqb p (rank n up (n - 1)) (λ q. omega (arith, l, ap (rank n up) q, rank-rank n up (n - 1) (omega arith))))
+    let l : suc (rank n up p) < n = not-last-rank n up p p<n e in
+    ne-eqb p (rank n up (n - 1)) (λ q. omega (arith, l, ap (rank n up) q, rank-rank n up (n - 1) (omega arith)))
 
 -- ## One more step
 
@@ -87,12 +86,12 @@ module _ (c : Settings) where
     set-noted true e p<n = rw (is-far-post (c .posts) (upward b (t .cvt)) p p<n true e) refl
     set-noted false e p<n = rw (is-far-post (c .posts) (upward b (t .cvt)) p p<n false e) refl
 
-    turn-last : (a : Act) (w : Walk) → T (isTurn w p a) → lastPost b (t .cvt) w ≡ some far
+    turn-last : (a : Act) (w : Walk) → isTurn w p a ≡ true → lastPost b (t .cvt) w ≡ some far
     turn-last a w h = rw (is-turn w p a h) refl
 
-    running-noted : (k : View) → T (keepsRunning k) → noteAt (c .posts) (kindOf (flat p k)) p (lastPost b (t .cvt) (t .walk)) ≡ lastPost b (t .cvt) (t .walk)
+    running-noted : (k : View) → keepsRunning k ≡ true → noteAt (c .posts) (kindOf (flat p k)) p (lastPost b (t .cvt) (t .walk)) ≡ lastPost b (t .cvt) (t .walk)
     unfolding flat kindOf
-    running-noted (walks r) i = absurd i
+    running-noted (walks r) i = absurd (false≢true i)
     running-noted (runs start z) i = refl
     running-noted (runs pass z) i = refl
     running-noted (runs leave z) i = refl
@@ -102,7 +101,7 @@ module _ (c : Settings) where
     running-noted (notes (fault false f)) i = refl
     running-noted (releases z) i = refl
 
-    running-agrees : (k : View) → T (keepsRunning k)
+    running-agrees : (k : View) → keepsRunning k ≡ true
         → noteAt (c .posts) (kindOf (flat p k)) p (lastPost b (t .cvt) (t .walk)) ≡ lastPost b (trackAfterStep c b p k t .cvt) (trackAfterStep c b p k t .walk)
     running-agrees k i = rw (cvt-kept c b p k t i, walk-kept c b p k t i) (running-noted k i)
 
@@ -116,9 +115,9 @@ module _ (c : Settings) where
     noted (walks announce) h = turn-last act.Announce (t .walk) (announce-held h .in-turn)
     noted (walks acknowledge) h = turn-last act.Acknowledge (t .walk) (acknowledge-held h .in-turn)
     noted (walks key) h = ap (endsAt p) (turn-last act.Set (t .walk) (key-held h .in-turn)) ∙ set-noted (atReceivingEnd c (siteOn b p t)) refl (h .fits .below)
-    noted (runs m z) h = running-agrees (runs m z) tt
-    noted (notes k) h = running-agrees (notes k) tt
-    noted (releases z) h = running-agrees (releases z) tt
+    noted (runs m z) h = running-agrees (runs m z) refl
+    noted (notes k) h = running-agrees (notes k) refl
+    noted (releases z) h = running-agrees (releases z) refl
 
   -- ## The section
 

@@ -4,10 +4,10 @@ use Prim.Native.Nat.{ℕ, zero, suc, _-_, _<_}
 use mathlib.Core.Bool.{Bool, true, false, cond, not, _&&_, _||_, Bool·beq}
 use mathlib.Core.Path.{_≡_}
 use mathlib.Core.Logic.{_⊎_}
-use mathlib.Core.List.{List, [], _∷_, _++_, Perm}
+use mathlib.Core.List.{List, [], _∷_, _++_}
 use mathlib.Core.Option.{Option, none, some}
 use lib.ListN.{getD, length}
-use lib.Dec.{T, eqb}
+use lib.Dec.{eqb}
 use Rattle.section.specs.declared.Settings.{Settings}
 use Rattle.section.specs.declared.Said.{Said}
 use Rattle.section.specs.declared.Said.the-variants.{Nothing, Cvt, Cvtz, Vns, Vnsz}
@@ -98,6 +98,13 @@ module _ {A : Type 0} where
   All P [] = Unit {0}
   All P (x ∷ l) = P x × All P l
 
+  -- the same steps, each as often, in another order
+  pub data Reordering : List A → List A → Type 0 where
+    none-left : Reordering [] []
+    same : (x : A) {l m : List A} → Reordering l m → Reordering (x ∷ l) (x ∷ m)
+    swapped : (x y : A) (l : List A) → Reordering (x ∷ y ∷ l) (y ∷ x ∷ l)
+    chained : {l m k : List A} → Reordering l m → Reordering m k → Reordering l k
+
 -- ## Runs
 
 -- "A train's run on a track begins with an accepted start of its number there and ends with the next accepted leave of that number there."
@@ -140,7 +147,7 @@ hasEnded (some p) = true
 -- "A number may have several runs, one after another": all but the latest have ended
 abbrev pub OneAfterAnother : List Run → Type 0
 OneAfterAnother [] = Unit {0}
-OneAfterAnother (r ∷ earlier) = All (λ (q : Run). T (hasEnded (q .left))) earlier
+OneAfterAnother (r ∷ earlier) = All (λ (q : Run). hasEnded (q .left) ≡ true) earlier
 
 -- ## Under way
 
@@ -223,7 +230,7 @@ module _ (c : Settings) where
 
   -- "if it has start permission, or if a start with some number, offered there next, would be accepted"
   pub data MayStart (s : Section) (b : Bool) (p : ℕ) : Type 0 where
-    permission : p < c .posts → T (postOn (trackOf s b) p .permission) → MayStart s b p
+    permission : p < c .posts → postOn (trackOf s b) p .permission ≡ true → MayStart s b p
     start : (d : AcceptedStep) → kind d ≡ startKind → track d ≡ b → post d ≡ p → judge s (d .bytes) .verdict ≡ Accepted (d .said) → MayStart s b p
 
   -- ## The claim for one track
@@ -255,8 +262,8 @@ module _ (c : Settings) where
 
   pub record NewOrder (ds : List AcceptedStep) (s : Section) : Type 0 where
     pub order : List AcceptedStep
-    -- "each accepted step stands once and nothing else does": `Perm` of the library, the same elements, each as often
-    pub each-once : Perm order ds
+    -- "each accepted step stands once and nothing else does"
+    pub each-once : Reordering order ds
     -- per track, each post's own steps in sequence
     pub posts-in-sequence : (b : Bool) (p : ℕ) → keep (isOfPost b p) order ≡ keep (isOfPost b p) ds
     -- each train's own steps in sequence, those of both tracks together

@@ -38,10 +38,10 @@ abbrev pub keeping : Site → Post → Effect
 keeping e own = record { own = own; walk = e .walk; cvt = e .cvt; train = Stays; said = Nothing }
 
 -- "fault gone; for fault 1 the mark too"
-abbrev pub cleared : Fault → Post → Post
-cleared One o = marked false (faulty One false o)
-cleared Two o = faulty Two false o
-cleared Three o = faulty Three false o
+abbrev pub withoutFault : Fault → Post → Post
+withoutFault One o = marked false (faulty One false o)
+withoutFault Two o = faulty Two false o
+withoutFault Three o = faulty Three false o
 
 -- ## What the refusals ask: first those that need no settings
 
@@ -124,7 +124,7 @@ module _ (c : Settings) where
   effect (MeasuresOn p) e = keeping e (measured true (e .own))
   effect (MeasuresOff p) e = keeping e (measured false (e .own))
   effect (FaultOn p f) e = keeping e (faulty f true (e .own))
-  effect (FaultOff p f) e = keeping e (cleared f (e .own))
+  effect (FaultOff p f) e = keeping e (withoutFault f (e .own))
   effect (Release p number) e = keeping e (marked true (e .own))
   effect (Key p) e = setting e (sealed (e .own))
 
