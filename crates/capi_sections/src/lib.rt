@@ -5,7 +5,6 @@ ghost use lib.ListN.{length};
 ghost use Rattle.capi_sections.specs.Engine.{freshAnswer, freshImage, judgeAnswer, judgeImage, shownOf};
 use image::IMAGE_LENGTH;
 use image::reader;
-use image::writer;
 use packed::lent_settings_well_formed;
 use packed::packed_indications;
 use section::Verdict;
@@ -26,7 +25,7 @@ pub extern "C" fn bsr_fresh(settings: &[u8], buffer: &mut [u8]) -> u8
     if buffer.len() < IMAGE_LENGTH {
         return 5;
     }
-    writer::put_image(buffer, section::fresh(layout::settings_of(settings)));
+    image_writer::put_image(buffer, section::fresh(layout::settings_of(settings)));
     0
 }
 
@@ -44,7 +43,7 @@ pub extern "C" fn bsr_judge(bytes: &mut [u8], step: &[u8]) -> u16
     match verdict {
         Verdict::Accepted(said) => {
             let after = answer.section;
-            writer::put_image(bytes, after);
+            image_writer::put_image(bytes, after);
             (said_number(said) as u16) * 256
         }
         Verdict::Refused(number) => number as u16,

@@ -1,6 +1,6 @@
 use Rattle.image.specs.Image.{flag}
-use Rattle.image.proofs.writer.flag.Statement.{statement}
-use Rattle.image.proofs.writer.flag.Tie as tie
+use Rattle.image_writer.proofs.flag.Statement.{statement}
+use Rattle.image_writer.proofs.flag.Tie as tie
 
 returns : tie.Need-returns
 unfolding flag

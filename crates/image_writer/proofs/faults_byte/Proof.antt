@@ -1,9 +1,9 @@
 use native.Mathlib.Omega.{arith}
 use Rattle.image.specs.Image.{faultsByte}
-use Rattle.image.proofs.Laws.{flag-small}
+use Rattle.image_writer.proofs.Laws.{flag-small}
 use borrow.Author.Needs.{needs}
-use Rattle.image.proofs.writer.faults_byte.Statement.{statement}
-use Rattle.image.proofs.writer.faults_byte.Tie as tie
+use Rattle.image_writer.proofs.faults_byte.Statement.{statement}
+use Rattle.image_writer.proofs.faults_byte.Tie as tie
 
 mul-result : tie.Need-mul-result
 mul-result c = omega (arith, flag-small _ (c .flag2 .ensures))
