@@ -3,7 +3,13 @@
 use std::path::Path;
 use std::{env, process};
 
-const LIBRARIES: [&str; 3] = ["capi", "capi_day", "capi_singly"];
+const LIBRARIES: [&str; 5] = [
+    "capi_files",
+    "capi_sections",
+    "capi_listings",
+    "capi_day",
+    "capi_singly",
+];
 
 fn main() {
     let package = env::var("CARGO_MANIFEST_DIR").expect("cargo sets CARGO_MANIFEST_DIR");

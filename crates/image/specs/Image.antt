@@ -15,6 +15,7 @@ use Rattle.section.specs.declared.Walk.the-variants.{Settled, Turn}
 use Rattle.section.specs.Bytes.{byte, le16}
 use Rattle.section.specs.Numbers.{mostPosts, mostBlocks}
 use Rattle.section.specs.Post.{blank}
+use Rattle.text.specs.Text.{firstTexts}
 use Rattle.layout.specs.Layout.{settingsLength, le16Bytes, settingsBytes, settingsOf}
 
 -- ## Lengths and places
@@ -58,12 +59,7 @@ layoutNumber = 1
 
 -- ## Items one after another
 
--- the bytes of items 0 .. m − 1
-unfoldable pub itemsImage : (ℕ → List ℕ) → ℕ → List ℕ
-itemsImage item zero = []
-itemsImage item (suc m) = itemsImage item m ++ item m
-
--- items 0 .. m − 1 themselves
+-- items 0 .. m − 1
 unfoldable pub items : {A : Type 0} → (ℕ → A) → ℕ → List A
 items item zero = []
 items item (suc m) = items item m ++ (item m ∷ [])
@@ -83,11 +79,11 @@ postImage o = flag (o .device) ∷ flag (o .permission) ∷ flag (o .measures) �
 
 -- the first m posts
 unfoldable pub postsImage : ℕ → List Post → List ℕ
-postsImage m l = itemsImage (λ (p : ℕ). postImage (getD l p blank)) m
+postsImage m l = firstTexts (λ (p : ℕ). postImage (getD l p blank)) m
 
 -- the first m numbers
 unfoldable pub numbersImage : ℕ → List ℕ → List ℕ
-numbersImage m l = itemsImage (λ (i : ℕ). le16Bytes (getD l i 0)) m
+numbersImage m l = firstTexts (λ (i : ℕ). le16Bytes (getD l i 0)) m
 
 unfoldable pub actNumber : Act → ℕ
 actNumber Set = 1

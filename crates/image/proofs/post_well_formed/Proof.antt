@@ -1,3 +1,4 @@
+-- By the first byte that stands for no value: device, permission, measures, faults. Past those four the mark's own test is the answer.
 use borrow.Author.Tests.{le-leb, lt-leb}
 use Rattle.image.specs.Image.{postWellFormed}
 use borrow.Author.Needs.{needs}

@@ -1,2 +1,0 @@
-pub mod DayFiles
-pub mod Engine

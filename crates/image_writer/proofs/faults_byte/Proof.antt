@@ -1,0 +1,35 @@
+use native.Mathlib.Omega.{arith}
+use Rattle.image.specs.Image.{faultsByte}
+use Rattle.image_writer.proofs.Laws.{flag-small}
+use borrow.Author.Needs.{needs}
+use Rattle.image_writer.proofs.faults_byte.Statement.{statement}
+use Rattle.image_writer.proofs.faults_byte.Tie as tie
+
+mul-result : tie.Need-mul-result
+mul-result c = omega (arith, flag-small _ (c .flag2 .ensures))
+
+add-result : tie.Need-add-result
+add-result c = omega (arith, flag-small _ (c .before .flag .ensures), flag-small _ (c .flag2 .ensures))
+
+mul-result-2 : tie.Need-mul-result-2
+mul-result-2 c = omega (arith, flag-small _ (c .flag3 .ensures))
+
+add-result-2 : tie.Need-add-result-2
+add-result-2 c = omega (arith, flag-small _ (c .before .before .flag .ensures), flag-small _ (c .before .flag2 .ensures), flag-small _ (c .flag3 .ensures))
+
+returns : tie.Need-returns
+unfolding faultsByte
+returns c = rw (c .before .before .flag .ensures, c .before .flag2 .ensures, c .flag3 .ensures)
+
+pub faults-byte-spec : {M : Type 1} → statement M
+faults-byte-spec =
+    tie.close
+    (tie.spec
+    (λ c κs. search needs)
+    (λ c κs. search needs)
+    mul-result
+    add-result
+    (λ c κs. search needs)
+    mul-result-2
+    add-result-2
+    returns)

@@ -1,0 +1,31 @@
+use Rattle.layout.specs.Layout.{le16Bytes}
+use Rattle.image.specs.Image.{postImage}
+use borrow.Author.Needs.{needs}
+use Rattle.image_writer.proofs.post_bytes.Statement.{statement}
+use Rattle.image_writer.proofs.post_bytes.Tie as tie
+
+returns : tie.Need-returns
+unfolding postImage le16Bytes
+returns c =
+    rw (
+      c .before .before .before .before .before .le16-bytes .ensures,
+      c .before .before .before .before .flag .ensures,
+      c .before .before .before .flag2 .ensures,
+      c .before .before .flag3 .ensures,
+      c .before .faults-byte .ensures,
+      c .flag4 .ensures,
+    )
+
+pub post-bytes-spec : {M : Type 1} → statement M
+post-bytes-spec =
+    tie.close
+    (tie.spec
+    (λ c κs. search needs)
+    (λ c κs. search needs)
+    (λ c κs. search needs)
+    (λ c κs. search needs)
+    (λ c κs. search needs)
+    (λ c κs. search needs)
+    (λ c. search needs)
+    (λ c. search needs)
+    returns)

@@ -1,0 +1,16 @@
+-- The length of a text copied over and 1 fit 64 bits, since no slice is as long as 2^63 bytes.
+use Prim.Native.Nat.{ℕ, _<_, _≤_, _*_, _^_}
+use mathlib.Core.Path.{_≡_, refl}
+use mathlib.Core.List.{List}
+use native.Mathlib.Omega.{arith}
+use lib.ListN.{length}
+use Rattle.text.specs.declared.Copied.{Copied}
+use Rattle.text.specs.declared.Copied.the-variants.{Bytes, TooShort}
+use Rattle.text.specs.Copied.{copied}
+use Rattle.text.proofs.CopiedOut.{bytes-counted}
+use Rattle.packed.specs.Packed.{packedCopied}
+
+pub copied-fits : (text buffer : List ℕ) (r : Copied) → r ≡ copied text buffer → length buffer * 1 < 2 ^ 63 → packedCopied r ≤ 2 ^ 63
+unfolding packedCopied
+copied-fits text buffer (Bytes n) e h = omega (arith, bytes-counted text buffer (Bytes n) e buffer n refl refl .0)
+copied-fits text buffer TooShort e h = omega arith
