@@ -58,6 +58,13 @@ fn room_for(sheet: Sheet) -> usize
     }
 }
 
+// Room for the longest listing.
+pub fn listing_room() -> [u8; LISTING_ROOM]
+    ensures { λ r. ⌜ r ≡ replicate (room Sheet.Listing mostSteps) 0 ⌝ }
+{
+    [0; LISTING_ROOM]
+}
+
 // Room for the longest panel.
 pub fn panel_room() -> [u8; PANEL_ROOM]
     ensures { λ r. ⌜ r ≡ replicate (room Sheet.Panel mostSteps) 0 ⌝ }

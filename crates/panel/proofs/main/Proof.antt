@@ -1,17 +1,17 @@
 -- So many bytes as were read lie within the buffer.
 use borrow.Author.Needs.{needs}
 use Rattle.streams.proofs.Counted.{bytes-read}
-use Rattle.streams.proofs.printing.print_input.Statement.{statement}
-use Rattle.streams.proofs.printing.print_input.Tie as tie
+use Rattle.panel.proofs.main.Statement.{statement}
+use Rattle.panel.proofs.main.Tie as tie
 
 array-share-prefix-file : tie.Need-array-share-prefix-file
 array-share-prefix-file c = bytes-read _ _ _ (c .before .before .before .before .read-whole .ensures) (c .before .n .given .1) .0
 
-slice-aggregate-write-sheet : tie.Need-slice-aggregate-write-sheet
-slice-aggregate-write-sheet c = bytes-read _ _ _ (c .before .before .before .before .before .read-whole .ensures) (c .before .before .n .given .1) .1
+slice-aggregate-print : tie.Need-slice-aggregate-print
+slice-aggregate-print c = bytes-read _ _ _ (c .before .before .before .before .before .read-whole .ensures) (c .before .before .n .given .1) .1
 
-pub print-input-spec : {M : Type 1} → statement M
-print-input-spec =
+pub main-spec : {M : Type 1} → statement M
+main-spec =
     tie.close
     (tie.spec
     (λ c κs. search needs)
@@ -19,8 +19,9 @@ print-input-spec =
     (λ c κs. search needs)
     (λ c. search needs)
     array-share-prefix-file
-    slice-aggregate-write-sheet
+    slice-aggregate-print
     (λ c κs. search needs)
+    (λ c. search needs)
     (λ c. search needs)
     (λ c κs. search needs)
     (λ c. search needs)
