@@ -5,7 +5,7 @@ use Rattle.section.specs.declared.Answer.{Answer}
 use Rattle.listing.specs.declared.sheets.Sheet.{Sheet}
 use Rattle.listing.specs.declared.sheets.Sheet.the-variants.{Listing, Panel}
 use Rattle.lines.specs.Lines.{stepLine, headerRoom, stepLineRoom}
-use Rattle.lines.specs.PanelLine.{panelLine, panelLineRoom}
+use Rattle.panel_lines.specs.PanelLine.{panelLine, panelLineRoom}
 
 -- a step's line
 unfoldable pub lineOn : Sheet → ℕ → List ℕ → Answer → List ℕ

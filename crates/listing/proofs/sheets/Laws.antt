@@ -37,8 +37,8 @@ use Rattle.whole_day.specs.Notes.{noteOn, notesOf}
 use Rattle.whole_day.proofs.Laws.{in-range-before, note-written}
 use Rattle.lines.specs.Noted.{notedLine, noteAt, notedLines}
 use Rattle.lines.proofs.listing.Laws.{line-noted}
-use Rattle.lines.specs.PanelLine.{panelFields, panelLine, panelLineRoom}
-use Rattle.lines.proofs.panel.Laws.{panel-line-length}
+use Rattle.panel_lines.specs.PanelLine.{panelFields, panelLine, panelLineRoom}
+use Rattle.panel_lines.proofs.Laws.{panel-line-length}
 use Rattle.listing.specs.declared.sheets.Sheet.{Sheet}
 use Rattle.listing.specs.declared.sheets.Sheet.the-variants.{Listing, Panel}
 use Rattle.listing.specs.Printed.{lines, printedRead, printed}

@@ -4,7 +4,7 @@ ghost use Prim.Native.Nat.{_+_, _*_, _≤_, _<_};
 ghost use lib.ListN.{length};
 ghost use Rattle.section.specs.Numbers.{mostPosts};
 ghost use Rattle.text.specs.Text.{written};
-ghost use Rattle.lines.specs.PanelLine.{trackName, postField, postFields, panelFields, panelLineRoom};
+ghost use Rattle.panel_lines.specs.PanelLine.{trackName, postField, postFields, panelFields, panelLineRoom};
 use section::Indications;
 use section::Section;
 
@@ -58,7 +58,7 @@ pub fn put_panel(buffer: &mut [u8], at: usize, index: usize, track: u8, s: Secti
     ensures { λ r. ⌜ r ≡ at + length (panelFields index track s) ⌝ }
     ensures { λ _. ⌜ now (buffer .exit) ≡ written (now (buffer .entry)) at (panelFields index track s) ⌝ }
 {
-    let name_at = crate::put_number(buffer, at, index, b' ');
+    let name_at = lines::put_number(buffer, at, index, b' ');
     let posts_at = text::put_byte(buffer, name_at, track_name(track));
     let end = put_posts(buffer, posts_at, s, track);
     text::put_byte(buffer, end, b'\n')

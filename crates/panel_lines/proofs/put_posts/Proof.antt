@@ -6,11 +6,11 @@ use borrow.Author.Needs.{needs}
 use denote.Ref.{now}
 use lib.ListN.{length}
 use Rattle.text.specs.Text.{firstTexts}
-use Rattle.lines.specs.PanelLine.{postFields}
+use Rattle.panel_lines.specs.PanelLine.{postFields}
 use Rattle.text.proofs.Laws.{Putting, none-put, one-more-put}
-use Rattle.lines.proofs.panel.Laws.{one-digit, postFieldAt, six-each}
-use Rattle.lines.proofs.panel.put_posts.Statement.{statement}
-use Rattle.lines.proofs.panel.put_posts.Tie as tie
+use Rattle.panel_lines.proofs.Laws.{one-digit, postFieldAt, six-each}
+use Rattle.panel_lines.proofs.put_posts.Statement.{statement}
+use Rattle.panel_lines.proofs.put_posts.Tie as tie
 
 abbrev Inv-loop : tie.InvT-loop
 Inv-loop buffer₀ at s track n next₀ p₀ buffer next p =
