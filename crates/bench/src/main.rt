@@ -1,5 +1,4 @@
 // Prints the listing of the day file on standard input.
-use listing::sheets;
 use streams::Input;
 use text::Copied;
 

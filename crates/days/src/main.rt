@@ -5,7 +5,7 @@ mod agreement;
 
 use crate::agreement::agrees;
 use crate::agreement::sheet_room;
-use listing::sheets::Sheet;
+use sheets::Sheet;
 
 // What running a stored day shows.
 enum Day {

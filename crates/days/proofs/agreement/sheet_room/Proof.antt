@@ -1,5 +1,5 @@
 use mathlib.Core.Path.{refl}
-use Rattle.listing.specs.Sheet.{lineRoom, room}
+use Rattle.sheets.specs.Sheet.{lineRoom, room}
 use Rattle.days.proofs.agreement.sheet_room.Statement.{statement}
 use Rattle.days.proofs.agreement.sheet_room.Tie as tie
 
