@@ -6,7 +6,7 @@ ghost use lib.ListN.{replicate};
 ghost use Rattle.layout.specs.Layout.{mostSteps};
 ghost use Rattle.sheets.specs.declared.Sheet.{Sheet};
 ghost use Rattle.sheets.specs.Sheet.{room};
-ghost use Rattle.days.specs.Made.{made};
+ghost use Rattle.agreement.specs.Made.{made};
 use sheets::PANEL_ROOM;
 use sheets::Sheet;
 use sheets::panel_room;

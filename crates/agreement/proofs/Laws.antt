@@ -12,7 +12,7 @@ use Rattle.sheets.specs.declared.Sheet.the-variants.{Listing, Panel}
 use Rattle.sheets.specs.Printed.{printed}
 use Rattle.sheets.specs.Sheet.{lineOn, room}
 use Rattle.sheets.proofs.Laws.{most-room, printed-fits}
-use Rattle.days.specs.Made.{made}
+use Rattle.agreement.specs.Made.{made}
 
 pub made-printed : (sheet : Sheet) (file : List ℕ) → made sheet file ≡ printed (lineOn sheet) file
 unfolding made listing panel lineOn

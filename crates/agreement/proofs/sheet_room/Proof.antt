@@ -1,7 +1,7 @@
 use mathlib.Core.Path.{refl}
 use Rattle.sheets.specs.Sheet.{lineRoom, room}
-use Rattle.days.proofs.agreement.sheet_room.Statement.{statement}
-use Rattle.days.proofs.agreement.sheet_room.Tie as tie
+use Rattle.agreement.proofs.sheet_room.Statement.{statement}
+use Rattle.agreement.proofs.sheet_room.Tie as tie
 
 returns : tie.Need-returns
 unfolding room lineRoom

@@ -8,10 +8,10 @@ use Rattle.layout.specs.Layout.{mostSteps}
 use Rattle.sheets.specs.declared.Sheet.the-variants.{Panel}
 use Rattle.sheets.specs.Sheet.{room}
 use Rattle.text.proofs.CopiedOut.{within, longer, part}
-use Rattle.days.proofs.agreement.Laws.{made-printed, fits-the-panels-room}
+use Rattle.agreement.proofs.Laws.{made-printed, fits-the-panels-room}
 use borrow.Author.Needs.{needs}
-use Rattle.days.proofs.agreement.agrees.Statement.{statement}
-use Rattle.days.proofs.agreement.agrees.Tie as tie
+use Rattle.agreement.proofs.agrees.Statement.{statement}
+use Rattle.agreement.proofs.agrees.Tie as tie
 
 part-same-end : tie.Need-part-same-end
 part-same-end c =
