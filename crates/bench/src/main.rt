@@ -1,11 +1,19 @@
 // Prints the listing of the day file on standard input.
-use listing::sheets::Sheet;
-use streams::printing::print_input;
+use streams::Input;
+use text::Copied;
+
+// Writes the listing of a file. The buffer has room for every listing.
+fn print(file: &[u8]) {
+    let mut text = sheets::listing_room();
+    if let Copied::Bytes(n) = listing::listing(file, &mut text) {
+        streams::write_whole(true, &text[..n], b"bench: cannot write standard output");
+    }
+}
 
 fn main() {
-    print_input(
-        Sheet::Listing,
-        b"bench: cannot read standard input",
-        b"bench: cannot write standard output",
-    );
+    let mut file = listing::file_room();
+    match streams::read_whole(&mut file) {
+        Input::Bytes(n) => print(&file[..n]),
+        Input::Failed => os::fail(b"bench: cannot read standard input"),
+    }
 }

@@ -1,11 +1,8 @@
 // Runs the stored days. For each name among the arguments it reads NAME.day, NAME.listing and
 // NAME.panel, and compares what the library makes of the day with what is stored.
-
-mod agreement;
-
-use crate::agreement::agrees;
-use crate::agreement::sheet_room;
-use listing::sheets::Sheet;
+use agreement::agrees;
+use agreement::sheet_room;
+use sheets::Sheet;
 
 // What running a stored day shows.
 enum Day {

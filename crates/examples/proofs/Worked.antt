@@ -13,9 +13,9 @@ use Rattle.dayfile.specs.Answers.{refusalNumber, readVerdict, readOf}
 use Rattle.rules.proofs.Days.{offeredAs, refusals, fresh}
 use Rattle.text.specs.Text.{decimalDigits, decimal, firstTexts}
 use Rattle.lines.specs.Lines.{word, refusedLine, header, verdictFields, fields, stepLine}
-use Rattle.lines.specs.PanelLine.{postField, postFields, trackName, panelFields, panelLine}
+use Rattle.panel_lines.specs.PanelLine.{postField, postFields, trackName, panelFields, panelLine}
 use Rattle.whole_day.specs.Day.{sectionBefore, answerTo}
-use Rattle.listing.specs.Printed.{lines, printedRead, printed}
+use Rattle.sheets.specs.Printed.{lines, printedRead, printed}
 use Rattle.listing.specs.Listing.{listing}
 use Rattle.listing.specs.Panel.{panel}
 use Rattle.examples.specs.Worked.{settings, steps, day, workedListing, workedPanel, listingOfNothing}

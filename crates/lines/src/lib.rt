@@ -1,7 +1,6 @@
 // A number in a line; the line of a refused file and the header of a day.
 
 pub mod listing;
-pub mod panel;
 
 ghost use mathlib.Core.Path.{_≡_};
 ghost use mathlib.Core.List.{[], _∷_, _++_};

@@ -1,4 +1,2 @@
-pub mod Printed
-pub mod Sheet
 pub mod Listing
 pub mod Panel

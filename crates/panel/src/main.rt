@@ -1,11 +1,19 @@
 // Prints the panel of the day file on standard input.
-use listing::sheets::Sheet;
-use streams::printing::print_input;
+use streams::Input;
+use text::Copied;
+
+// Writes the panel of a file. The buffer has room for every panel.
+fn print(file: &[u8]) {
+    let mut text = sheets::panel_room();
+    if let Copied::Bytes(n) = listing::panel(file, &mut text) {
+        streams::write_whole(true, &text[..n], b"panel: cannot write standard output");
+    }
+}
 
 fn main() {
-    print_input(
-        Sheet::Panel,
-        b"panel: cannot read standard input",
-        b"panel: cannot write standard output",
-    );
+    let mut file = listing::file_room();
+    match streams::read_whole(&mut file) {
+        Input::Bytes(n) => print(&file[..n]),
+        Input::Failed => os::fail(b"panel: cannot read standard input"),
+    }
 }

@@ -1,7 +1,4 @@
 // Standard input, read whole, and standard output, written whole.
-
-pub mod printing;
-
 ghost use mathlib.Core.Bool.{false};
 ghost use mathlib.Core.Path.{_≡_};
 ghost use Rattle.streams.specs.LiesIn.{LiesIn};

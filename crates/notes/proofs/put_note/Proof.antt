@@ -1,3 +1,4 @@
+-- Four bytes stored one after another are the note. Each has its place, since a store keeps the length of the buffer.
 use native.Mathlib.Omega.{arith}
 use borrow.Author.Needs.{needs}
 use denote.Ref.{now}

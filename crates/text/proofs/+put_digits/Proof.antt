@@ -1,3 +1,5 @@
+-- By induction on how many digits there may be. None: nothing is put. A number below ten is one digit; any other is the digits of its quotient by
+-- ten, for which one digit fewer is left, then its last digit.
 use Prim.Native.Nat.{ℕ, _<_}
 use borrow.Author.Needs.{needs}
 use native.Mathlib.Omega.{arith}

@@ -1,3 +1,4 @@
+-- Each case of what is said puts its word.
 use borrow.Author.Needs.{needs}
 use Rattle.lines.specs.Lines.{word}
 use Rattle.lines.proofs.listing.put_said.Statement.{statement}

@@ -1,0 +1,11 @@
+use mathlib.Core.Path.{refl}
+use Rattle.sheets.specs.Sheet.{lineRoom, room}
+use Rattle.sheets.proofs.panel_room.Statement.{statement}
+use Rattle.sheets.proofs.panel_room.Tie as tie
+
+returns : tie.Need-returns
+unfolding room lineRoom
+returns c = refl
+
+pub panel-room-spec : {M : Type 1} → statement M
+panel-room-spec = tie.close (tie.spec returns)
