@@ -17,8 +17,8 @@ use site::conditions::is_turn;
 use site::conditions::measures_suffice;
 use site::conditions::release_in_turn;
 use site::place::at_receiving_end;
-use site::trains::train_ahead;
-use site::trains::watched_occupied;
+use occupancy::trains::train_ahead;
+use occupancy::trains::watched_occupied;
 
 pub fn release(c: Settings, e: Site, number: u16, trains: &Trains, last: &Trains) -> Verdict
     requires { ⌜ Placed c e ⌝ }

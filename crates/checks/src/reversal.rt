@@ -18,8 +18,8 @@ use site::conditions::is_turn;
 use site::conditions::measures_suffice;
 use site::conditions::order_allowed;
 use site::place::at_sending_end;
-use site::trains::order_occupied;
-use site::trains::watched_occupied;
+use occupancy::trains::order_occupied;
+use occupancy::trains::watched_occupied;
 
 pub fn order(c: Settings, e: Site, other_on_vns: bool, trains: &Trains) -> Verdict
     requires { ⌜ Placed c e ⌝ }

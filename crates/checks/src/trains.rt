@@ -15,11 +15,11 @@ use site::conditions::fault1_confirmed;
 use site::conditions::is_settled;
 use site::place::at_receiving_end;
 use site::place::at_sending_end;
-use site::stretch::pass_occupied;
-use site::stretch::stretch_occupied;
-use site::trains::Sought;
-use site::trains::any_of;
-use site::trains::train_before;
+use occupancy::stretch::pass_occupied;
+use occupancy::stretch::stretch_occupied;
+use occupancy::trains::Sought;
+use occupancy::trains::any_of;
+use occupancy::trains::train_before;
 
 pub fn start(c: Settings, e: Site, number: u16, trains: &Trains) -> Verdict
     requires { ⌜ Placed c e ⌝ }

@@ -18,7 +18,7 @@ use section::Trains;
 use section::Walk;
 use section::positions;
 use site::place;
-use site::trains;
+use occupancy::trains;
 
 // CIRCULATION, in the paper's numbers.
 const DARK: u8 = 0;

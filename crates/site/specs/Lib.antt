@@ -2,5 +2,3 @@ pub mod Placed
 pub mod VerdictAt
 pub mod Fit
 pub mod Running
-pub mod Stretch
-pub mod Sought

@@ -4,9 +4,9 @@ use mathlib.Core.Path.{_≡_, refl, sym, _∙_}
 use native.Mathlib.Omega.{arith}
 use Rattle.section.proofs.Told.{told}
 use Rattle.rules.specs.Site.{reach, stretchEnds, stretchHolds, trainAt}
-use Rattle.site.proofs.stretch.Laws.{reach-here, reach-ended, reach-on, is-train, no-train}
-use Rattle.site.proofs.stretch.stretch_holds.Statement.{statement}
-use Rattle.site.proofs.stretch.stretch_holds.Tie as tie
+use Rattle.occupancy.proofs.stretch.Laws.{reach-here, reach-ended, reach-on, is-train, no-train}
+use Rattle.occupancy.proofs.stretch.stretch_holds.Statement.{statement}
+use Rattle.occupancy.proofs.stretch.stretch_holds.Tie as tie
 
 abbrev Inv-loop : tie.InvT-loop
 Inv-loop c track cvt from trains n up j₀ j =

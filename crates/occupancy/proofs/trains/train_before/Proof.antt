@@ -2,9 +2,9 @@
 use native.Mathlib.Omega.{arith}
 use borrow.Author.Needs.{needs}
 use Rattle.rules.specs.Site.{trainBefore}
 use Rattle.site.proofs.place.Laws.{block-before, rank-placed}
-use Rattle.site.proofs.trains.train_before.Statement.{statement}
-use Rattle.site.proofs.trains.train_before.Tie as tie
+use Rattle.occupancy.proofs.trains.train_before.Statement.{statement}
+use Rattle.occupancy.proofs.trains.train_before.Tie as tie
 
 sub-train-after : tie.Need-sub-train-after
 sub-train-after c =

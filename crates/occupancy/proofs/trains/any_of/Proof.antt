@@ -4,10 +4,10 @@ use mathlib.Core.Path.{_≡_, refl, sym, _∙_}
 use native.Mathlib.Omega.{arith}
 use Rattle.section.proofs.Told.{told}
 use Rattle.rules.specs.Site.{anyOf}
-use Rattle.site.specs.Sought.{isSought}
-use Rattle.site.proofs.trains.Laws.{any-here, any-below}
-use Rattle.site.proofs.trains.any_of.Statement.{statement}
-use Rattle.site.proofs.trains.any_of.Tie as tie
+use Rattle.occupancy.specs.Sought.{isSought}
+use Rattle.occupancy.proofs.trains.Laws.{any-here, any-below}
+use Rattle.occupancy.proofs.trains.any_of.Statement.{statement}
+use Rattle.occupancy.proofs.trains.any_of.Tie as tie
 
 abbrev Inv-loop : tie.InvT-loop
 Inv-loop m sought trains i₀ i = (i ≤ m) × (anyOf (isSought sought) m trains ≡ anyOf (isSought sought) i trains)

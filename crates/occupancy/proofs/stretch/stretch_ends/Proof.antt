@@ -5,9 +5,9 @@ use native.Mathlib.Omega.{arith}
 use borrow.Author.Tests.{not-true, not-false}
 use borrow.Author.Needs.{needs}
 use Rattle.rules.specs.Site.{stretchEnds}
 use Rattle.site.proofs.place.Laws.{rank-below}
-use Rattle.site.proofs.stretch.stretch_ends.Statement.{statement}
-use Rattle.site.proofs.stretch.stretch_ends.Tie as tie
+use Rattle.occupancy.proofs.stretch.stretch_ends.Statement.{statement}
+use Rattle.occupancy.proofs.stretch.stretch_ends.Tie as tie
 
 returns : tie.Need-returns
 unfolding stretchEnds

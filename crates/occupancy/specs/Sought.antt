@@ -2,8 +2,8 @@
 use Prim.Native.Nat.{ℕ}
 use mathlib.Core.Bool.{Bool}
 use Rattle.rules.specs.Site.{isTrain, isNumber}
-use Rattle.site.specs.declared.trains.Sought.{Sought}
-use Rattle.site.specs.declared.trains.Sought.the-variants.{AnyTrain, Number}
+use Rattle.occupancy.specs.declared.trains.Sought.{Sought}
+use Rattle.occupancy.specs.declared.trains.Sought.the-variants.{AnyTrain, Number}
 
 abbrev pub isSought : Sought → ℕ → Bool
 isSought AnyTrain = isTrain

@@ -2,8 +2,8 @@
 use borrow.Author.Needs.{needs}
 use Rattle.section.proofs.Told.{told}
 use Rattle.rules.specs.Site.{watchedOccupied}
-use Rattle.site.proofs.trains.watched_occupied.Statement.{statement}
-use Rattle.site.proofs.trains.watched_occupied.Tie as tie
+use Rattle.occupancy.proofs.trains.watched_occupied.Statement.{statement}
+use Rattle.occupancy.proofs.trains.watched_occupied.Tie as tie
 
 returns : tie.Need-returns
 unfolding watchedOccupied

@@ -2,8 +2,8 @@
 use borrow.Author.Tests.{eq-eqb, ne-eqb}
 use borrow.Author.Needs.{needs}
 use Rattle.section.specs.Settings.{isMaterialised}
-use Rattle.site.proofs.trains.order_occupied.Statement.{statement}
-use Rattle.site.proofs.trains.order_occupied.Tie as tie
+use Rattle.occupancy.proofs.trains.order_occupied.Statement.{statement}
+use Rattle.occupancy.proofs.trains.order_occupied.Tie as tie
 
 returns : tie.Need-returns
 unfolding isMaterialised

@@ -1,6 +1,6 @@
 use borrow.Author.Needs.{needs}
-use Rattle.site.proofs.trains.is_sought.Statement.{statement}
-use Rattle.site.proofs.trains.is_sought.Tie as tie
+use Rattle.occupancy.proofs.trains.is_sought.Statement.{statement}
+use Rattle.occupancy.proofs.trains.is_sought.Tie as tie
 
 returns : tie.Need-returns
 returns c = rw (c .enum-told .given .1)

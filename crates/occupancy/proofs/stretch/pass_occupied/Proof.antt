@@ -2,9 +2,9 @@
 use native.Mathlib.Omega.{arith}
 use borrow.Author.Needs.{needs}
 use Rattle.section.proofs.Told.{told-false, told-true}
 use Rattle.site.proofs.place.Laws.{rank-placed}
-use Rattle.site.proofs.stretch.pass_occupied.Statement.{statement}
-use Rattle.site.proofs.stretch.pass_occupied.Tie as tie
+use Rattle.occupancy.proofs.stretch.pass_occupied.Statement.{statement}
+use Rattle.occupancy.proofs.stretch.pass_occupied.Tie as tie
 
 stretch-ends-requires : tie.Need-stretch-ends-requires
 stretch-ends-requires c κs = (omega (arith, c .rank-at .ensures, rank-placed (c .before .pre)), c .before .pre .most)

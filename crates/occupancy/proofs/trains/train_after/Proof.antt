@@ -1,9 +1,9 @@
 -- A block section that follows a post with another ahead of it is one of the fifteen.
 use native.Mathlib.Omega.{arith}
 use borrow.Author.Needs.{needs}
 use Rattle.site.proofs.place.Laws.{block-below}
-use Rattle.site.proofs.trains.train_after.Statement.{statement}
-use Rattle.site.proofs.trains.train_after.Tie as tie
+use Rattle.occupancy.proofs.trains.train_after.Statement.{statement}
+use Rattle.occupancy.proofs.trains.train_after.Tie as tie
 
 train-in-requires : tie.Need-train-in-requires
 train-in-requires c κs =

@@ -2,9 +2,9 @@
 use native.Mathlib.Omega.{arith}
 use borrow.Author.Needs.{needs}
 use Rattle.rules.specs.Site.{occupancyAt}
 use Rattle.site.proofs.place.Laws.{rank-placed}
-use Rattle.site.proofs.stretch.stretch_occupied.Statement.{statement}
-use Rattle.site.proofs.stretch.stretch_occupied.Tie as tie
+use Rattle.occupancy.proofs.stretch.stretch_occupied.Statement.{statement}
+use Rattle.occupancy.proofs.stretch.stretch_occupied.Tie as tie
 
 stretch-holds-requires : tie.Need-stretch-holds-requires
 stretch-holds-requires c κs = (omega (arith, c .rank-at .ensures, rank-placed (c .before .pre)), c .before .pre .most)

@@ -1,9 +1,9 @@
 -- A post that is not the receiving end has a block section ahead.
 use native.Mathlib.Omega.{arith}
 use borrow.Author.Needs.{needs}
 use Rattle.site.proofs.place.Laws.{block-ahead}
-use Rattle.site.proofs.trains.train_ahead.Statement.{statement}
-use Rattle.site.proofs.trains.train_ahead.Tie as tie
+use Rattle.occupancy.proofs.trains.train_ahead.Statement.{statement}
+use Rattle.occupancy.proofs.trains.train_ahead.Tie as tie
 
 train-after-requires : tie.Need-train-after-requires
 train-after-requires c κs =
