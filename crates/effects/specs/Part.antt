@@ -10,7 +10,7 @@ use Rattle.section.specs.Numbers.{mostSeals}
 use Rattle.rules.specs.declared.Site.{Site}
 use Rattle.rules.specs.declared.Movement.{Movement}
 use Rattle.rules.specs.declared.Effect.{Effect}
-use Rattle.effects.specs.Walking.{HasAhead}
+use Rattle.site.specs.Placed.{HasAhead}
 
 -- a step that changes its post's record and does something with a train
 abbrev pub moving : Site → Post → Movement → Effect

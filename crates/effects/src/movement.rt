@@ -1,40 +1,14 @@
 // What an accepted step leaves of its track's trains.
 ghost use mathlib.Core.Path.{_≡_};
-ghost use Prim.Native.Nat.{_<_};
-ghost use Rattle.section.specs.Numbers.{mostBlocks};
-ghost use Rattle.rules.specs.Site.{blockAhead, blockBefore};
 ghost use Rattle.rules.specs.Table.{vacated, cellsAfter};
-ghost use Rattle.site.specs.Placed.{Placed};
-ghost use Rattle.effects.specs.Walking.{HasAhead};
-ghost use Rattle.effects.specs.Blocks.{HasBefore, HasBlocks};
+ghost use Rattle.site.specs.Placed.{Placed, HasBefore};
+ghost use Rattle.effects.specs.Blocks.{HasBlocks};
 use rules::Movement;
 use rules::Site;
 use section::Settings;
 use section::Trains;
-use section::positions;
-use site::place;
-
-fn block_ahead(c: Settings, e: Site) -> usize
-    requires { ⌜ (Placed c e) × (HasAhead c e) ⌝ }
-    ensures { λ r. ⌜ (r ≡ blockAhead c e) × (r < mostBlocks) ⌝ }
-{
-    positions::block(
-        c.posts,
-        positions::is_upward(e.track, e.cvt),
-        place::rank_at(c, e),
-    ) as usize
-}
-
-fn block_before(c: Settings, e: Site) -> usize
-    requires { ⌜ (Placed c e) × (HasBefore c e) ⌝ }
-    ensures { λ r. ⌜ (r ≡ blockBefore c e) × (r < mostBlocks) ⌝ }
-{
-    positions::block(
-        c.posts,
-        positions::is_upward(e.track, e.cvt),
-        place::rank_at(c, e) - 1,
-    ) as usize
-}
+use site::place::block_ahead;
+use site::place::block_before;
 
 // Empties the block section before the post, where cells are cleared.
 fn vacate(c: Settings, clears: bool, e: Site, cells: &mut Trains)

@@ -2,8 +2,8 @@
 ghost use mathlib.Core.Path.{_≡_};
 ghost use Rattle.rules.specs.Site.{nextPost};
 ghost use Rattle.rules.specs.Table.{setting, effect};
-ghost use Rattle.site.specs.Placed.{Placed};
-ghost use Rattle.effects.specs.Walking.{walking, HasAhead};
+ghost use Rattle.site.specs.Placed.{Placed, HasAhead};
+ghost use Rattle.effects.specs.Walking.{walking};
 use rules::Effect;
 use rules::Movement;
 use rules::Site;

@@ -6,12 +6,12 @@ ghost use Rattle.section.specs.Numbers.{mostPosts};
 ghost use Rattle.rules.specs.Site.{rankAt, stretchEnds, stretchHolds, trainAt};
 ghost use Rattle.site.specs.Placed.{Placed};
 ghost use Rattle.occupancy.specs.Stretch.{stretchOccupied};
-use site::place::rank_at;
 use crate::trains::train_after;
 use rules::Site;
 use section::Settings;
 use section::Trains;
 use section::positions;
+use site::place::rank_at;
 
 // Whether a stretch ends at the post of rank j: in VNS at every post, in CVT at a signalled one. The rank of a rank is the post.
 fn stretch_ends(c: Settings, track: bool, cvt: bool, j: u8) -> bool

@@ -9,12 +9,13 @@ ghost use Rattle.section.specs.Settings.{isMaterialised};
 ghost use Rattle.rules.specs.Site.{isTrain, anyOf, atSendingEnd, atReceivingEnd, blockAhead, watchedOccupied, trainBefore};
 ghost use Rattle.site.specs.Placed.{Placed};
 ghost use Rattle.occupancy.specs.Sought.{isSought};
-use site::place::at_receiving_end;
-use site::place::rank_at;
 use rules::Site;
 use section::Settings;
 use section::Trains;
 use section::positions;
+use site::place::at_receiving_end;
+use site::place::block_ahead;
+use site::place::block_before;
 
 fn widened(number: u16) -> u64
     ensures { λ r. ⌜ r ≡ number ⌝ }
@@ -23,12 +24,11 @@ fn widened(number: u16) -> u64
 }
 
 // The train, or the last train, of block section i, widened: the only place where judging reads a cell.
-fn train_in(cells: &Trains, i: u8) -> u64
+fn train_in(cells: &Trains, i: usize) -> u64
     requires { ⌜ i < mostBlocks ⌝ }
     ensures { λ r. ⌜ r ≡ getD (now (cells .entry)) i 0 ⌝ }
 {
-    let at = i as usize;
-    widened(cells[at])
+    widened(cells[i])
 }
 
 // The same of the block section that follows the post of rank j.
@@ -36,7 +36,7 @@ pub fn train_after(cells: &Trains, n: u8, up: bool, j: u8) -> u64
     requires { ⌜ (j + 1 < n) × (n ≤ mostPosts) ⌝ }
     ensures { λ r. ⌜ r ≡ getD (now (cells .entry)) (block n up j) 0 ⌝ }
 {
-    train_in(cells, positions::block(n, up, j))
+    train_in(cells, positions::block(n, up, j) as usize)
 }
 
 // What is looked for: any train, or the one of that number.
@@ -59,7 +59,7 @@ pub fn any_of(m: u8, sought: Sought, trains: &Trains) -> bool
     requires { ⌜ m ≤ mostBlocks ⌝ }
     ensures { λ r. ⌜ r ≡ anyOf (isSought sought) m (now (trains .entry)) ⌝ }
 {
-    let mut i = m;
+    let mut i = m as usize;
     while i > 0 {
         i -= 1;
         if is_sought(sought, train_in(trains, i)) {
@@ -74,12 +74,7 @@ pub fn train_before(c: Settings, e: Site, trains: &Trains) -> u64
     requires { ⌜ (Placed c e) × (atSendingEnd c e ≡ false) ⌝ }
     ensures { λ r. ⌜ r ≡ trainBefore c e (now (trains .entry)) ⌝ }
 {
-    train_after(
-        trains,
-        c.posts,
-        positions::is_upward(e.track, e.cvt),
-        rank_at(c, e) - 1,
-    )
+    train_in(trains, block_before(c, e))
 }
 
 // The train, or the last train, of the block section ahead.
@@ -87,12 +82,7 @@ pub fn train_ahead(c: Settings, e: Site, cells: &Trains) -> u64
     requires { ⌜ (Placed c e) × (atReceivingEnd c e ≡ false) ⌝ }
     ensures { λ r. ⌜ r ≡ getD (now (cells .entry)) (blockAhead c e) 0 ⌝ }
 {
-    train_after(
-        cells,
-        c.posts,
-        positions::is_upward(e.track, e.cvt),
-        rank_at(c, e),
-    )
+    train_in(cells, block_ahead(c, e))
 }
 
 // A train in the part that the post watches.

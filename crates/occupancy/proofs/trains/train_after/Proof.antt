@@ -14,4 +14,4 @@ returns : tie.Need-returns
 returns c = rw (c .train-in .ensures, c .before .block .ensures)
 
 pub train-after-spec : {M : Type 1} → statement M
-train-after-spec = tie.close (tie.spec (λ c κs. search needs) train-in-requires returns)
+train-after-spec = tie.close (tie.spec (λ c κs. search needs) (λ c. search needs) train-in-requires returns)

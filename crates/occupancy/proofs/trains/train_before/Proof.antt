@@ -1,28 +1,18 @@
 -- A post that is not the sending end has a block section before it.
-use native.Mathlib.Omega.{arith}
-use borrow.Author.Needs.{needs}
 use Rattle.rules.specs.Site.{trainBefore}
-use Rattle.site.proofs.place.Laws.{block-before, rank-placed}
+use Rattle.site.proofs.place.Laws.{has-before}
 use Rattle.occupancy.proofs.trains.train_before.Statement.{statement}
 use Rattle.occupancy.proofs.trains.train_before.Tie as tie
 
-sub-train-after : tie.Need-sub-train-after
-sub-train-after c =
-    let h = c .before .before .pre in
-    omega (arith, c .rank-at .ensures, block-before (h .0) (h .1))
+block-before-requires : tie.Need-block-before-requires
+block-before-requires c κs = let h = c .pre in (h .0, has-before (h .0) (h .1))
 
-train-after-requires : tie.Need-train-after-requires
-train-after-requires c κs =
-    let h = c .before .before .pre in
-    (omega (arith, c .rank-at .ensures, block-before (h .0) (h .1), rank-placed (h .0)), h .0 .most)
+train-in-requires : tie.Need-train-in-requires
+train-in-requires c κs = c .block-before .ensures .1
 
 returns : tie.Need-returns
 unfolding trainBefore
-returns c =
-    let entry = c .before .before .before in
-    rw (entry .pre .1, c .train-after .ensures, c .before .rank-at .ensures, c .before .before .is-upward .ensures)
+returns c = rw (c .before .before .pre .1, c .train-in .ensures, c .before .block-before .ensures .0)
 
 pub train-before-spec : {M : Type 1} → statement M
-train-before-spec =
-    tie.close
-    (tie.spec (λ c κs. search needs) (λ c κs. search needs) sub-train-after train-after-requires returns)
+train-before-spec = tie.close (tie.spec block-before-requires train-in-requires returns)

@@ -1,10 +1,10 @@
 use native.Mathlib.Omega.{arith}
-use Rattle.effects.proofs.movement.Laws.{ahead-lt}
+use Rattle.site.proofs.place.Laws.{ahead-lt}
 use Rattle.rules.specs.Site.{blockAhead}
 use mathlib.Core.Path.{_≡_}
 use borrow.Author.Needs.{needs}
-use Rattle.effects.proofs.movement.block_ahead.Statement.{statement}
-use Rattle.effects.proofs.movement.block_ahead.Tie as tie
+use Rattle.site.proofs.place.block_ahead.Statement.{statement}
+use Rattle.site.proofs.place.block_ahead.Tie as tie
 
 returns : tie.Need-returns
 returns c =
@@ -15,7 +15,7 @@ returns c =
       c .before .before .is-upward
           .ensures,
     ) in
-    (e, omega (arith, e, ahead-lt _ _ (b .pre .0) (b .pre .1)))
+    (e, omega (arith, e, ahead-lt (b .pre .0) (b .pre .1)))
 
 pub block-ahead-spec : {M : Type 1} → statement M
 block-ahead-spec =

@@ -1,14 +1,14 @@
 use native.Mathlib.Omega.{arith}
 use native.Mathlib.Numerals.{add-one}
-use Rattle.effects.proofs.movement.Laws.{before-has, before-lt}
+use Rattle.site.proofs.place.Laws.{before-has, before-lt}
 use Rattle.rules.specs.Site.{blockBefore}
 use mathlib.Core.Path.{_≡_}
 use borrow.Author.Needs.{needs}
-use Rattle.effects.proofs.movement.block_before.Statement.{statement}
-use Rattle.effects.proofs.movement.block_before.Tie as tie
+use Rattle.site.proofs.place.block_before.Statement.{statement}
+use Rattle.site.proofs.place.block_before.Tie as tie
 
 block-requires : tie.Need-block-requires
-block-requires c κs = let b = c .before .before in rw (add-one, c .rank-at .ensures) (before-has _ _ (b .pre .0) (b .pre .1))
+block-requires c κs = let b = c .before .before in rw (add-one, c .rank-at .ensures) (before-has (b .pre .0) (b .pre .1))
 
 returns : tie.Need-returns
 returns c =
@@ -19,7 +19,7 @@ returns c =
       c .before .before
           .is-upward .ensures,
     ) in
-    (e, omega (arith, e, before-lt _ _ (b .pre .0) (b .pre .1)))
+    (e, omega (arith, e, before-lt (b .pre .0) (b .pre .1)))
 
 pub block-before-spec : {M : Type 1} → statement M
 block-before-spec =
