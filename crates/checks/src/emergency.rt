@@ -3,7 +3,7 @@ ghost use mathlib.Core.Bool.{false};
 ghost use mathlib.Core.List.{[]};
 ghost use mathlib.Core.Path.{_≡_};
 ghost use Rattle.section.specs.declared.Step.the-variants.{Release, Key};
-ghost use Rattle.site.specs.Placed.{Placed};
+ghost use Rattle.site.specs.OnTheLine.{OnTheLine};
 ghost use Rattle.site.specs.VerdictAt.{verdictAt};
 use rules::Site;
 use section::Act;
@@ -21,7 +21,7 @@ use occupancy::trains::train_ahead;
 use occupancy::trains::watched_occupied;
 
 pub fn release(c: Settings, e: Site, number: u16, trains: &Trains, last: &Trains) -> Verdict
-    requires { ⌜ Placed c e ⌝ }
+    requires { ⌜ OnTheLine c e ⌝ }
     ensures { λ r. ⌜ r ≡ verdictAt c false (Release (e .post) number) e (now (trains .entry)) (now (last .entry)) ⌝ }
 {
     if !release_in_turn(c, e) {
@@ -43,7 +43,7 @@ pub fn release(c: Settings, e: Site, number: u16, trains: &Trains, last: &Trains
 }
 
 pub fn key(c: Settings, e: Site, trains: &Trains) -> Verdict
-    requires { ⌜ Placed c e ⌝ }
+    requires { ⌜ OnTheLine c e ⌝ }
     ensures { λ r. ⌜ r ≡ verdictAt c false (Key (e .post)) e (now (trains .entry)) [] ⌝ }
 {
     let walk = e.walk;

@@ -4,7 +4,7 @@ ghost use mathlib.Core.List.{[]};
 ghost use mathlib.Core.Path.{_≡_};
 ghost use Rattle.section.specs.declared.Settings.{Settings};
 ghost use Rattle.section.specs.declared.Step.the-variants.{Order, Set, Announce, Acknowledge};
-ghost use Rattle.site.specs.Placed.{Placed};
+ghost use Rattle.site.specs.OnTheLine.{OnTheLine};
 ghost use Rattle.site.specs.VerdictAt.{verdictAt};
 use rules::Site;
 use section::Act;
@@ -22,7 +22,7 @@ use occupancy::trains::order_occupied;
 use occupancy::trains::watched_occupied;
 
 pub fn order(c: Settings, e: Site, other_on_vns: bool, trains: &Trains) -> Verdict
-    requires { ⌜ Placed c e ⌝ }
+    requires { ⌜ OnTheLine c e ⌝ }
     ensures { λ r. ⌜ r ≡ verdictAt c «other_on_vns» (Order (e .post)) e (now (trains .entry)) [] ⌝ }
 {
     let walk = e.walk;
@@ -42,7 +42,7 @@ pub fn order(c: Settings, e: Site, other_on_vns: bool, trains: &Trains) -> Verdi
 }
 
 pub fn set(c: Settings, e: Site, trains: &Trains) -> Verdict
-    requires { ⌜ Placed c e ⌝ }
+    requires { ⌜ OnTheLine c e ⌝ }
     ensures { λ r. ⌜ r ≡ verdictAt c false (Set (e .post)) e (now (trains .entry)) [] ⌝ }
 {
     let walk = e.walk;

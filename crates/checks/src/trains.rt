@@ -3,7 +3,7 @@ ghost use mathlib.Core.Bool.{false};
 ghost use mathlib.Core.List.{[]};
 ghost use mathlib.Core.Path.{_≡_};
 ghost use Rattle.section.specs.declared.Step.the-variants.{Start, Pass, Leave};
-ghost use Rattle.site.specs.Placed.{Placed};
+ghost use Rattle.site.specs.OnTheLine.{OnTheLine};
 ghost use Rattle.site.specs.VerdictAt.{verdictAt};
 use rules::Site;
 use section::Said;
@@ -22,7 +22,7 @@ use occupancy::trains::any_of;
 use occupancy::trains::train_before;
 
 pub fn start(c: Settings, e: Site, number: u16, trains: &Trains) -> Verdict
-    requires { ⌜ Placed c e ⌝ }
+    requires { ⌜ OnTheLine c e ⌝ }
     ensures { λ r. ⌜ r ≡ verdictAt c false (Start (e .post) number) e (now (trains .entry)) [] ⌝ }
 {
     let walk = e.walk;
@@ -45,7 +45,7 @@ pub fn start(c: Settings, e: Site, number: u16, trains: &Trains) -> Verdict
 }
 
 pub fn pass(c: Settings, e: Site, number: u16, trains: &Trains) -> Verdict
-    requires { ⌜ Placed c e ⌝ }
+    requires { ⌜ OnTheLine c e ⌝ }
     ensures { λ r. ⌜ r ≡ verdictAt c false (Pass (e .post) number) e (now (trains .entry)) [] ⌝ }
 {
     if at_end(c, e) {
@@ -61,7 +61,7 @@ pub fn pass(c: Settings, e: Site, number: u16, trains: &Trains) -> Verdict
 }
 
 pub fn leave(c: Settings, e: Site, number: u16, trains: &Trains) -> Verdict
-    requires { ⌜ Placed c e ⌝ }
+    requires { ⌜ OnTheLine c e ⌝ }
     ensures { λ r. ⌜ r ≡ verdictAt c false (Leave (e .post) number) e (now (trains .entry)) [] ⌝ }
 {
     if !at_receiving_end(c, e) {

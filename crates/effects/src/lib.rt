@@ -5,8 +5,9 @@ pub mod reversal;
 
 ghost use mathlib.Core.Path.{_≡_};
 ghost use Rattle.rules.specs.Table.{cleared, effect};
-ghost use Rattle.site.specs.Placed.{Placed};
-ghost use Rattle.effects.specs.Part.{moving, HasNext};
+ghost use Rattle.site.specs.OnTheLine.{OnTheLine};
+ghost use Rattle.effects.specs.Moving.{moving};
+ghost use Rattle.effects.specs.Needs.{EffectNeeds};
 use crate::reversal::acknowledging;
 use crate::reversal::announcing;
 use crate::reversal::setting;
@@ -49,7 +50,7 @@ fn cleared(own: Post, fault: Fault) -> Post
 
 // The effect of each kind.
 pub fn effect_of(c: Settings, x: Step, e: Site) -> Effect
-    requires { ⌜ (Placed c e) × (HasNext c e x) ⌝ }
+    requires { ⌜ (OnTheLine c e) × (EffectNeeds c e x) ⌝ }
     ensures { λ r. ⌜ r ≡ effect c x e ⌝ }
 {
     let own = e.own;

@@ -1,8 +1,8 @@
 // What an accepted step leaves of its track's trains.
 ghost use mathlib.Core.Path.{_≡_};
 ghost use Rattle.rules.specs.Table.{vacated, cellsAfter};
-ghost use Rattle.site.specs.Placed.{Placed, HasBefore};
-ghost use Rattle.effects.specs.Blocks.{HasBlocks};
+ghost use Rattle.site.specs.OnTheLine.{OnTheLine, HasBefore};
+ghost use Rattle.effects.specs.Needs.{HasBlocks};
 use rules::Movement;
 use rules::Site;
 use section::Settings;
@@ -12,7 +12,7 @@ use site::place::block_before;
 
 // Empties the block section before the post, where cells are cleared.
 fn vacate(c: Settings, clears: bool, e: Site, cells: &mut Trains)
-    requires { ⌜ (Placed c e) × (HasBefore c e) ⌝ }
+    requires { ⌜ (OnTheLine c e) × (HasBefore c e) ⌝ }
     ensures { λ _. ⌜ now (cells .exit) ≡ vacated c clears e (now (cells .entry)) ⌝ }
 {
     if clears {
@@ -23,7 +23,7 @@ fn vacate(c: Settings, clears: bool, e: Site, cells: &mut Trains)
 
 // The numbers of the block sections after a movement: of the trains, where what is left is cleared, or of the last trains.
 pub fn move_cells(c: Settings, clears: bool, m: Movement, e: Site, cells: &mut Trains)
-    requires { ⌜ (Placed c e) × (HasBlocks c e m) ⌝ }
+    requires { ⌜ (OnTheLine c e) × (HasBlocks c e m) ⌝ }
     ensures { λ _. ⌜ now (cells .exit) ≡ cellsAfter c clears m e (now (cells .entry)) ⌝ }
 {
     match m {

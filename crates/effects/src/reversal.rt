@@ -2,7 +2,7 @@
 ghost use mathlib.Core.Path.{_≡_};
 ghost use Rattle.rules.specs.Site.{nextPost};
 ghost use Rattle.rules.specs.Table.{setting, effect};
-ghost use Rattle.site.specs.Placed.{Placed, HasAhead};
+ghost use Rattle.site.specs.OnTheLine.{OnTheLine, HasAhead};
 ghost use Rattle.effects.specs.Walking.{walking};
 use rules::Effect;
 use rules::Movement;
@@ -31,7 +31,7 @@ pub fn walking(e: Site, own: Post, walk: Walk, said: Said) -> Effect
 
 // Set, and key after its seal: the last one changes the running direction and gives permission.
 pub fn setting(c: Settings, e: Site, own: Post) -> Effect
-    requires { ⌜ Placed c e ⌝ }
+    requires { ⌜ OnTheLine c e ⌝ }
     ensures { λ r. ⌜ r ≡ setting c e own ⌝ }
 {
     let cvt = e.cvt;
@@ -50,7 +50,7 @@ pub fn setting(c: Settings, e: Site, own: Post) -> Effect
 
 // The post at which the walk goes on after an announcement.
 fn next_post(c: Settings, e: Site) -> u8
-    requires { ⌜ (Placed c e) × (HasAhead c e) ⌝ }
+    requires { ⌜ (OnTheLine c e) × (HasAhead c e) ⌝ }
     ensures { λ r. ⌜ r ≡ nextPost c e ⌝ }
 {
     if positions::is_upward(e.track, e.cvt) {
@@ -61,7 +61,7 @@ fn next_post(c: Settings, e: Site) -> u8
 }
 
 pub fn announcing(c: Settings, e: Site) -> Effect
-    requires { ⌜ (Placed c e) × (HasAhead c e) ⌝ }
+    requires { ⌜ (OnTheLine c e) × (HasAhead c e) ⌝ }
     ensures { λ r. ⌜ r ≡ effect c (Step.Announce (e .post)) e ⌝ }
 {
     let own = e.own;

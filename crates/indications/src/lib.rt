@@ -7,7 +7,7 @@ ghost use Rattle.section.specs.Range.{walkInRange, trackInRange};
 ghost use Rattle.section.specs.Settings.{isMaterialised, settingsInRange};
 ghost use Rattle.rules.specs.Site.{siteOn, upAt, rankAt};
 ghost use Rattle.rules.specs.Indications.{setCount, isNextToSet, shown, lampsAt, dark, indications};
-ghost use Rattle.site.specs.Fit.{Fit};
+ghost use Rattle.site.specs.InItsRanges.{InItsRanges};
 use rules::Site;
 use section::Act;
 use section::Indications;
@@ -71,7 +71,7 @@ fn is_next_to_set(count: u8, j: u8) -> bool
 
 // The form is materialised, and the post is the next to set.
 fn is_flashing(c: Settings, e: Site) -> bool
-    requires { ⌜ Fit c e ⌝ }
+    requires { ⌜ InItsRanges c e ⌝ }
     ensures { λ r. ⌜ r ≡ (isMaterialised c && isNextToSet (setCount (c .posts) (upAt c e) (e .walk)) (rankAt c e)) ⌝ }
 {
     if c.form != 1 {
@@ -114,7 +114,7 @@ fn number(x: bool) -> u8
 
 // What the post of a site shows.
 fn shown_at(c: Settings, e: Site, trains: &Trains) -> Indications
-    requires { ⌜ Fit c e ⌝ }
+    requires { ⌜ InItsRanges c e ⌝ }
     ensures { λ r. ⌜ r ≡ shown (lampsAt c e (now (trains .entry))) ⌝ }
 {
     let own = e.own;

@@ -4,7 +4,7 @@ ghost use mathlib.Core.Path.{_≡_};
 ghost use Prim.Native.Nat.{suc, _-_, _<_, _≤_};
 ghost use Rattle.section.specs.Numbers.{mostPosts};
 ghost use Rattle.rules.specs.Site.{rankAt, stretchEnds, stretchHolds, trainAt};
-ghost use Rattle.site.specs.Placed.{Placed};
+ghost use Rattle.site.specs.OnTheLine.{OnTheLine};
 ghost use Rattle.occupancy.specs.Stretch.{stretchOccupied};
 use crate::trains::train_after;
 use rules::Site;
@@ -48,7 +48,7 @@ fn stretch_holds(c: Settings, track: bool, cvt: bool, from: u8, trains: &Trains)
 }
 
 pub fn stretch_occupied(c: Settings, e: Site, trains: &Trains) -> bool
-    requires { ⌜ Placed c e ⌝ }
+    requires { ⌜ OnTheLine c e ⌝ }
     ensures { λ r. ⌜ r ≡ stretchOccupied c e (now (trains .entry)) ⌝ }
 {
     stretch_holds(c, e.track, e.cvt, rank_at(c, e), trains)
@@ -56,7 +56,7 @@ pub fn stretch_occupied(c: Settings, e: Site, trains: &Trains) -> bool
 
 // 13 of pass: a train in the stretch that begins at the post, if one does.
 pub fn pass_occupied(c: Settings, e: Site, trains: &Trains) -> bool
-    requires { ⌜ Placed c e ⌝ }
+    requires { ⌜ OnTheLine c e ⌝ }
     ensures { λ r. ⌜ r ≡ (stretchEnds c (e .track) (e .cvt) (rankAt c e) && stretchOccupied c e (now (trains .entry))) ⌝ }
 {
     if !stretch_ends(c, e.track, e.cvt, rank_at(c, e)) {

@@ -7,7 +7,7 @@ ghost use Rattle.section.specs.Numbers.{mostBlocks, mostPosts};
 ghost use Rattle.section.specs.Geometry.{block};
 ghost use Rattle.section.specs.Settings.{isMaterialised};
 ghost use Rattle.rules.specs.Site.{isTrain, anyOf, atSendingEnd, atReceivingEnd, blockAhead, watchedOccupied, trainBefore};
-ghost use Rattle.site.specs.Placed.{Placed};
+ghost use Rattle.site.specs.OnTheLine.{OnTheLine};
 ghost use Rattle.occupancy.specs.Sought.{isSought};
 use rules::Site;
 use section::Settings;
@@ -71,7 +71,7 @@ pub fn any_of(m: u8, sought: Sought, trains: &Trains) -> bool
 
 // The train in the block section before the post.
 pub fn train_before(c: Settings, e: Site, trains: &Trains) -> u64
-    requires { ⌜ (Placed c e) × (atSendingEnd c e ≡ false) ⌝ }
+    requires { ⌜ (OnTheLine c e) × (atSendingEnd c e ≡ false) ⌝ }
     ensures { λ r. ⌜ r ≡ trainBefore c e (now (trains .entry)) ⌝ }
 {
     train_in(trains, block_before(c, e))
@@ -79,7 +79,7 @@ pub fn train_before(c: Settings, e: Site, trains: &Trains) -> u64
 
 // The train, or the last train, of the block section ahead.
 pub fn train_ahead(c: Settings, e: Site, cells: &Trains) -> u64
-    requires { ⌜ (Placed c e) × (atReceivingEnd c e ≡ false) ⌝ }
+    requires { ⌜ (OnTheLine c e) × (atReceivingEnd c e ≡ false) ⌝ }
     ensures { λ r. ⌜ r ≡ getD (now (cells .entry)) (blockAhead c e) 0 ⌝ }
 {
     train_in(cells, block_ahead(c, e))
@@ -87,7 +87,7 @@ pub fn train_ahead(c: Settings, e: Site, cells: &Trains) -> u64
 
 // A train in the part that the post watches.
 pub fn watched_occupied(c: Settings, e: Site, trains: &Trains) -> bool
-    requires { ⌜ Placed c e ⌝ }
+    requires { ⌜ OnTheLine c e ⌝ }
     ensures { λ r. ⌜ r ≡ watchedOccupied c e (now (trains .entry)) ⌝ }
 {
     if at_receiving_end(c, e) {
@@ -98,7 +98,7 @@ pub fn watched_occupied(c: Settings, e: Site, trains: &Trains) -> bool
 
 // 13 of order: by telephone a train anywhere on the track, materialised one in the part that the post watches.
 pub fn order_occupied(c: Settings, e: Site, trains: &Trains) -> bool
-    requires { ⌜ Placed c e ⌝ }
+    requires { ⌜ OnTheLine c e ⌝ }
     ensures { λ r. ⌜ r ≡ cond (isMaterialised c) (watchedOccupied c e (now (trains .entry))) (anyOf isTrain (c .posts - 1) (now (trains .entry))) ⌝ }
 {
     if c.form == 1 {

@@ -1,4 +1,4 @@
-pub mod Placed
+pub mod OnTheLine
 pub mod VerdictAt
-pub mod Fit
+pub mod InItsRanges
 pub mod Running

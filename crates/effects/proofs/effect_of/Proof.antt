@@ -1,17 +1,17 @@
 use mathlib.Core.Path.{subst}
 use Rattle.rules.specs.Table.{effect}
-use Rattle.effects.specs.Part.{HasNext}
+use Rattle.effects.specs.Needs.{EffectNeeds}
 use borrow.Author.Needs.{needs}
 use Rattle.effects.proofs.effect_of.Statement.{statement}
 use Rattle.effects.proofs.effect_of.Tie as tie
 
 announcing-requires : tie.Need-announcing-requires
-unfolding HasNext
-announcing-requires c κs = let b = c .before .before .before in (b .pre .0, subst (HasNext (b .args .c) (b .args .e)) (c .enum-told3 .given .1) (b .pre .1))
+unfolding EffectNeeds
+announcing-requires c κs = let b = c .before .before .before in (b .pre .0, subst (EffectNeeds (b .args .c) (b .args .e)) (c .enum-told3 .given .1) (b .pre .1))
 
 sealed-requires : tie.Need-sealed-requires
-unfolding HasNext
-sealed-requires c κs = let b = c .before .before .before in subst (HasNext (b .args .c) (b .args .e)) (c .enum-told9 .given .1) (b .pre .1)
+unfolding EffectNeeds
+sealed-requires c κs = let b = c .before .before .before in subst (EffectNeeds (b .args .c) (b .args .e)) (c .enum-told9 .given .1) (b .pre .1)
 
 returns : tie.Need-returns
 unfolding effect

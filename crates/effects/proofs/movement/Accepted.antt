@@ -23,10 +23,9 @@ use Rattle.rules.specs.declared.Site.{Site}
 use Rattle.rules.specs.Site.{isTurn, upAt, atSendingEnd, atReceivingEnd, Occupancy}
 use Rattle.rules.specs.Table.{Check, _else_, checks, effect}
 use Rattle.rules.specs.Judge.{verdictOf}
-use Rattle.site.specs.Placed.{Placed, HasAhead, HasBefore}
+use Rattle.site.specs.OnTheLine.{OnTheLine, HasAhead, HasBefore}
 use Rattle.site.proofs.place.Laws.{has-ahead, has-before, receiving-not-sending, sending-not-receiving, or-false}
-use Rattle.effects.specs.Part.{HasNext}
-use Rattle.effects.specs.Blocks.{HasBlocks, Fitting}
+use Rattle.effects.specs.Needs.{EffectNeeds, HasBlocks, AcceptedHas}
 
 -- a check of an accepted step holds, and so do those after it
 passed :
@@ -38,11 +37,11 @@ passed false k ks said w h = let z : _≡_ {A = ℕ} 0 1 = cc in absurd (omega a
 
 -- ## The block sections beside the post
 
-module _ (c : Settings) (e : Site) (placed : Placed c e) where
+module _ (c : Settings) (e : Site) (line : OnTheLine c e) where
   between : not (atSendingEnd c e || atReceivingEnd c e) ≡ true → HasBefore c e × HasAhead c e
   between k =
       let ends = or-false (atSendingEnd c e) (atReceivingEnd c e) (not-true (atSendingEnd c e || atReceivingEnd c e) k) in
-      (has-before placed (ends .0), has-ahead placed (ends .1))
+      (has-before line (ends .0), has-ahead line (ends .1))
 
   -- the turn to announce is at a post with a block section ahead
   announce-ahead : (w : Walk) → walkInRange (c .posts) (upAt c e) w ≡ true → isTurn w (e .post) act.Announce ≡ true → HasAhead c e
@@ -53,7 +52,7 @@ module _ (c : Settings) (e : Site) (placed : Placed c e) where
       let same = eqb-true q (e .post) (and-left (eqb q (e .post)) true k) in
       let n = c .posts in
       let up = upAt c e in
-      has-ahead placed (subst (λ (r : ℕ). isLast n up r ≡ false) same (announce-right n up q (turn-right n up q act.Announce fits .1)))
+      has-ahead line (subst (λ (r : ℕ). isLast n up r ≡ false) same (announce-right n up q (turn-right n up q act.Announce fits .1)))
 
 -- ## Each kind
 
@@ -61,37 +60,37 @@ module _
     (c : Settings)
     (e : Site)
     (g : Occupancy)
-    (placed : Placed c e)
+    (line : OnTheLine c e)
     (fits : walkInRange (c .posts) (upAt c e) (e .walk) ≡ true)
     (seals : e .own .seals ≤ mostSeals)
     (said w : Said) where
-  pub fitting : (x : Step) → verdictOf (checks c x e g) said ≡ Accepted w → Fitting c x e
-  unfolding checks effect HasNext HasBlocks
-  fitting (Order p) h = record { next = tt; blocks = tt }
-  fitting (Set p) h = record { next = tt; blocks = tt }
-  fitting (Announce p) h = record {
-    next = announce-ahead c e placed (e .walk) fits (passed _ _ _ _ _ h .0);
+  pub accepted-has : (x : Step) → verdictOf (checks c x e g) said ≡ Accepted w → AcceptedHas c x e
+  unfolding checks effect EffectNeeds HasBlocks
+  accepted-has (Order p) h = record { effectNeeds = tt; blocks = tt }
+  accepted-has (Set p) h = record { effectNeeds = tt; blocks = tt }
+  accepted-has (Announce p) h = record {
+    effectNeeds = announce-ahead c e line (e .walk) fits (passed _ _ _ _ _ h .0);
     blocks = tt;
   }
-  fitting (Acknowledge p) h = record { next = tt; blocks = tt }
-  fitting (Start p number) h = record {
-    next = tt;
-    blocks = has-ahead placed (sending-not-receiving placed (passed _ _ _ _ _ (passed _ _ _ _ _ h .1) .0));
+  accepted-has (Acknowledge p) h = record { effectNeeds = tt; blocks = tt }
+  accepted-has (Start p number) h = record {
+    effectNeeds = tt;
+    blocks = has-ahead line (sending-not-receiving line (passed _ _ _ _ _ (passed _ _ _ _ _ h .1) .0));
   }
-  fitting (Pass p number) h = record {
-    next = tt;
-    blocks = between c e placed (passed _ _ _ _ _ h .0);
+  accepted-has (Pass p number) h = record {
+    effectNeeds = tt;
+    blocks = between c e line (passed _ _ _ _ _ h .0);
   }
-  fitting (Leave p number) h = record {
-    next = tt;
-    blocks = has-before placed (receiving-not-sending placed (passed _ _ _ _ _ h .0));
+  accepted-has (Leave p number) h = record {
+    effectNeeds = tt;
+    blocks = has-before line (receiving-not-sending line (passed _ _ _ _ _ h .0));
   }
-  fitting (MeasuresOn p) h = record { next = tt; blocks = tt }
-  fitting (MeasuresOff p) h = record { next = tt; blocks = tt }
-  fitting (FaultOn p f) h = record { next = tt; blocks = tt }
-  fitting (FaultOff p f) h = record { next = tt; blocks = tt }
-  fitting (Release p number) h = record { next = tt; blocks = tt }
-  fitting (Key p) h =
+  accepted-has (MeasuresOn p) h = record { effectNeeds = tt; blocks = tt }
+  accepted-has (MeasuresOff p) h = record { effectNeeds = tt; blocks = tt }
+  accepted-has (FaultOn p f) h = record { effectNeeds = tt; blocks = tt }
+  accepted-has (FaultOff p f) h = record { effectNeeds = tt; blocks = tt }
+  accepted-has (Release p number) h = record { effectNeeds = tt; blocks = tt }
+  accepted-has (Key p) h =
       let five = passed _ _ _ _ _ (passed _ _ _ _ _ (passed _ _ _ _ _ (passed _ _ _ _ _ (passed _ _ _ _ _ h .1) .1) .1) .1) .1 in
       let more = eqb-false (e .own .seals) mostSeals (not-true (eqb (e .own .seals) mostSeals) (passed _ _ _ _ _ five .0)) in
-      record { next = omega (arith, more); blocks = tt }
+      record { effectNeeds = omega (arith, more); blocks = tt }

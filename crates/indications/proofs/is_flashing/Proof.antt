@@ -9,7 +9,7 @@ returns c = rw (not-materialised (c .before .before .args .c) (c .if1 .taken))
 set-count-requires : tie.Need-set-count-requires
 set-count-requires c κs =
     let p = c .before .before .before .pre in
-    (p .placed .most, rw (c .is-upward .ensures) (p .walk))
+    (p .onTheLine .most, rw (c .is-upward .ensures) (p .walk))
 
 returns-2 : tie.Need-returns-2
 returns-2 c =

@@ -10,7 +10,7 @@ use Rattle.section.specs.Numbers.{mostBlocks}
 use Rattle.section.proofs.Laws.{rank-lt, block-lt}
 use Rattle.rules.specs.declared.Site.{Site}
 use Rattle.rules.specs.Site.{upAt, rankAt, atSendingEnd, atReceivingEnd, blockAhead, blockBefore}
-use Rattle.site.specs.Placed.{Placed, HasAhead, HasBefore}
+use Rattle.site.specs.OnTheLine.{OnTheLine, HasAhead, HasBefore}
 
 module _ (n : ℕ) (up : Bool) where
   pub block-below : (j : ℕ) → suc j < n → n ≤ 16 → block n up j < 15
@@ -19,13 +19,13 @@ module _ (n : ℕ) (up : Bool) where
   pub rank-below : (p : ℕ) → p < n → n ≤ 16 → rank n up p < 16
   rank-below p h k = omega (arith, rank-lt n up p h)
 
-module _ {c : Settings} {e : Site} (h : Placed c e) where
-  pub rank-placed : rankAt c e < c .posts
-  rank-placed = rank-lt (c .posts) (upAt c e) (e .post) (h .post)
+module _ {c : Settings} {e : Site} (h : OnTheLine c e) where
+  pub rank-on-the-line : rankAt c e < c .posts
+  rank-on-the-line = rank-lt (c .posts) (upAt c e) (e .post) (h .post)
 
   pub has-ahead : atReceivingEnd c e ≡ false → HasAhead c e
   unfolding isLast
-  has-ahead k = omega (arith, rank-placed, eqb-false (suc (rankAt c e)) (c .posts) k)
+  has-ahead k = omega (arith, rank-on-the-line, eqb-false (suc (rankAt c e)) (c .posts) k)
 
   pub has-before : atSendingEnd c e ≡ false → HasBefore c e
   unfolding isFirst
@@ -45,7 +45,7 @@ module _ {c : Settings} {e : Site} (h : Placed c e) where
 
   -- the post before has a block section ahead
   pub before-has : HasBefore c e → suc (rankAt c e - 1) < c .posts
-  before-has k = omega (arith, k, rank-placed)
+  before-has k = omega (arith, k, rank-on-the-line)
 
   pub before-lt : HasBefore c e → blockBefore c e < mostBlocks
   before-lt k = block-below (c .posts) (upAt c e) (rankAt c e - 1) (before-has k) (h .most)

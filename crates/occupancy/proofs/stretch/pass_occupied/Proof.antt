@@ -2,12 +2,12 @@
 use native.Mathlib.Omega.{arith}
 use borrow.Author.Needs.{needs}
 use Rattle.section.proofs.Told.{told-false, told-true}
-use Rattle.site.proofs.place.Laws.{rank-placed}
+use Rattle.site.proofs.place.Laws.{rank-on-the-line}
 use Rattle.occupancy.proofs.stretch.pass_occupied.Statement.{statement}
 use Rattle.occupancy.proofs.stretch.pass_occupied.Tie as tie
 
 stretch-ends-requires : tie.Need-stretch-ends-requires
-stretch-ends-requires c κs = (omega (arith, c .rank-at .ensures, rank-placed (c .before .pre)), c .before .pre .most)
+stretch-ends-requires c κs = (omega (arith, c .rank-at .ensures, rank-on-the-line (c .before .pre)), c .before .pre .most)
 
 returns : tie.Need-returns
 returns c = let d = c .before in

@@ -2,12 +2,12 @@
 use native.Mathlib.Omega.{arith}
 use borrow.Author.Needs.{needs}
 use Rattle.rules.specs.Site.{occupancyAt}
-use Rattle.site.proofs.place.Laws.{rank-placed}
+use Rattle.site.proofs.place.Laws.{rank-on-the-line}
 use Rattle.occupancy.proofs.stretch.stretch_occupied.Statement.{statement}
 use Rattle.occupancy.proofs.stretch.stretch_occupied.Tie as tie
 
 stretch-holds-requires : tie.Need-stretch-holds-requires
-stretch-holds-requires c κs = (omega (arith, c .rank-at .ensures, rank-placed (c .before .pre)), c .before .pre .most)
+stretch-holds-requires c κs = (omega (arith, c .rank-at .ensures, rank-on-the-line (c .before .pre)), c .before .pre .most)
 
 returns : tie.Need-returns
 unfolding occupancyAt

@@ -5,7 +5,7 @@ use Rattle.section.specs.Numbers.{leastPosts, mostPosts}
 use Rattle.rules.specs.declared.Site.{Site}
 use Rattle.rules.specs.Site.{rankAt}
 
-pub record Placed (c : Settings) (e : Site) : Type 0 where
+pub record OnTheLine (c : Settings) (e : Site) : Type 0 where
   pub least : leastPosts ≤ c .posts
   pub most : c .posts ≤ mostPosts
   pub post : e .post < c .posts

@@ -2,11 +2,11 @@
 use mathlib.Core.Path.{_≡_, _∙_, ap, subst, sym}
 use Prim.Native.Nat.{ℕ}
 use Rattle.section.specs.Step.{postOf}
-use Rattle.site.specs.Fit.{Fit}
+use Rattle.site.specs.InItsRanges.{InItsRanges}
 use Rattle.site.specs.Running.{siteWith}
 use borrow.Author.Needs.{needs}
-use Rattle.judging.proofs.at_post.judge_step.Statement.{statement}
-use Rattle.judging.proofs.at_post.judge_step.Tie as tie
+use Rattle.judging.proofs.at_post.judge_at_post.Statement.{statement}
+use Rattle.judging.proofs.at_post.judge_at_post.Tie as tie
 
 site-is : (c : tie.After-site) →
     let a = c .before .before .args in
@@ -18,12 +18,12 @@ site-is c =
 judge-at-requires : tie.Need-judge-at-requires
 judge-at-requires c κs =
     let site = c .before .before .before in
-    subst (Fit (site .before .before .args .c)) (sym (site-is site)) (site .before .before .pre)
+    subst (InItsRanges (site .before .before .args .c)) (sym (site-is site)) (site .before .before .pre)
 
 returns : tie.Need-returns
 returns c =
     let other = c .before .before .before in
     rw (site-is (other .before), other .settled-on-vns .ensures) at (c .judge-at .ensures)
 
-pub judge-step-spec : {M : Type 1} → statement M
-judge-step-spec = tie.close (tie.spec (λ c κs. search needs) (λ c κs. search needs) (λ c κs. search needs) judge-at-requires returns)
+pub judge-at-post-spec : {M : Type 1} → statement M
+judge-at-post-spec = tie.close (tie.spec (λ c κs. search needs) (λ c κs. search needs) (λ c κs. search needs) judge-at-requires returns)

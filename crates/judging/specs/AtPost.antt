@@ -18,13 +18,13 @@ use Rattle.rules.specs.Table.{effect, cellsAfter}
 use Rattle.site.specs.declared.running.Running.{Running}
 use Rattle.site.specs.Running.{siteWith}
 use Rattle.site.specs.VerdictAt.{verdictAt}
-use Rattle.judging.specs.declared.at_post.Judged.{Judged}
+use Rattle.judging.specs.declared.at_post.PostAnswer.{PostAnswer}
 
 -- a refused step leaves what it found
-abbrev pub asBefore : Verdict → Site → Judged
+abbrev pub asBefore : Verdict → Site → PostAnswer
 asBefore verdict e = record { verdict = verdict; own = e .own; running = record { cvt = e .cvt; walk = e .walk } }
 
-unfoldable pub judgedOf : Verdict → Effect → Site → Judged
+unfoldable pub judgedOf : Verdict → Effect → Site → PostAnswer
 judgedOf (Accepted said) f e = record { verdict = Accepted said; own = f .own; running = record { cvt = f .cvt; walk = f .walk } }
 judgedOf (Refused k) f e = asBefore (Refused k) e
 
@@ -34,8 +34,8 @@ cellsOf (Accepted said) old new = new
 cellsOf (Refused k) old new = old
 
 module _ (c : Settings) (otherOnVns : Bool) (x : Step) (e : Site) (trains last : List ℕ) where
-  unfoldable pub judgedAt : Judged
-  judgedAt = judgedOf (verdictAt c otherOnVns x e trains last) (effect c x e) e
+  unfoldable pub judgedAtPost : PostAnswer
+  judgedAtPost = judgedOf (verdictAt c otherOnVns x e trains last) (effect c x e) e
 
   unfoldable pub trainsAt : List ℕ
   trainsAt = cellsOf (verdictAt c otherOnVns x e trains last) trains (cellsAfter c true (effect c x e .train) e trains)
@@ -46,9 +46,9 @@ module _ (c : Settings) (otherOnVns : Bool) (x : Step) (e : Site) (trains last :
 -- the track with what a step judged at its site leaves in its places
 unfoldable pub trackAt : Settings → Bool → Step → Site → Track → Track
 trackAt c otherOnVns x e t = record {
-  posts = set (t .posts) (e .post) (judgedAt c otherOnVns x e (t .trains) (t .last) .own);
+  posts = set (t .posts) (e .post) (judgedAtPost c otherOnVns x e (t .trains) (t .last) .own);
   trains = trainsAt c otherOnVns x e (t .trains) (t .last);
   last = lastAt c otherOnVns x e (t .trains) (t .last);
-  cvt = judgedAt c otherOnVns x e (t .trains) (t .last) .running .cvt;
-  walk = judgedAt c otherOnVns x e (t .trains) (t .last) .running .walk;
+  cvt = judgedAtPost c otherOnVns x e (t .trains) (t .last) .running .cvt;
+  walk = judgedAtPost c otherOnVns x e (t .trains) (t .last) .running .walk;
 }

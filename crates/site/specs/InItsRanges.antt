@@ -7,9 +7,9 @@ use Rattle.section.specs.Numbers.{mostSeals}
 use Rattle.section.specs.Range.{walkInRange}
 use Rattle.rules.specs.declared.Site.{Site}
 use Rattle.rules.specs.Site.{upAt}
-use Rattle.site.specs.Placed.{Placed}
+use Rattle.site.specs.OnTheLine.{OnTheLine}
 
-pub record Fit (c : Settings) (e : Site) : Type 0 where
-  pub placed : Placed c e
+pub record InItsRanges (c : Settings) (e : Site) : Type 0 where
+  pub onTheLine : OnTheLine c e
   pub seals : e .own .seals ≤ mostSeals
   pub walk : walkInRange (c .posts) (upAt c e) (e .walk) ≡ true
