@@ -43,15 +43,6 @@ next-within count (suc j) z h = rw (lt-ltb j count (omega arith)) (go (decLt (su
 pub turn-below : (n : ℕ) (up : Bool) (w : Walk) (p : ℕ) (act : Act) → walkInRange n up w ≡ true → w ≡ Turn p act → p < n
 turn-below n up w p act fits is = turn-right n up p act (rw is at fits) .0
 
--- the test of the form
-pub not-materialised : (c : Settings) → (c .form ≡ 1 → ⊥) → isMaterialised c ≡ false
-unfolding isMaterialised
-not-materialised c h = ne-eqb (c .form) 1 h
-
-pub is-materialised : (c : Settings) → c .form ≡ 1 → isMaterialised c ≡ true
-unfolding isMaterialised
-is-materialised c h = eq-eqb (c .form) 1 h
-
 -- the indications of a section by its tracks
 pub shown-is :
     (s : Section) (track post : ℕ) (b : Bool) → inRange s ≡ true → track < 2 → post < s .settings .posts → eqb track 1 ≡ b

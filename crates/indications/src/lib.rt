@@ -74,7 +74,7 @@ fn is_flashing(c: Settings, e: Site) -> bool
     requires { ⌜ InItsRanges c e ⌝ }
     ensures { λ r. ⌜ r ≡ (isMaterialised c && isNextToSet (setCount (c .posts) (upAt c e) (e .walk)) (rankAt c e)) ⌝ }
 {
-    if c.form != 1 {
+    if !place::is_materialised(c) {
         return false;
     }
     let walk = e.walk;

@@ -16,6 +16,7 @@ use section::positions;
 use site::place::at_receiving_end;
 use site::place::block_ahead;
 use site::place::block_before;
+use site::place::is_materialised;
 
 fn widened(number: u16) -> u64
     ensures { λ r. ⌜ r ≡ number ⌝ }
@@ -101,7 +102,7 @@ pub fn order_occupied(c: Settings, e: Site, trains: &Trains) -> bool
     requires { ⌜ OnTheLine c e ⌝ }
     ensures { λ r. ⌜ r ≡ cond (isMaterialised c) (watchedOccupied c e (now (trains .entry))) (anyOf isTrain (c .posts - 1) (now (trains .entry))) ⌝ }
 {
-    if c.form == 1 {
+    if is_materialised(c) {
         return watched_occupied(c, e, trains);
     }
     any_of(c.posts - 1, Sought::AnyTrain, trains)

@@ -1,12 +1,19 @@
-// Where a site stands in the running direction, and the block sections beside it.
+// The form of the line; where a site stands in the running direction, and the block sections beside it.
 ghost use mathlib.Core.Path.{_≡_};
 ghost use Prim.Native.Nat.{_<_};
 ghost use Rattle.section.specs.Numbers.{mostBlocks};
+ghost use Rattle.section.specs.Settings.{isMaterialised};
 ghost use Rattle.rules.specs.Site.{rankAt, atSendingEnd, atReceivingEnd, blockAhead, blockBefore};
 ghost use Rattle.site.specs.OnTheLine.{OnTheLine, HasAhead, HasBefore};
 use rules::Site;
 use section::Settings;
 use section::positions;
+
+pub fn is_materialised(c: Settings) -> bool
+    ensures { λ r. ⌜ r ≡ isMaterialised c ⌝ }
+{
+    c.form == 1
+}
 
 pub fn rank_at(c: Settings, e: Site) -> u8
     requires { ⌜ OnTheLine c e ⌝ }

@@ -1,3 +1,4 @@
+-- By the kind of the step: each return is the row of its kind, by what the callees ensure. What announce and key need beside it, the step has.
 use mathlib.Core.Path.{subst}
 use Rattle.rules.specs.Table.{effect}
 use Rattle.effects.specs.Needs.{EffectNeeds}
