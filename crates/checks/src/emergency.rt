@@ -5,6 +5,8 @@ ghost use mathlib.Core.Path.{_≡_};
 ghost use Rattle.section.specs.declared.Step.the-variants.{Release, Key};
 ghost use Rattle.site.specs.OnTheLine.{OnTheLine};
 ghost use Rattle.site.specs.VerdictAt.{verdictAt};
+use occupancy::trains::train_ahead;
+use occupancy::trains::watched_occupied;
 use rules::Site;
 use section::Act;
 use section::MOST_SEALS;
@@ -17,8 +19,6 @@ use site::conditions::is_turn;
 use site::conditions::measures_suffice;
 use site::conditions::release_in_turn;
 use site::place::at_receiving_end;
-use occupancy::trains::train_ahead;
-use occupancy::trains::watched_occupied;
 
 pub fn release(c: Settings, e: Site, number: u16, trains: &Trains, last: &Trains) -> Verdict
     requires { ⌜ OnTheLine c e ⌝ }

@@ -6,6 +6,8 @@ ghost use Rattle.section.specs.declared.Settings.{Settings};
 ghost use Rattle.section.specs.declared.Step.the-variants.{Order, Set, Announce, Acknowledge};
 ghost use Rattle.site.specs.OnTheLine.{OnTheLine};
 ghost use Rattle.site.specs.VerdictAt.{verdictAt};
+use occupancy::trains::order_occupied;
+use occupancy::trains::watched_occupied;
 use rules::Site;
 use section::Act;
 use section::Said;
@@ -18,8 +20,6 @@ use site::conditions::is_turn;
 use site::conditions::measures_suffice;
 use site::conditions::order_allowed;
 use site::place::at_sending_end;
-use occupancy::trains::order_occupied;
-use occupancy::trains::watched_occupied;
 
 pub fn order(c: Settings, e: Site, other_on_vns: bool, trains: &Trains) -> Verdict
     requires { ⌜ OnTheLine c e ⌝ }

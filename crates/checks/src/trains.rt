@@ -5,6 +5,11 @@ ghost use mathlib.Core.Path.{_≡_};
 ghost use Rattle.section.specs.declared.Step.the-variants.{Start, Pass, Leave};
 ghost use Rattle.site.specs.OnTheLine.{OnTheLine};
 ghost use Rattle.site.specs.VerdictAt.{verdictAt};
+use occupancy::stretch::pass_occupied;
+use occupancy::stretch::stretch_occupied;
+use occupancy::trains::Sought;
+use occupancy::trains::any_of;
+use occupancy::trains::train_before;
 use rules::Site;
 use section::Said;
 use section::Settings;
@@ -15,11 +20,6 @@ use site::conditions::fault1_confirmed;
 use site::conditions::is_settled;
 use site::place::at_receiving_end;
 use site::place::at_sending_end;
-use occupancy::stretch::pass_occupied;
-use occupancy::stretch::stretch_occupied;
-use occupancy::trains::Sought;
-use occupancy::trains::any_of;
-use occupancy::trains::train_before;
 
 pub fn start(c: Settings, e: Site, number: u16, trains: &Trains) -> Verdict
     requires { ⌜ OnTheLine c e ⌝ }

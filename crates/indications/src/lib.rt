@@ -8,6 +8,7 @@ ghost use Rattle.section.specs.Settings.{isMaterialised, settingsInRange};
 ghost use Rattle.rules.specs.Site.{siteOn, upAt, rankAt};
 ghost use Rattle.rules.specs.Indications.{setCount, isNextToSet, shown, lampsAt, dark, indications};
 ghost use Rattle.site.specs.InItsRanges.{InItsRanges};
+use occupancy::trains;
 use rules::Site;
 use section::Act;
 use section::Indications;
@@ -18,7 +19,6 @@ use section::Trains;
 use section::Walk;
 use section::positions;
 use site::place;
-use occupancy::trains;
 
 // CIRCULATION, in the paper's numbers.
 const DARK: u8 = 0;

@@ -3,20 +3,14 @@ use Prim.Native.Nat.{ℕ}
 use mathlib.Core.Bool.{Bool, true, false}
 use mathlib.Core.List.{List}
 use lib.ListN.{set}
-use Rattle.section.specs.declared.Post.{Post}
 use Rattle.section.specs.declared.Settings.{Settings}
 use Rattle.section.specs.declared.Step.{Step}
 use Rattle.section.specs.declared.Track.{Track}
-use Rattle.section.specs.declared.TrackStep.{TrackStep}
 use Rattle.section.specs.declared.Verdict.{Verdict}
 use Rattle.section.specs.declared.Verdict.the-variants.{Accepted, Refused}
-use Rattle.section.specs.Step.{postOf}
 use Rattle.rules.specs.declared.Effect.{Effect}
 use Rattle.rules.specs.declared.Site.{Site}
-use Rattle.rules.specs.Site.{settledVns, siteOn}
 use Rattle.rules.specs.Table.{effect, cellsAfter}
-use Rattle.site.specs.declared.running.Running.{Running}
-use Rattle.site.specs.Running.{siteWith}
 use Rattle.site.specs.VerdictAt.{verdictAt}
 use Rattle.judging.specs.declared.at_post.PostAnswer.{PostAnswer}
 

@@ -41,11 +41,7 @@ pub fn block_ahead(c: Settings, e: Site) -> usize
     requires { ⌜ (OnTheLine c e) × (HasAhead c e) ⌝ }
     ensures { λ r. ⌜ (r ≡ blockAhead c e) × (r < mostBlocks) ⌝ }
 {
-    positions::block(
-        c.posts,
-        positions::is_upward(e.track, e.cvt),
-        rank_at(c, e),
-    ) as usize
+    positions::block(c.posts, positions::is_upward(e.track, e.cvt), rank_at(c, e)) as usize
 }
 
 // The block section before the post.
