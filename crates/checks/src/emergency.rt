@@ -3,8 +3,10 @@ ghost use mathlib.Core.Bool.{false};
 ghost use mathlib.Core.List.{[]};
 ghost use mathlib.Core.Path.{_≡_};
 ghost use Rattle.section.specs.declared.Step.the-variants.{Release, Key};
-ghost use Rattle.site.specs.Placed.{Placed};
+ghost use Rattle.site.specs.OnTheLine.{OnTheLine};
 ghost use Rattle.site.specs.VerdictAt.{verdictAt};
+use occupancy::trains::train_ahead;
+use occupancy::trains::watched_occupied;
 use rules::Site;
 use section::Act;
 use section::MOST_SEALS;
@@ -17,11 +19,9 @@ use site::conditions::is_turn;
 use site::conditions::measures_suffice;
 use site::conditions::release_in_turn;
 use site::place::at_receiving_end;
-use site::trains::train_ahead;
-use site::trains::watched_occupied;
 
 pub fn release(c: Settings, e: Site, number: u16, trains: &Trains, last: &Trains) -> Verdict
-    requires { ⌜ Placed c e ⌝ }
+    requires { ⌜ OnTheLine c e ⌝ }
     ensures { λ r. ⌜ r ≡ verdictAt c false (Release (e .post) number) e (now (trains .entry)) (now (last .entry)) ⌝ }
 {
     if !release_in_turn(c, e) {
@@ -43,7 +43,7 @@ pub fn release(c: Settings, e: Site, number: u16, trains: &Trains, last: &Trains
 }
 
 pub fn key(c: Settings, e: Site, trains: &Trains) -> Verdict
-    requires { ⌜ Placed c e ⌝ }
+    requires { ⌜ OnTheLine c e ⌝ }
     ensures { λ r. ⌜ r ≡ verdictAt c false (Key (e .post)) e (now (trains .entry)) [] ⌝ }
 {
     let walk = e.walk;

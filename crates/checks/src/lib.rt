@@ -4,7 +4,7 @@ pub mod emergency;
 pub mod reversal;
 
 ghost use mathlib.Core.Path.{_≡_};
-ghost use Rattle.site.specs.Placed.{Placed};
+ghost use Rattle.site.specs.OnTheLine.{OnTheLine};
 ghost use Rattle.site.specs.VerdictAt.{verdictAt};
 use rules::Site;
 use section::Settings;
@@ -23,7 +23,7 @@ pub fn verdict(
     trains: &Trains,
     last: &Trains,
 ) -> section::Verdict
-    requires { ⌜ Placed c e ⌝ }
+    requires { ⌜ OnTheLine c e ⌝ }
     ensures { λ r. ⌜ r ≡ verdictAt c «other_on_vns» x e (now (trains .entry)) (now (last .entry)) ⌝ }
 {
     match x {

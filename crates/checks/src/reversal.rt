@@ -4,8 +4,10 @@ ghost use mathlib.Core.List.{[]};
 ghost use mathlib.Core.Path.{_≡_};
 ghost use Rattle.section.specs.declared.Settings.{Settings};
 ghost use Rattle.section.specs.declared.Step.the-variants.{Order, Set, Announce, Acknowledge};
-ghost use Rattle.site.specs.Placed.{Placed};
+ghost use Rattle.site.specs.OnTheLine.{OnTheLine};
 ghost use Rattle.site.specs.VerdictAt.{verdictAt};
+use occupancy::trains::order_occupied;
+use occupancy::trains::watched_occupied;
 use rules::Site;
 use section::Act;
 use section::Said;
@@ -18,11 +20,9 @@ use site::conditions::is_turn;
 use site::conditions::measures_suffice;
 use site::conditions::order_allowed;
 use site::place::at_sending_end;
-use site::trains::order_occupied;
-use site::trains::watched_occupied;
 
 pub fn order(c: Settings, e: Site, other_on_vns: bool, trains: &Trains) -> Verdict
-    requires { ⌜ Placed c e ⌝ }
+    requires { ⌜ OnTheLine c e ⌝ }
     ensures { λ r. ⌜ r ≡ verdictAt c «other_on_vns» (Order (e .post)) e (now (trains .entry)) [] ⌝ }
 {
     let walk = e.walk;
@@ -42,7 +42,7 @@ pub fn order(c: Settings, e: Site, other_on_vns: bool, trains: &Trains) -> Verdi
 }
 
 pub fn set(c: Settings, e: Site, trains: &Trains) -> Verdict
-    requires { ⌜ Placed c e ⌝ }
+    requires { ⌜ OnTheLine c e ⌝ }
     ensures { λ r. ⌜ r ≡ verdictAt c false (Set (e .post)) e (now (trains .entry)) [] ⌝ }
 {
     let walk = e.walk;

@@ -3,8 +3,13 @@ ghost use mathlib.Core.Bool.{false};
 ghost use mathlib.Core.List.{[]};
 ghost use mathlib.Core.Path.{_≡_};
 ghost use Rattle.section.specs.declared.Step.the-variants.{Start, Pass, Leave};
-ghost use Rattle.site.specs.Placed.{Placed};
+ghost use Rattle.site.specs.OnTheLine.{OnTheLine};
 ghost use Rattle.site.specs.VerdictAt.{verdictAt};
+use occupancy::stretch::pass_occupied;
+use occupancy::stretch::stretch_occupied;
+use occupancy::trains::Sought;
+use occupancy::trains::any_of;
+use occupancy::trains::train_before;
 use rules::Site;
 use section::Said;
 use section::Settings;
@@ -15,14 +20,9 @@ use site::conditions::fault1_confirmed;
 use site::conditions::is_settled;
 use site::place::at_receiving_end;
 use site::place::at_sending_end;
-use site::stretch::pass_occupied;
-use site::stretch::stretch_occupied;
-use site::trains::Sought;
-use site::trains::any_of;
-use site::trains::train_before;
 
 pub fn start(c: Settings, e: Site, number: u16, trains: &Trains) -> Verdict
-    requires { ⌜ Placed c e ⌝ }
+    requires { ⌜ OnTheLine c e ⌝ }
     ensures { λ r. ⌜ r ≡ verdictAt c false (Start (e .post) number) e (now (trains .entry)) [] ⌝ }
 {
     let walk = e.walk;
@@ -45,7 +45,7 @@ pub fn start(c: Settings, e: Site, number: u16, trains: &Trains) -> Verdict
 }
 
 pub fn pass(c: Settings, e: Site, number: u16, trains: &Trains) -> Verdict
-    requires { ⌜ Placed c e ⌝ }
+    requires { ⌜ OnTheLine c e ⌝ }
     ensures { λ r. ⌜ r ≡ verdictAt c false (Pass (e .post) number) e (now (trains .entry)) [] ⌝ }
 {
     if at_end(c, e) {
@@ -61,7 +61,7 @@ pub fn pass(c: Settings, e: Site, number: u16, trains: &Trains) -> Verdict
 }
 
 pub fn leave(c: Settings, e: Site, number: u16, trains: &Trains) -> Verdict
-    requires { ⌜ Placed c e ⌝ }
+    requires { ⌜ OnTheLine c e ⌝ }
     ensures { λ r. ⌜ r ≡ verdictAt c false (Leave (e .post) number) e (now (trains .entry)) [] ⌝ }
 {
     if !at_receiving_end(c, e) {

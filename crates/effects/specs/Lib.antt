@@ -1,3 +1,3 @@
 pub mod Walking
-pub mod Part
-pub mod Blocks
+pub mod Moving
+pub mod Needs

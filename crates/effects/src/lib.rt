@@ -5,10 +5,11 @@ pub mod reversal;
 
 ghost use mathlib.Core.Path.{_≡_};
 ghost use Rattle.rules.specs.Table.{cleared, effect};
-ghost use Rattle.site.specs.Placed.{Placed};
-ghost use Rattle.effects.specs.Part.{moving, HasNext};
-use crate::reversal::acknowledging;
-use crate::reversal::announcing;
+ghost use Rattle.site.specs.OnTheLine.{OnTheLine};
+ghost use Rattle.effects.specs.Moving.{moving};
+ghost use Rattle.effects.specs.Needs.{EffectNeeds};
+use crate::reversal::message;
+use crate::reversal::next_post;
 use crate::reversal::setting;
 use crate::reversal::walking;
 use rules::Effect;
@@ -49,7 +50,7 @@ fn cleared(own: Post, fault: Fault) -> Post
 
 // The effect of each kind.
 pub fn effect_of(c: Settings, x: Step, e: Site) -> Effect
-    requires { ⌜ (Placed c e) × (HasNext c e x) ⌝ }
+    requires { ⌜ (OnTheLine c e) × (EffectNeeds c e x) ⌝ }
     ensures { λ r. ⌜ r ≡ effect c x e ⌝ }
 {
     let own = e.own;
@@ -63,8 +64,18 @@ pub fn effect_of(c: Settings, x: Step, e: Site) -> Effect
             )
         }
         Step::Set { post: _ } => setting(c, e, own),
-        Step::Announce { post: _ } => announcing(c, e),
-        Step::Acknowledge { post: _ } => acknowledging(c, e),
+        Step::Announce { post: _ } => {
+            message(
+                e,
+                own,
+                Walk::Turn(next_post(c, e), Act::Acknowledge),
+                Said::Vns,
+                Said::Cvt,
+            )
+        }
+        Step::Acknowledge { post: _ } => {
+            message(e, own, Walk::Turn(e.post, Act::Set), Said::Vnsz, Said::Cvtz)
+        }
         Step::Start { post: _, number } => moving(e, own.marked(false), Movement::Enters(number)),
         Step::Pass { post: _, number } => moving(e, own, Movement::Moves(number)),
         Step::Leave { post: _, number: _ } => moving(e, own, Movement::Leaves),

@@ -1,9 +1,10 @@
 // What the steps of a reversal do: the post's record, the walk, the running direction, and what is said.
+ghost use mathlib.Core.Bool.{cond};
 ghost use mathlib.Core.Path.{_≡_};
 ghost use Rattle.rules.specs.Site.{nextPost};
-ghost use Rattle.rules.specs.Table.{setting, effect};
-ghost use Rattle.site.specs.Placed.{Placed};
-ghost use Rattle.effects.specs.Walking.{walking, HasAhead};
+ghost use Rattle.rules.specs.Table.{setting};
+ghost use Rattle.site.specs.OnTheLine.{OnTheLine, HasAhead};
+ghost use Rattle.effects.specs.Walking.{walking};
 use rules::Effect;
 use rules::Movement;
 use rules::Site;
@@ -11,7 +12,6 @@ use section::Act;
 use section::Post;
 use section::Said;
 use section::Settings;
-use section::Step;
 use section::Walk;
 use section::positions;
 use site::place;
@@ -31,7 +31,7 @@ pub fn walking(e: Site, own: Post, walk: Walk, said: Said) -> Effect
 
 // Set, and key after its seal: the last one changes the running direction and gives permission.
 pub fn setting(c: Settings, e: Site, own: Post) -> Effect
-    requires { ⌜ Placed c e ⌝ }
+    requires { ⌜ OnTheLine c e ⌝ }
     ensures { λ r. ⌜ r ≡ setting c e own ⌝ }
 {
     let cvt = e.cvt;
@@ -49,8 +49,8 @@ pub fn setting(c: Settings, e: Site, own: Post) -> Effect
 }
 
 // The post at which the walk goes on after an announcement.
-fn next_post(c: Settings, e: Site) -> u8
-    requires { ⌜ (Placed c e) × (HasAhead c e) ⌝ }
+pub fn next_post(c: Settings, e: Site) -> u8
+    requires { ⌜ (OnTheLine c e) × (HasAhead c e) ⌝ }
     ensures { λ r. ⌜ r ≡ nextPost c e ⌝ }
 {
     if positions::is_upward(e.track, e.cvt) {
@@ -60,25 +60,12 @@ fn next_post(c: Settings, e: Site) -> u8
     }
 }
 
-pub fn announcing(c: Settings, e: Site) -> Effect
-    requires { ⌜ (Placed c e) × (HasAhead c e) ⌝ }
-    ensures { λ r. ⌜ r ≡ effect c (Step.Announce (e .post)) e ⌝ }
+// A message to the next post, or back from it: what is said names the direction that the reversal goes to.
+pub fn message(e: Site, own: Post, walk: Walk, to_vns: Said, to_cvt: Said) -> Effect
+    ensures { λ r. ⌜ r ≡ walking e own walk (cond (e .cvt) «to_vns» «to_cvt») ⌝ }
 {
-    let own = e.own;
-    let walk = Walk::Turn(next_post(c, e), Act::Acknowledge);
     if e.cvt {
-        return walking(e, own, walk, Said::Vns);
+        return walking(e, own, walk, to_vns);
     }
-    walking(e, own, walk, Said::Cvt)
-}
-
-pub fn acknowledging(c: Settings, e: Site) -> Effect
-    ensures { λ r. ⌜ r ≡ effect c (Step.Acknowledge (e .post)) e ⌝ }
-{
-    let own = e.own;
-    let walk = Walk::Turn(e.post, Act::Set);
-    if e.cvt {
-        return walking(e, own, walk, Said::Vnsz);
-    }
-    walking(e, own, walk, Said::Cvtz)
+    walking(e, own, walk, to_cvt)
 }

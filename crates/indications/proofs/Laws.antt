@@ -4,7 +4,7 @@ use mathlib.Core.Bool.{Bool, true, false, not, cond, _&&_, _||_}
 use native.Mathlib.Omega.{arith}
 use native.Mathlib.Decide.{decLt}
 use lib.Dec.{eqb, ltb, leb}
-use borrow.Author.Tests.{lt-ltb, le-ltb, le-leb, lt-leb, eq-eqb, ne-eqb, not-true, not-false}
+use borrow.Author.Tests.{lt-ltb, le-ltb, le-leb, lt-leb, not-true, not-false}
 use mathlib.Core.List.{List}
 use mathlib.Core.Path.{_≡_, refl}
 use Rattle.section.specs.declared.Settings.{Settings}
@@ -42,15 +42,6 @@ next-within count (suc j) z h = rw (lt-ltb j count (omega arith)) (go (decLt (su
 -- a turn's post is one of the line
 pub turn-below : (n : ℕ) (up : Bool) (w : Walk) (p : ℕ) (act : Act) → walkInRange n up w ≡ true → w ≡ Turn p act → p < n
 turn-below n up w p act fits is = turn-right n up p act (rw is at fits) .0
-
--- the test of the form
-pub not-materialised : (c : Settings) → (c .form ≡ 1 → ⊥) → isMaterialised c ≡ false
-unfolding isMaterialised
-not-materialised c h = ne-eqb (c .form) 1 h
-
-pub is-materialised : (c : Settings) → c .form ≡ 1 → isMaterialised c ≡ true
-unfolding isMaterialised
-is-materialised c h = eq-eqb (c .form) 1 h
 
 -- the indications of a section by its tracks
 pub shown-is :

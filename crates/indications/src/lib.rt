@@ -7,7 +7,8 @@ ghost use Rattle.section.specs.Range.{walkInRange, trackInRange};
 ghost use Rattle.section.specs.Settings.{isMaterialised, settingsInRange};
 ghost use Rattle.rules.specs.Site.{siteOn, upAt, rankAt};
 ghost use Rattle.rules.specs.Indications.{setCount, isNextToSet, shown, lampsAt, dark, indications};
-ghost use Rattle.site.specs.Fit.{Fit};
+ghost use Rattle.site.specs.InItsRanges.{InItsRanges};
+use occupancy::trains;
 use rules::Site;
 use section::Act;
 use section::Indications;
@@ -18,7 +19,6 @@ use section::Trains;
 use section::Walk;
 use section::positions;
 use site::place;
-use site::trains;
 
 // CIRCULATION, in the paper's numbers.
 const DARK: u8 = 0;
@@ -71,10 +71,10 @@ fn is_next_to_set(count: u8, j: u8) -> bool
 
 // The form is materialised, and the post is the next to set.
 fn is_flashing(c: Settings, e: Site) -> bool
-    requires { ⌜ Fit c e ⌝ }
+    requires { ⌜ InItsRanges c e ⌝ }
     ensures { λ r. ⌜ r ≡ (isMaterialised c && isNextToSet (setCount (c .posts) (upAt c e) (e .walk)) (rankAt c e)) ⌝ }
 {
-    if c.form != 1 {
+    if !place::is_materialised(c) {
         return false;
     }
     let walk = e.walk;
@@ -114,7 +114,7 @@ fn number(x: bool) -> u8
 
 // What the post of a site shows.
 fn shown_at(c: Settings, e: Site, trains: &Trains) -> Indications
-    requires { ⌜ Fit c e ⌝ }
+    requires { ⌜ InItsRanges c e ⌝ }
     ensures { λ r. ⌜ r ≡ shown (lampsAt c e (now (trains .entry))) ⌝ }
 {
     let own = e.own;

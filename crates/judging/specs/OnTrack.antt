@@ -6,11 +6,11 @@ use Rattle.section.specs.Step.{postOf}
 use Rattle.rules.specs.Site.{siteOn}
 use Rattle.site.specs.declared.running.Running.{Running}
 use Rattle.site.specs.Running.{onVns}
-use Rattle.judging.specs.Judged.{judgedAt, trackAt}
+use Rattle.judging.specs.AtPost.{judgedAtPost, trackAt}
 use Rattle.judging.specs.declared.on_track.TrackAnswer.{TrackAnswer}
 
-unfoldable pub trackAnswer : Settings → TrackStep → Track → Running → TrackAnswer
-trackAnswer c x t other = record {
-  verdict = judgedAt c (onVns other) (x .step) (siteOn (x .track) (postOf (x .step)) t) (t .trains) (t .last) .verdict;
+unfoldable pub judgedOnTrack : Settings → TrackStep → Track → Running → TrackAnswer
+judgedOnTrack c x t other = record {
+  verdict = judgedAtPost c (onVns other) (x .step) (siteOn (x .track) (postOf (x .step)) t) (t .trains) (t .last) .verdict;
   track = trackAt c (onVns other) (x .step) (siteOn (x .track) (postOf (x .step)) t) t;
 }

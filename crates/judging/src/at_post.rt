@@ -1,9 +1,9 @@
 // A step judged by the table at its site: the checks, then what an accepted step does.
 ghost use mathlib.Core.Path.{_≡_};
 ghost use Rattle.section.specs.Step.{postOf};
-ghost use Rattle.site.specs.Fit.{Fit};
+ghost use Rattle.site.specs.InItsRanges.{InItsRanges};
 ghost use Rattle.site.specs.Running.{onVns, siteWith};
-ghost use Rattle.judging.specs.Judged.{asBefore, judgedAt, trainsAt, lastAt};
+ghost use Rattle.judging.specs.AtPost.{asBefore, judgedAtPost, trainsAt, lastAt};
 use effects::movement;
 use rules::Site;
 use section::Post;
@@ -16,19 +16,19 @@ use site::running;
 use site::running::Running;
 
 // The verdict, and what the step leaves beside the trains: its post's record, and its track's running direction and walk.
-pub struct Judged {
+pub struct PostAnswer {
     pub verdict: Verdict,
     pub own: Post,
     pub running: Running,
 }
 
 // A refused step leaves what it found.
-fn as_before(verdict: Verdict, e: Site) -> Judged
+fn as_before(verdict: Verdict, e: Site) -> PostAnswer
     ensures { λ r. ⌜ r ≡ asBefore verdict e ⌝ }
 {
     let own = e.own;
     let walk = e.walk;
-    Judged {
+    PostAnswer {
         verdict: verdict,
         own: own,
         running: Running {
@@ -46,9 +46,9 @@ fn judge_at(
     other_on_vns: bool,
     trains: &mut Trains,
     last: &mut Trains,
-) -> Judged
-    requires { ⌜ Fit c e ⌝ }
-    ensures { λ r. ⌜ r ≡ judgedAt c «other_on_vns» x e (now (trains .entry)) (now (last .entry)) ⌝ }
+) -> PostAnswer
+    requires { ⌜ InItsRanges c e ⌝ }
+    ensures { λ r. ⌜ r ≡ judgedAtPost c «other_on_vns» x e (now (trains .entry)) (now (last .entry)) ⌝ }
     ensures { λ _. ⌜ now (trains .exit) ≡ trainsAt c «other_on_vns» x e (now (trains .entry)) (now (last .entry)) ⌝ }
     ensures { λ _. ⌜ now (last .exit) ≡ lastAt c «other_on_vns» x e (now (trains .entry)) (now (last .entry)) ⌝ }
 {
@@ -61,7 +61,7 @@ fn judge_at(
             movement::move_cells(c, false, train, e, last);
             let own = f.own;
             let walk = f.walk;
-            Judged {
+            PostAnswer {
                 verdict: verdict,
                 own: own,
                 running: Running {
@@ -75,7 +75,7 @@ fn judge_at(
 }
 
 // Judges a step at its post, which keeps that record, on a track that runs so beside the other.
-pub fn judge_step(
+pub fn judge_at_post(
     c: Settings,
     x: TrackStep,
     own: Post,
@@ -83,9 +83,9 @@ pub fn judge_step(
     other: Running,
     trains: &mut Trains,
     last: &mut Trains,
-) -> Judged
-    requires { ⌜ Fit c (siteWith (x .track) (postOf (x .step)) own running) ⌝ }
-    ensures { λ r. ⌜ r ≡ judgedAt c (onVns other) (x .step) (siteWith (x .track) (postOf (x .step)) own running) (now (trains .entry)) (now (last .entry)) ⌝ }
+) -> PostAnswer
+    requires { ⌜ InItsRanges c (siteWith (x .track) (postOf (x .step)) own running) ⌝ }
+    ensures { λ r. ⌜ r ≡ judgedAtPost c (onVns other) (x .step) (siteWith (x .track) (postOf (x .step)) own running) (now (trains .entry)) (now (last .entry)) ⌝ }
     ensures { λ _. ⌜ now (trains .exit) ≡ trainsAt c (onVns other) (x .step) (siteWith (x .track) (postOf (x .step)) own running) (now (trains .entry)) (now (last .entry)) ⌝ }
     ensures { λ _. ⌜ now (last .exit) ≡ lastAt c (onVns other) (x .step) (siteWith (x .track) (postOf (x .step)) own running) (now (trains .entry)) (now (last .entry)) ⌝ }
 {

@@ -2,8 +2,8 @@
 ghost use mathlib.Core.Path.{_≡_};
 ghost use Rattle.section.specs.Step.{postOf};
 ghost use Rattle.rules.specs.Site.{siteOn};
-ghost use Rattle.site.specs.Fit.{Fit};
-ghost use Rattle.judging.specs.OnTrack.{trackAnswer};
+ghost use Rattle.site.specs.InItsRanges.{InItsRanges};
+ghost use Rattle.judging.specs.OnTrack.{judgedOnTrack};
 use crate::at_post;
 use section::Settings;
 use section::Track;
@@ -20,8 +20,8 @@ pub struct TrackAnswer {
 
 // Judges a well-formed step on its own track; of the other only the running direction and the walk count.
 pub fn judge_on_track(c: Settings, x: TrackStep, t: Track, other: Running) -> TrackAnswer
-    requires { ⌜ Fit c (siteOn (x .track) (postOf (x .step)) t) ⌝ }
-    ensures { λ r. ⌜ r ≡ trackAnswer c x t other ⌝ }
+    requires { ⌜ InItsRanges c (siteOn (x .track) (postOf (x .step)) t) ⌝ }
+    ensures { λ r. ⌜ r ≡ judgedOnTrack c x t other ⌝ }
 {
     let running = running::running_of(t);
     let at = running::place_of(x);
@@ -29,7 +29,7 @@ pub fn judge_on_track(c: Settings, x: TrackStep, t: Track, other: Running) -> Tr
     let mut trains = t.trains;
     let mut last = t.last;
     let own = posts[at];
-    let judged = at_post::judge_step(c, x, own, running, other, &mut trains, &mut last);
+    let judged = at_post::judge_at_post(c, x, own, running, other, &mut trains, &mut last);
     let verdict = judged.verdict;
     let own_after = judged.own;
     let after = judged.running;

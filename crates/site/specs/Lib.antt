@@ -1,6 +1,4 @@
-pub mod Placed
+pub mod OnTheLine
 pub mod VerdictAt
-pub mod Fit
+pub mod InItsRanges
 pub mod Running
-pub mod Stretch
-pub mod Sought

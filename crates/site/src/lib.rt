@@ -1,7 +1,5 @@
-// What a step sees: its place on the line, what the tracks do, the trains, and what the checks ask of them.
+// What a step sees beside the trains: its place on the line, what the tracks do, and what the checks ask of them.
 
 pub mod conditions;
 pub mod place;
 pub mod running;
-pub mod stretch;
-pub mod trains;

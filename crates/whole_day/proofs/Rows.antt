@@ -21,10 +21,10 @@ use Rattle.rules.specs.Site.{otherSettledOnVns}
 use Rattle.rules.specs.Judge.{siteOf, judgeInRange}
 use Rattle.site.specs.declared.running.Running.{Running}
 use Rattle.site.specs.Running.{runningOf, onVns, siteWith}
-use Rattle.site.specs.Fit.{Fit}
-use Rattle.judging.specs.declared.at_post.Judged.{Judged}
-use Rattle.judging.specs.Judged.{judgedAt, trainsAt, lastAt, trackAt}
-use Rattle.judging.proofs.at_post.OnTrack.{site-in, step-judged, fit, judged}
+use Rattle.site.specs.InItsRanges.{InItsRanges}
+use Rattle.judging.specs.declared.at_post.PostAnswer.{PostAnswer}
+use Rattle.judging.specs.AtPost.{judgedAtPost, trainsAt, lastAt, trackAt}
+use Rattle.judging.proofs.at_post.OnTrack.{site-in, step-judged, in-ranges, judged}
 use Rattle.whole_day.specs.Rows.{row, settled}
 
 -- the section whose cells they are
@@ -136,12 +136,12 @@ module _
     other-at : other ≡ otherSettledOnVns s (x .track)
     other-at = ap (λ (i : ℕ). onVns (getD running (1 - i) settled)) ek ∙ ap onVns (other-row (x .track))
 
-    pub fit-at : inRange s ≡ true → Fit c site
-    fit-at h = subst (Fit c) (sym site-at) (fit s bytes x well h)
+    pub in-ranges-at : inRange s ≡ true → InItsRanges c site
+    in-ranges-at h = subst (InItsRanges c) (sym site-at) (in-ranges s bytes x well h)
 
     -- what the step leaves, written at its track's place
     pub judged-at :
-        Two → {j : Judged} {moved noted : List ℕ} → j ≡ judgedAt c other (x .step) site (getD trains k []) (getD last k [])
+        Two → {j : PostAnswer} {moved noted : List ℕ} → j ≡ judgedAtPost c other (x .step) site (getD trains k []) (getD last k [])
         → moved ≡ trainsAt c other (x .step) site (getD trains k []) (getD last k [])
         → noted ≡ lastAt c other (x .step) site (getD trains k []) (getD last k [])
         → record {
@@ -154,9 +154,9 @@ module _
         let t = trackOf s (x .track) in
         let v = otherSettledOnVns s (x .track) in
         let after = trackAt c v (x .step) (siteOf s x) t in
-        let gives : j ≡ judgedAt c v (x .step) (siteOf s x) (t .trains) (t .last) =
-        ej ∙ (ap (λ (u : Track). judgedAt c other (x .step) site (u .trains) (u .last)) here
-        ∙ ap₂ (λ (w : Bool) (f : Site). judgedAt c w (x .step) f (t .trains) (t .last)) other-at site-at) in
+        let gives : j ≡ judgedAtPost c v (x .step) (siteOf s x) (t .trains) (t .last) =
+        ej ∙ (ap (λ (u : Track). judgedAtPost c other (x .step) site (u .trains) (u .last)) here
+        ∙ ap₂ (λ (w : Bool) (f : Site). judgedAtPost c w (x .step) f (t .trains) (t .last)) other-at site-at) in
         let moves : moved ≡ after .trains =
         em ∙ (ap (λ (u : Track). trainsAt c other (x .step) site (u .trains) (u .last)) here
         ∙ ap₂ (λ (w : Bool) (f : Site). trainsAt c w (x .step) f (t .trains) (t .last)) other-at site-at) in
@@ -165,7 +165,7 @@ module _
         ∙ ap₂ (λ (w : Bool) (f : Site). lastAt c w (x .step) f (t .trains) (t .last)) other-at site-at) in
         let records : set (getD posts k []) p (j .own) ≡ after .posts =
         ap (λ (u : Track). set (u .posts) p (j .own)) here
-        ∙ (ap (λ (q : ℕ). set (t .posts) q (j .own)) ep ∙ ap (λ (i : Judged). set (t .posts) (postOf (x .step)) (i .own)) gives) in
+        ∙ (ap (λ (q : ℕ). set (t .posts) q (j .own)) ep ∙ ap (λ (i : PostAnswer). set (t .posts) (postOf (x .step)) (i .own)) gives) in
         rw (records, moves, notes, gives, ek, rows-after two after (x .track)) (step-judged s x ∙ judged s bytes x well)
 
 -- a write keeps the places

@@ -11,7 +11,7 @@ ghost use Rattle.section.specs.Words.{letter};
 ghost use Rattle.notes.specs.Note.{noteLength, noteWith};
 ghost use Rattle.whole_day.specs.Notes.{notesOf, canBeNoted, notesAfter};
 ghost use Rattle.whole_day.specs.Rows.{row, freshPosts, settled, letterAt};
-use judging::at_post::judge_step;
+use judging::at_post::judge_at_post;
 use layout::step_at;
 use notes::NOTE_LENGTH;
 use notes::put_note;
@@ -95,7 +95,7 @@ fn note_from(c: Settings, fresh: [Posts; 2], steps: &[u8], count: usize, notes: 
         };
         let k = row_of(x.track);
         let p = place_of(x);
-        let judged = judge_step(
+        let judged = judge_at_post(
             c,
             x,
             posts[k][p],

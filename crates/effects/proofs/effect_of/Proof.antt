@@ -1,17 +1,18 @@
+-- By the kind of the step: each return is the row of its kind, by what the callees ensure. What announce and key need beside it, the step has.
 use mathlib.Core.Path.{subst}
 use Rattle.rules.specs.Table.{effect}
-use Rattle.effects.specs.Part.{HasNext}
+use Rattle.effects.specs.Needs.{EffectNeeds}
 use borrow.Author.Needs.{needs}
 use Rattle.effects.proofs.effect_of.Statement.{statement}
 use Rattle.effects.proofs.effect_of.Tie as tie
 
-announcing-requires : tie.Need-announcing-requires
-unfolding HasNext
-announcing-requires c κs = let b = c .before .before .before in (b .pre .0, subst (HasNext (b .args .c) (b .args .e)) (c .enum-told3 .given .1) (b .pre .1))
+next-post-requires : tie.Need-next-post-requires
+unfolding EffectNeeds
+next-post-requires c κs = let b = c .before .before .before in (b .pre .0, subst (EffectNeeds (b .args .c) (b .args .e)) (c .enum-told3 .given .1) (b .pre .1))
 
 sealed-requires : tie.Need-sealed-requires
-unfolding HasNext
-sealed-requires c κs = let b = c .before .before .before in subst (HasNext (b .args .c) (b .args .e)) (c .enum-told9 .given .1) (b .pre .1)
+unfolding EffectNeeds
+sealed-requires c κs = let b = c .before .before .before in subst (EffectNeeds (b .args .c) (b .args .e)) (c .enum-told9 .given .1) (b .pre .1)
 
 returns : tie.Need-returns
 unfolding effect
@@ -23,11 +24,11 @@ returns-2 c = rw (c .setting .ensures, c .before .enum-told2 .given .1)
 
 returns-3 : tie.Need-returns-3
 unfolding effect
-returns-3 c = rw (c .announcing .ensures, c .before .enum-told3 .given .1)
+returns-3 c = rw (c .message .ensures, c .before .next-post .ensures, c .before .before .enum-told3 .given .1)
 
 returns-4 : tie.Need-returns-4
 unfolding effect
-returns-4 c = rw (c .acknowledging .ensures, c .before .enum-told4 .given .1)
+returns-4 c = rw (c .message2 .ensures, c .before .enum-told4 .given .1)
 
 returns-5 : tie.Need-returns-5
 unfolding effect
@@ -75,7 +76,8 @@ effect-of-spec =
     (λ c. search needs)
     (λ c κs. search needs)
     (λ c. search needs)
-    announcing-requires
+    next-post-requires
+    (λ c κs. search needs)
     (λ c. search needs)
     (λ c κs. search needs)
     (λ c. search needs)

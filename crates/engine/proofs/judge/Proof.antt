@@ -11,9 +11,9 @@ use Rattle.section.specs.Store.{trackOf}
 use Rattle.section.proofs.Told.{told-false, told-true}
 use Rattle.rules.specs.Site.{siteOn}
 use Rattle.rules.specs.Judge.{judge}
-use Rattle.site.specs.Fit.{Fit}
+use Rattle.site.specs.InItsRanges.{InItsRanges}
 use Rattle.site.specs.Running.{runningOf}
-use Rattle.judging.proofs.at_post.OnTrack.{malformed, fit}
+use Rattle.judging.proofs.at_post.OnTrack.{malformed, in-ranges}
 use Rattle.judging.proofs.on_track.OnTrack.{judged}
 use borrow.Author.Needs.{needs}
 use Rattle.engine.proofs.judge.Statement.{statement}
@@ -70,9 +70,9 @@ judge-on-track-requires : tie.Need-judge-on-track-requires
 judge-on-track-requires c κs =
     let x = well c .d .given .0 .0 in
     subst
-    (λ (t : Track). Fit (start c .args .s .settings) (siteOn (x .track) (postOf (x .step)) t))
+    (λ (t : Track). InItsRanges (start c .args .s .settings) (siteOn (x .track) (postOf (x .step)) t))
     (sym (own-track c))
-    (fit (start c .args .s) (now (start c .args .bytes)) x (says c) (in-range c))
+    (in-ranges (start c .args .s) (now (start c .args .bytes)) x (says c) (in-range c))
 
 returns-3 : tie.Need-returns-3
 unfolding judge

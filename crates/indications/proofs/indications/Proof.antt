@@ -1,3 +1,5 @@
+-- The tests in their order: a state out of its ranges, a track or a post that the section has not are dark. What is left is on one of the two
+-- tracks, whose ranges are those of the section.
 use borrow.Author.Needs.{needs}
 use mathlib.Core.Path.{_∙_}
 use mathlib.Core.Bool.{true, false}

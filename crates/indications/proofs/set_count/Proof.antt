@@ -1,3 +1,4 @@
+-- By the walk, then by its act. The post of a walk in its ranges is one of the line, so its rank is below 16 and one more can be counted.
 use borrow.Author.Needs.{needs}
 use native.Mathlib.Omega.{arith}
 use Rattle.section.proofs.Laws.{rank-lt}

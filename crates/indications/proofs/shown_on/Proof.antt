@@ -1,7 +1,7 @@
 use borrow.Author.Needs.{needs}
 use native.Mathlib.Omega.{arith}
 use Rattle.section.proofs.Laws.{posts-right}
-use Rattle.site.proofs.running.Laws.{fit-on}
+use Rattle.site.proofs.running.Laws.{in-its-ranges}
 use Rattle.indications.proofs.shown_on.Statement.{statement}
 use Rattle.indications.proofs.shown_on.Tie as tie
 
@@ -12,7 +12,7 @@ shown-at-requires : tie.Need-shown-at-requires
 shown-at-requires c κs =
     let b = c .before .before .before in
     let a = b .args in
-    fit-on (a .c) (a .track) (a .t4) (a .post) (b .pre .0) (b .pre .1) (b .pre .2)
+    in-its-ranges (a .c) (a .track) (a .t4) (a .post) (b .pre .0) (b .pre .1) (b .pre .2)
 
 pub shown-on-spec : {M : Type 1} → statement M
 shown-on-spec = tie.close (tie.spec (λ c. search needs) element-copy-out-own shown-at-requires (λ c. search needs))

@@ -12,11 +12,11 @@ use Rattle.rules.specs.declared.Effect.{Effect}
 use Rattle.rules.specs.declared.Site.{Site}
 use Rattle.rules.specs.Table.{effect, cellsAfter}
 use Rattle.site.specs.VerdictAt.{verdictAt}
-use Rattle.judging.specs.Judged.{asBefore, judgedOf, cellsOf, judgedAt, trainsAt, lastAt}
+use Rattle.judging.specs.AtPost.{asBefore, judgedOf, cellsOf, judgedAtPost, trainsAt, lastAt}
 
 module _ (c : Settings) (otherOnVns : Bool) (x : Step) (e : Site) (trains last : List ℕ) {v : Verdict} (told : v ≡ verdictAt c otherOnVns x e trains last) where
-  told-judged : {w : Verdict} → v ≡ w → judgedOf w (effect c x e) e ≡ judgedAt c otherOnVns x e trains last
-  unfolding judgedAt
+  told-judged : {w : Verdict} → v ≡ w → judgedOf w (effect c x e) e ≡ judgedAtPost c otherOnVns x e trains last
+  unfolding judgedAtPost
   told-judged a = ap (λ (w : Verdict). judgedOf w (effect c x e) e) (sym a ∙ told)
 
   told-trains : {w : Verdict} → v ≡ w → cellsOf w trains (cellsAfter c true (effect c x e .train) e trains) ≡ trainsAt c otherOnVns x e trains last
@@ -28,7 +28,7 @@ module _ (c : Settings) (otherOnVns : Bool) (x : Step) (e : Site) (trains last :
   told-last a = ap (λ (w : Verdict). cellsOf w last (cellsAfter c false (effect c x e .train) e last)) (sym a ∙ told)
 
   module _ {w : Said} (a : v ≡ Accepted w) {f : Effect} (does : f ≡ effect c x e) where
-    pub accepted : record { verdict = v; own = f .own; running = record { cvt = f .cvt; walk = f .walk } } ≡ judgedAt c otherOnVns x e trains last
+    pub accepted : record { verdict = v; own = f .own; running = record { cvt = f .cvt; walk = f .walk } } ≡ judgedAtPost c otherOnVns x e trains last
     unfolding judgedOf
     accepted = rw (a, does) (told-judged a)
 
@@ -41,7 +41,7 @@ module _ (c : Settings) (otherOnVns : Bool) (x : Step) (e : Site) (trains last :
     accepted-last noted = noted ∙ ap (λ (g : Effect). cellsAfter c false (g .train) e last) does ∙ told-last a
 
   module _ {k : ℕ} (r : v ≡ Refused k) where
-    pub refused : asBefore v e ≡ judgedAt c otherOnVns x e trains last
+    pub refused : asBefore v e ≡ judgedAtPost c otherOnVns x e trains last
     unfolding judgedOf
     refused = rw r (told-judged r)
 

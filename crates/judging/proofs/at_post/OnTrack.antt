@@ -28,9 +28,9 @@ use Rattle.rules.specs.Judge.{answerOf, siteOf, verdictOn, sectionAfter, judgeS
 use Rattle.site.specs.VerdictAt.{verdictAt}
 use Rattle.site.specs.declared.running.Running.{Running}
 use Rattle.site.specs.Running.{runningOf, siteWith}
-use Rattle.site.specs.Fit.{Fit}
-use Rattle.site.proofs.running.Laws.{fit-on}
-use Rattle.judging.specs.Judged.{judgedOf, cellsOf, judgedAt, trainsAt, lastAt, trackAt}
+use Rattle.site.specs.InItsRanges.{InItsRanges}
+use Rattle.site.proofs.running.Laws.{in-its-ranges}
+use Rattle.judging.specs.AtPost.{judgedOf, cellsOf, judgedAtPost, trainsAt, lastAt, trackAt}
 
 -- the site at the post, and of the track, that the code has found
 pub site-in :
@@ -46,17 +46,17 @@ same-track s false = refl
 -- an accepted step leaves the table's track, a refused one the track as it was
 module _ (c : Settings) (otherOnVns : Bool) (x : Step) (e : Site) (t : Track) where
   accepted-track : {w : Said} → verdictAt c otherOnVns x e (t .trains) (t .last) ≡ Accepted w → trackAt c otherOnVns x e t ≡ trackAfter c x e t
-  unfolding trackAt judgedAt trainsAt lastAt judgedOf cellsOf trackAfter
+  unfolding trackAt judgedAtPost trainsAt lastAt judgedOf cellsOf trackAfter
   accepted-track told = rw told refl
 
   refused-track :
       {k : ℕ} → verdictAt c otherOnVns x e (t .trains) (t .last) ≡ Refused k
       → record { posts = set (t .posts) (e .post) (e .own); trains = t .trains; last = t .last; cvt = e .cvt; walk = e .walk } ≡ trackAt c otherOnVns x e t
-  unfolding trackAt judgedAt trainsAt lastAt judgedOf cellsOf
+  unfolding trackAt judgedAtPost trainsAt lastAt judgedOf cellsOf
   refused-track told = rw told refl
 
-  same-verdict : (v : Verdict) → verdictAt c otherOnVns x e (t .trains) (t .last) ≡ v → judgedAt c otherOnVns x e (t .trains) (t .last) .verdict ≡ v
-  unfolding judgedAt judgedOf
+  same-verdict : (v : Verdict) → verdictAt c otherOnVns x e (t .trains) (t .last) ≡ v → judgedAtPost c otherOnVns x e (t .trains) (t .last) .verdict ≡ v
+  unfolding judgedAtPost judgedOf
   same-verdict (Accepted w) told = rw told refl
   same-verdict (Refused k) told = rw told refl
 
@@ -66,7 +66,7 @@ module _ (s : Section) (x : TrackStep) where
   own = trackOf s (x .track)
 
   abbrev verdict : Verdict
-  verdict = judgedAt (s .settings) (otherSettledOnVns s (x .track)) (x .step) (siteOf s x) (own .trains) (own .last) .verdict
+  verdict = judgedAtPost (s .settings) (otherSettledOnVns s (x .track)) (x .step) (siteOf s x) (own .trains) (own .last) .verdict
 
   abbrev after : Section
   after = withTrack s (x .track) (trackAt (s .settings) (otherSettledOnVns s (x .track)) (x .step) (siteOf s x) own)
@@ -102,9 +102,9 @@ module _ (s : Section) (bytes : List ℕ) where
   malformed k = decodes k
 
   module _ (x : TrackStep) (well : decoded (s .settings .posts) bytes ≡ Well x) where
-    pub fit : inRange s ≡ true → Fit (s .settings) (siteOf s x)
-    fit h =
-        fit-on
+    pub in-ranges : inRange s ≡ true → InItsRanges (s .settings) (siteOf s x)
+    in-ranges h =
+        in-its-ranges
         (s .settings)
         (x .track)
         (trackOf s (x .track))

@@ -14,18 +14,18 @@ use Rattle.section.specs.Store.{trackOf, withTrack, postOn}
 use Rattle.rules.specs.Judge.{judgeInRange}
 use Rattle.site.specs.declared.running.Running.{Running}
 use Rattle.site.specs.Running.{runningOf, onVns, siteWith}
-use Rattle.judging.specs.declared.at_post.Judged.{Judged}
-use Rattle.judging.specs.Judged.{judgedAt, trainsAt, lastAt, trackAt}
+use Rattle.judging.specs.declared.at_post.PostAnswer.{PostAnswer}
+use Rattle.judging.specs.AtPost.{judgedAtPost, trainsAt, lastAt, trackAt}
 use Rattle.judging.proofs.at_post.OnTrack as on-track
 use Rattle.judging.specs.declared.on_track.TrackAnswer.{TrackAnswer}
-use Rattle.judging.specs.OnTrack.{trackAnswer}
+use Rattle.judging.specs.OnTrack.{judgedOnTrack}
 
 -- what the step leaves, put in its places
 pub put-back :
-    (c : Settings) (x : TrackStep) (t : Track) (other : Running) {p : ℕ} {r : Running} {j : Judged} {trains last : List ℕ}
+    (c : Settings) (x : TrackStep) (t : Track) (other : Running) {p : ℕ} {r : Running} {j : PostAnswer} {trains last : List ℕ}
     → p ≡ postOf (x .step)
     → r ≡ runningOf t
-    → j ≡ judgedAt c (onVns other) (x .step) (siteWith (x .track) (postOf (x .step)) (postOn t p) r) (t .trains) (t .last)
+    → j ≡ judgedAtPost c (onVns other) (x .step) (siteWith (x .track) (postOf (x .step)) (postOn t p) r) (t .trains) (t .last)
     → trains ≡ trainsAt c (onVns other) (x .step) (siteWith (x .track) (postOf (x .step)) (postOn t p) r) (t .trains) (t .last)
     → last ≡ lastAt c (onVns other) (x .step) (siteWith (x .track) (postOf (x .step)) (postOn t p) r) (t .trains) (t .last)
     → record {
@@ -37,14 +37,14 @@ pub put-back :
         cvt = j .running .cvt;
         walk = j .running .walk;
       };
-    } ≡ trackAnswer c x t other
-unfolding trackAnswer trackAt
+    } ≡ judgedOnTrack c x t other
+unfolding judgedOnTrack trackAt
 put-back c x t other ep er ej et el = rw (ej, et, el, ep, er)
 
 -- the section with the track that is put back
 pub judged :
     (s : Section) (bytes : List ℕ) (x : TrackStep) → decoded (s .settings .posts) bytes ≡ Well x → (k : Bool) → x .track ≡ k
     → {t : Track} {other : Running} {w : TrackAnswer} → t ≡ trackOf s (x .track) → other ≡ runningOf (trackOf s (not (x .track)))
-    → w ≡ trackAnswer (s .settings) x t other → record { verdict = w .verdict; section = withTrack s k (w .track) } ≡ judgeInRange s bytes
-unfolding trackAnswer
+    → w ≡ judgedOnTrack (s .settings) x t other → record { verdict = w .verdict; section = withTrack s k (w .track) } ≡ judgeInRange s bytes
+unfolding judgedOnTrack
 judged s bytes x well k ek et eo ew = rw (sym ek, ew, et, eo) (on-track.step-judged s x ∙ on-track.judged s bytes x well)

@@ -8,12 +8,12 @@ use Rattle.section.specs.Range.{trackInRange}
 use Rattle.section.specs.Settings.{settingsInRange}
 use Rattle.section.proofs.Laws.{posts-right, track-ranges}
 use Rattle.rules.specs.Site.{siteOn}
-use Rattle.site.specs.Fit.{Fit}
+use Rattle.site.specs.InItsRanges.{InItsRanges}
 
-pub fit-on :
+pub in-its-ranges :
     (c : Settings) (track : Bool) (t : Track) (p : ℕ) → settingsInRange c ≡ true → trackInRange (c .posts) track t ≡ true → p < c .posts
-    → Fit c (siteOn track p t)
-fit-on c track t p right fits below =
+    → InItsRanges c (siteOn track p t)
+in-its-ranges c track t p right fits below =
     let n = posts-right c right in
     let r = track-ranges (c .posts) track t fits in
-    record { placed = record { least = n .0; most = n .1; post = below }; seals = r .seals p below; walk = r .walk }
+    record { onTheLine = record { least = n .0; most = n .1; post = below }; seals = r .seals p below; walk = r .walk }

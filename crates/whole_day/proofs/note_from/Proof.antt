@@ -9,7 +9,7 @@ use Rattle.section.specs.Step.{decoded, postOf}
 use Rattle.section.proofs.Codec.{decoded-post-below}
 use Rattle.section.proofs.Laws.{posts-right}
 use Rattle.layout.specs.Layout.{stepAt}
-use Rattle.whole_day.proofs.Rows.{two-after, fit-at, judged-at}
+use Rattle.whole_day.proofs.Rows.{two-after, in-ranges-at, judged-at}
 use Rattle.whole_day.proofs.Walk.{Walked, begins, note-fits, goes-on, passes-over, ends}
 use borrow.Author.Needs.{needs}
 use Rattle.whole_day.proofs.note_from.Statement.{statement}
@@ -56,7 +56,7 @@ post-among c = omega (arith, decoded-post-below _ _ (step c) (says c), posts-rig
 row-among : (c : tie.After-place-of Inv-loop μ-loop) → c .before .row-of .result < 2
 row-among c = c .before .row-of .ensures .1
 
-abbrev judged : tie.After-after Inv-loop μ-loop → tie.After-judge-step Inv-loop μ-loop
+abbrev judged : tie.After-after Inv-loop μ-loop → tie.After-judge-at-post Inv-loop μ-loop
 judged c = c .before .before
 
 abbrev placed : tie.After-after Inv-loop μ-loop → tie.After-place-of Inv-loop μ-loop
@@ -94,44 +94,44 @@ loop-again c =
     (ap (decoded _) (sym (taken .step-at .ensures)) ∙ sym (decode .decode .ensures) ∙ told .enum-told .given .1)
     (noted .note-verdict .ensures) (noted .note-verdict .kept .0)
 
-mul-judge-step : tie.Need-mul-judge-step Inv-loop μ-loop
-mul-judge-step c = omega (arith, row-among c)
+mul-judge-at-post : tie.Need-mul-judge-at-post Inv-loop μ-loop
+mul-judge-at-post c = omega (arith, row-among c)
 
-mul-judge-step-2 : tie.Need-mul-judge-step-2 Inv-loop μ-loop
-mul-judge-step-2 c = omega (arith, c .place-of .ensures, post-among c)
+mul-judge-at-post-2 : tie.Need-mul-judge-at-post-2 Inv-loop μ-loop
+mul-judge-at-post-2 c = omega (arith, c .place-of .ensures, post-among c)
 
-index-1-judge-step : tie.Need-index-1-judge-step Inv-loop μ-loop
-index-1-judge-step c = omega (arith, row-among c)
+index-1-judge-at-post : tie.Need-index-1-judge-at-post Inv-loop μ-loop
+index-1-judge-at-post c = omega (arith, row-among c)
 
-index-2-judge-step : tie.Need-index-2-judge-step Inv-loop μ-loop
-index-2-judge-step c = omega (arith, c .place-of .ensures, post-among c)
+index-2-judge-at-post : tie.Need-index-2-judge-at-post Inv-loop μ-loop
+index-2-judge-at-post c = omega (arith, c .place-of .ensures, post-among c)
 
-mul-judge-step-3 : tie.Need-mul-judge-step-3 Inv-loop μ-loop
-mul-judge-step-3 c = omega (arith, row-among (c .before))
+mul-judge-at-post-3 : tie.Need-mul-judge-at-post-3 Inv-loop μ-loop
+mul-judge-at-post-3 c = omega (arith, row-among (c .before))
 
-sub-judge-step : tie.Need-sub-judge-step Inv-loop μ-loop
-sub-judge-step c = omega (arith, row-among (c .before .before))
+sub-judge-at-post : tie.Need-sub-judge-at-post Inv-loop μ-loop
+sub-judge-at-post c = omega (arith, row-among (c .before .before))
 
-mul-judge-step-4 : tie.Need-mul-judge-step-4 Inv-loop μ-loop
-mul-judge-step-4 c = omega (arith, row-among (c .before .before))
+mul-judge-at-post-4 : tie.Need-mul-judge-at-post-4 Inv-loop μ-loop
+mul-judge-at-post-4 c = omega (arith, row-among (c .before .before))
 
-mul-judge-step-5 : tie.Need-mul-judge-step-5 Inv-loop μ-loop
-mul-judge-step-5 c = omega (arith, row-among (c .before .before .before))
+mul-judge-at-post-5 : tie.Need-mul-judge-at-post-5 Inv-loop μ-loop
+mul-judge-at-post-5 c = omega (arith, row-among (c .before .before .before))
 
-index-1-judge-step-2 : tie.Need-index-1-judge-step-2 Inv-loop μ-loop
-index-1-judge-step-2 c = omega (arith, row-among (c .before .before .before))
+index-1-judge-at-post-2 : tie.Need-index-1-judge-at-post-2 Inv-loop μ-loop
+index-1-judge-at-post-2 c = omega (arith, row-among (c .before .before .before))
 
-mul-judge-step-6 : tie.Need-mul-judge-step-6 Inv-loop μ-loop
-mul-judge-step-6 c = omega (arith, row-among (c .before .before .before .before))
+mul-judge-at-post-6 : tie.Need-mul-judge-at-post-6 Inv-loop μ-loop
+mul-judge-at-post-6 c = omega (arith, row-among (c .before .before .before .before))
 
-index-1-judge-step-3 : tie.Need-index-1-judge-step-3 Inv-loop μ-loop
-index-1-judge-step-3 c = omega (arith, row-among (c .before .before .before .before))
+index-1-judge-at-post-3 : tie.Need-index-1-judge-at-post-3 Inv-loop μ-loop
+index-1-judge-at-post-3 c = omega (arith, row-among (c .before .before .before .before))
 
-judge-step-requires : tie.Need-judge-step-requires Inv-loop μ-loop
-judge-step-requires c κs =
+judge-at-post-requires : tie.Need-judge-at-post-requires Inv-loop μ-loop
+judge-at-post-requires c κs =
     let place = c .before .before .before .before .before in
     let l = looped place .loop in
-    fit-at (l .posts) (l .trains) (l .last) (l .running) _ _ (step place) (says place) (place .before .row-of .ensures .0) (place .place-of .ensures)
+    in-ranges-at (l .posts) (l .trains) (l .last) (l .running) _ _ (step place) (says place) (place .before .row-of .ensures .0) (place .place-of .ensures)
     (l .inv .range)
 
 mul-own : tie.Need-mul-own Inv-loop μ-loop
@@ -168,7 +168,7 @@ loop-again-2 c =
     let l = looped place .loop in
     let left =
     judged-at (l .posts) (l .trains) (l .last) (l .running) _ _ (step place) (says place) (place .before .row-of .ensures .0) (place .place-of .ensures)
-    (l .inv .two) (judge .judge-step .ensures .0) (judge .judge-step .ensures .1 .0) (judge .judge-step .ensures .1 .1) in
+    (l .inv .two) (judge .judge-at-post .ensures .0) (judge .judge-at-post .ensures .1 .0) (judge .judge-at-post .ensures .1 .1) in
     goes-on (l .inv) _ _ _ _ _ _ (more place) left (noted .note-verdict2 .ensures) (noted .note-verdict2 .kept .0)
     (two-after _ _ _ _ _ (l .inv .two) _ _ _ _ _)
 
@@ -196,20 +196,20 @@ note-from-spec =
     loop-again
     (λ c κs. search needs)
     (λ c κs. search needs)
-    mul-judge-step
-    mul-judge-step-2
-    index-1-judge-step
-    index-2-judge-step
-    mul-judge-step-3
+    mul-judge-at-post
+    mul-judge-at-post-2
+    index-1-judge-at-post
+    index-2-judge-at-post
+    mul-judge-at-post-3
     (λ c. search needs)
-    sub-judge-step
-    mul-judge-step-4
+    sub-judge-at-post
+    mul-judge-at-post-4
     (λ c. search needs)
-    mul-judge-step-5
-    index-1-judge-step-2
-    mul-judge-step-6
-    index-1-judge-step-3
-    judge-step-requires
+    mul-judge-at-post-5
+    index-1-judge-at-post-2
+    mul-judge-at-post-6
+    index-1-judge-at-post-3
+    judge-at-post-requires
     mul-own
     mul-own-2
     index-1-own

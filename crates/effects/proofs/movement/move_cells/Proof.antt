@@ -1,7 +1,7 @@
 -- By what the train does: the block sections that it leaves and enters are there.
 use mathlib.Core.Path.{subst}
 use Rattle.rules.specs.Table.{cellsAfter}
-use Rattle.effects.specs.Blocks.{HasBlocks}
+use Rattle.effects.specs.Needs.{HasBlocks}
 use borrow.Author.Needs.{needs}
 use Rattle.effects.proofs.movement.move_cells.Statement.{statement}
 use Rattle.effects.proofs.movement.move_cells.Tie as tie

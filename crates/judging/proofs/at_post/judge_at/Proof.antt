@@ -1,8 +1,8 @@
 -- The verdict's case decides what is left.
 use mathlib.Core.Path.{sym, _∙_, subst}
 use Rattle.rules.specs.declared.Effect.{Effect}
-use Rattle.effects.specs.Blocks.{HasBlocks, Fitting}
-use Rattle.effects.proofs.movement.Accepted.{fitting}
+use Rattle.effects.specs.Needs.{HasBlocks, AcceptedHas}
+use Rattle.effects.proofs.movement.Accepted.{accepted-has}
 use Rattle.judging.proofs.at_post.AtSite.{accepted, accepted-trains, accepted-last, refused, refused-trains, refused-last}
 use borrow.Author.Needs.{needs}
 use Rattle.judging.proofs.at_post.judge_at.Statement.{statement}
@@ -11,10 +11,10 @@ use Rattle.judging.proofs.at_post.judge_at.Tie as tie
 abbrev start : tie.After-enum-told → tie.Start
 start c = c .before .before .before .before .before
 
-fits : (c : tie.After-enum-told) → Fitting (start c .args .c) (start c .args .x) (start c .args .e)
-fits c =
+has : (c : tie.After-enum-told) → AcceptedHas (start c .args .c) (start c .args .x) (start c .args .e)
+has c =
     let b = start c in
-    fitting (b .args .c) (b .args .e) _ (b .pre .placed) (b .pre .walk) (b .pre .seals) _ _ (b .args .x)
+    accepted-has (b .args .c) (b .args .e) _ (b .pre .onTheLine) (b .pre .walk) (b .pre .seals) _ _ (b .args .x)
     (sym (c .before .before .verdict .ensures) ∙ c .enum-told .given .1)
 
 blocks : (c : tie.After-effect-of) → HasBlocks (start (c .before) .args .c) (start (c .before) .args .e) (c .effect-of .result .train)
@@ -22,19 +22,19 @@ blocks c =
     subst
     (λ (f : Effect). HasBlocks (start (c .before) .args .c) (start (c .before) .args .e) (f .train))
     (sym (c .effect-of .ensures))
-    (fits (c .before) .blocks)
+    (has (c .before) .blocks)
 
 verdict-requires : tie.Need-verdict-requires
-verdict-requires c κs = c .before .before .pre .placed
+verdict-requires c κs = c .before .before .pre .onTheLine
 
 effect-of-requires : tie.Need-effect-of-requires
-effect-of-requires c κs = (start c .pre .placed, fits c .next)
+effect-of-requires c κs = (start c .pre .onTheLine, has c .effectNeeds)
 
 move-cells-requires : tie.Need-move-cells-requires
-move-cells-requires c κs = (start (c .before .before) .pre .placed, blocks (c .before))
+move-cells-requires c κs = (start (c .before .before) .pre .onTheLine, blocks (c .before))
 
 move-cells-requires-2 : tie.Need-move-cells-requires-2
-move-cells-requires-2 c κs = let b = c .before .before .before in (start (b .before) .pre .placed, blocks b)
+move-cells-requires-2 c κs = let b = c .before .before .before in (start (b .before) .pre .onTheLine, blocks b)
 
 returns : tie.Need-returns
 returns c =

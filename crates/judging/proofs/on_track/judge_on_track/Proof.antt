@@ -1,17 +1,17 @@
 use mathlib.Core.Path.{subst, sym}
-use Rattle.site.specs.Fit.{Fit}
+use Rattle.site.specs.InItsRanges.{InItsRanges}
 use Rattle.judging.proofs.at_post.OnTrack.{site-in}
 use Rattle.judging.proofs.on_track.OnTrack.{put-back}
 use borrow.Author.Needs.{needs}
 use Rattle.judging.proofs.on_track.judge_on_track.Statement.{statement}
 use Rattle.judging.proofs.on_track.judge_on_track.Tie as tie
 
-judge-step-requires : tie.Need-judge-step-requires
-judge-step-requires c κs =
+judge-at-post-requires : tie.Need-judge-at-post-requires
+judge-at-post-requires c κs =
     let post = c .before .before .before .before .before .before in
     let a = post .before .before .args in
     subst
-    (Fit (a .c))
+    (InItsRanges (a .c))
     (sym (site-in (a .x) (a .t) (post .place-of .ensures) (post .before .running-of .ensures)))
     (post .before .before .pre)
 
@@ -21,9 +21,9 @@ returns c =
     let post = judged .before .before .before .before .before .before .before in
     let a = post .before .before .args in
     put-back (a .c) (a .x) (a .t) (a .other) (post .place-of .ensures) (post .before .running-of .ensures)
-    (judged .judge-step .ensures .0)
-    (judged .judge-step .ensures .1 .0)
-    (judged .judge-step .ensures .1 .1)
+    (judged .judge-at-post .ensures .0)
+    (judged .judge-at-post .ensures .1 .0)
+    (judged .judge-at-post .ensures .1 .1)
 
 pub judge-on-track-spec : {M : Type 1} → statement M
 judge-on-track-spec =
@@ -33,7 +33,7 @@ judge-on-track-spec =
     (λ c κs. search needs)
     (λ c. search needs)
     (λ c. search needs)
-    judge-step-requires
+    judge-at-post-requires
     (λ c. search needs)
     (λ c. search needs)
     returns)

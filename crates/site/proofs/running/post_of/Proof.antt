@@ -1,3 +1,4 @@
+-- By the kind of the step: a return for each, which rewrites by the kind that led to it.
 use borrow.Author.Needs.{needs}
 use Rattle.section.specs.Step.{postOf}
 use Rattle.site.proofs.running.post_of.Statement.{statement}

@@ -1,0 +1,41 @@
+-- What the effect of a step needs, and the block sections that a movement needs: an accepted step has both.
+use Prim.Native.Nat.{_<_}
+use Rattle.section.specs.declared.Settings.{Settings}
+use Rattle.section.specs.declared.Step.{Step}
+use Rattle.section.specs.declared.Step.the-variants.{Order, Set, Announce, Acknowledge, Start, Pass, Leave, MeasuresOn, MeasuresOff, FaultOn}
+use Rattle.section.specs.declared.Step.the-variants.{FaultOff, Release, Key}
+use Rattle.section.specs.Numbers.{mostSeals}
+use Rattle.rules.specs.declared.Site.{Site}
+use Rattle.rules.specs.declared.Movement.{Movement}
+use Rattle.rules.specs.declared.Movement.the-variants.{Stays, Enters, Moves, Leaves}
+use Rattle.rules.specs.Table.{effect}
+use Rattle.site.specs.OnTheLine.{HasAhead, HasBefore}
+
+module _ (c : Settings) (e : Site) where
+  -- "announce (never at the last post)"; key with a "seal count 0 to 999" after it
+  unfoldable pub EffectNeeds : Step → Type 0
+  EffectNeeds (Order p) = Unit {0}
+  EffectNeeds (Set p) = Unit {0}
+  EffectNeeds (Announce p) = HasAhead c e
+  EffectNeeds (Acknowledge p) = Unit {0}
+  EffectNeeds (Start p number) = Unit {0}
+  EffectNeeds (Pass p number) = Unit {0}
+  EffectNeeds (Leave p number) = Unit {0}
+  EffectNeeds (MeasuresOn p) = Unit {0}
+  EffectNeeds (MeasuresOff p) = Unit {0}
+  EffectNeeds (FaultOn p f) = Unit {0}
+  EffectNeeds (FaultOff p f) = Unit {0}
+  EffectNeeds (Release p number) = Unit {0}
+  EffectNeeds (Key p) = e .own .seals < mostSeals
+
+  -- the block sections of a movement
+  unfoldable pub HasBlocks : Movement → Type 0
+  HasBlocks Stays = Unit {0}
+  HasBlocks (Enters number) = HasAhead c e
+  HasBlocks (Moves number) = HasBefore c e × HasAhead c e
+  HasBlocks Leaves = HasBefore c e
+
+-- what an accepted step has
+pub record AcceptedHas (c : Settings) (x : Step) (e : Site) : Type 0 where
+  pub effectNeeds : EffectNeeds c e x
+  pub blocks : HasBlocks c e (effect c x e .train)

@@ -1,0 +1,10 @@
+-- What is looked for in the block sections, as a test of the number that one keeps.
+use Prim.Native.Nat.{ℕ}
+use mathlib.Core.Bool.{Bool}
+use Rattle.rules.specs.Site.{isTrain, isNumber}
+use Rattle.occupancy.specs.declared.trains.Sought.{Sought}
+use Rattle.occupancy.specs.declared.trains.Sought.the-variants.{AnyTrain, Number}
+
+abbrev pub isSought : Sought → ℕ → Bool
+isSought AnyTrain = isTrain
+isSought (Number number) = isNumber number

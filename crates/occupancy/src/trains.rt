@@ -1,0 +1,109 @@
+// The trains in the block sections. Cells and numbers are compared at 64 bits.
+ghost use mathlib.Core.Bool.{false, cond};
+ghost use mathlib.Core.Path.{_≡_};
+ghost use Prim.Native.Nat.{_+_, _-_, _<_, _≤_};
+ghost use lib.ListN.{getD};
+ghost use Rattle.section.specs.Numbers.{mostBlocks, mostPosts};
+ghost use Rattle.section.specs.Geometry.{block};
+ghost use Rattle.section.specs.Settings.{isMaterialised};
+ghost use Rattle.rules.specs.Site.{isTrain, anyOf, atSendingEnd, atReceivingEnd, blockAhead, watchedOccupied, trainBefore};
+ghost use Rattle.site.specs.OnTheLine.{OnTheLine};
+ghost use Rattle.occupancy.specs.Sought.{isSought};
+use rules::Site;
+use section::Settings;
+use section::Trains;
+use section::positions;
+use site::place::at_receiving_end;
+use site::place::block_ahead;
+use site::place::block_before;
+use site::place::is_materialised;
+
+fn widened(number: u16) -> u64
+    ensures { λ r. ⌜ r ≡ number ⌝ }
+{
+    number as u64
+}
+
+// The train, or the last train, of block section i, widened: the only place where judging reads a cell.
+fn train_in(cells: &Trains, i: usize) -> u64
+    requires { ⌜ i < mostBlocks ⌝ }
+    ensures { λ r. ⌜ r ≡ getD (now (cells .entry)) i 0 ⌝ }
+{
+    widened(cells[i])
+}
+
+// The same of the block section that follows the post of rank j.
+pub fn train_after(cells: &Trains, n: u8, up: bool, j: u8) -> u64
+    requires { ⌜ (j + 1 < n) × (n ≤ mostPosts) ⌝ }
+    ensures { λ r. ⌜ r ≡ getD (now (cells .entry)) (block n up j) 0 ⌝ }
+{
+    train_in(cells, positions::block(n, up, j) as usize)
+}
+
+// What is looked for: any train, or the one of that number.
+pub enum Sought {
+    AnyTrain,
+    Number(u64),
+}
+
+fn is_sought(sought: Sought, number: u64) -> bool
+    ensures { λ r. ⌜ r ≡ isSought sought number ⌝ }
+{
+    match sought {
+        Sought::AnyTrain => number != 0,
+        Sought::Number(wanted) => number == wanted,
+    }
+}
+
+// One of the first m block sections keeps what is looked for.
+pub fn any_of(m: u8, sought: Sought, trains: &Trains) -> bool
+    requires { ⌜ m ≤ mostBlocks ⌝ }
+    ensures { λ r. ⌜ r ≡ anyOf (isSought sought) m (now (trains .entry)) ⌝ }
+{
+    let mut i = m as usize;
+    while i > 0 {
+        i -= 1;
+        if is_sought(sought, train_in(trains, i)) {
+            return true;
+        }
+    }
+    false
+}
+
+// The train in the block section before the post.
+pub fn train_before(c: Settings, e: Site, trains: &Trains) -> u64
+    requires { ⌜ (OnTheLine c e) × (atSendingEnd c e ≡ false) ⌝ }
+    ensures { λ r. ⌜ r ≡ trainBefore c e (now (trains .entry)) ⌝ }
+{
+    train_in(trains, block_before(c, e))
+}
+
+// The train, or the last train, of the block section ahead.
+pub fn train_ahead(c: Settings, e: Site, cells: &Trains) -> u64
+    requires { ⌜ (OnTheLine c e) × (atReceivingEnd c e ≡ false) ⌝ }
+    ensures { λ r. ⌜ r ≡ getD (now (cells .entry)) (blockAhead c e) 0 ⌝ }
+{
+    train_in(cells, block_ahead(c, e))
+}
+
+// A train in the part that the post watches.
+pub fn watched_occupied(c: Settings, e: Site, trains: &Trains) -> bool
+    requires { ⌜ OnTheLine c e ⌝ }
+    ensures { λ r. ⌜ r ≡ watchedOccupied c e (now (trains .entry)) ⌝ }
+{
+    if at_receiving_end(c, e) {
+        return false;
+    }
+    train_ahead(c, e, trains) != 0
+}
+
+// 13 of order: by telephone a train anywhere on the track, materialised one in the part that the post watches.
+pub fn order_occupied(c: Settings, e: Site, trains: &Trains) -> bool
+    requires { ⌜ OnTheLine c e ⌝ }
+    ensures { λ r. ⌜ r ≡ cond (isMaterialised c) (watchedOccupied c e (now (trains .entry))) (anyOf isTrain (c .posts - 1) (now (trains .entry))) ⌝ }
+{
+    if is_materialised(c) {
+        return watched_occupied(c, e, trains);
+    }
+    any_of(c.posts - 1, Sought::AnyTrain, trains)
+}
