@@ -4,7 +4,7 @@ pub mod movement;
 pub mod reversal;
 
 ghost use mathlib.Core.Path.{_≡_};
-ghost use Rattle.rules.specs.Table.{cleared, effect};
+ghost use Rattle.rules.specs.Table.{withoutFault, effect};
 ghost use Rattle.site.specs.OnTheLine.{OnTheLine};
 ghost use Rattle.effects.specs.Moving.{moving};
 ghost use Rattle.effects.specs.Needs.{EffectNeeds};
@@ -38,8 +38,8 @@ fn moving(e: Site, own: Post, train: Movement) -> Effect
 }
 
 // Fault 1 takes the mark with it.
-fn cleared(own: Post, fault: Fault) -> Post
-    ensures { λ r. ⌜ r ≡ cleared fault own ⌝ }
+fn without_fault(own: Post, fault: Fault) -> Post
+    ensures { λ r. ⌜ r ≡ withoutFault fault own ⌝ }
 {
     match fault {
         Fault::One => own.faulty(Fault::One, false).marked(false),
@@ -82,7 +82,7 @@ pub fn effect_of(c: Settings, x: Step, e: Site) -> Effect
         Step::MeasuresOn { post: _ } => moving(e, own.measured(true), Movement::Stays),
         Step::MeasuresOff { post: _ } => moving(e, own.measured(false), Movement::Stays),
         Step::FaultOn { post: _, fault } => moving(e, own.faulty(fault, true), Movement::Stays),
-        Step::FaultOff { post: _, fault } => moving(e, cleared(own, fault), Movement::Stays),
+        Step::FaultOff { post: _, fault } => moving(e, without_fault(own, fault), Movement::Stays),
         Step::Release { post: _, number: _ } => moving(e, own.marked(true), Movement::Stays),
         Step::Key { post: _ } => setting(c, e, own.sealed()),
     }

@@ -14,14 +14,15 @@ use Rattle.section.specs.declared.Section.{Section}
 use Rattle.section.specs.declared.Track.{Track}
 use Rattle.section.specs.declared.Walk.{Walk}
 use Rattle.section.specs.declared.Walk.the-variants.{Settled, Turn}
-use Rattle.section.specs.Bytes.{byte, le16}
+use Rattle.section.specs.Bytes.{byte, le16, truthNumber}
 use Rattle.section.specs.Numbers.{mostPosts, mostBlocks}
 use Rattle.section.specs.Post.{blank}
 use Rattle.layout.specs.Layout.{settingsLength, le16Bytes, settingsBytes, settingsOf}
 use Rattle.layout.proofs.Numbers.{le16-number}
+use Rattle.section.proofs.StepLaws.{truth-same}
 use Rattle.image.specs.Image.{numberLength, postLength, postsLength, numbersLength, headLength}
 use Rattle.image.specs.Image.{settingsPlace, trackA, trackB, imageLength, layoutNumber}
-use Rattle.image.specs.Image.{flag, faultsByte, postImage, postsImage, numbersImage, actNumber, walkImage, trackHead, trackImage, imageHead, imageOf}
+use Rattle.image.specs.Image.{faultsByte, postImage, postsImage, numbersImage, actNumber, walkImage, trackHead, trackImage, imageHead, imageOf}
 use Rattle.image.specs.Image.{numberAt, postAt, postsFrom, numbersFrom, walkOf, trackFrom, sectionOf}
 use Rattle.image.specs.Image.{postWellFormed, postsWellFormed, trackWellFormed, imageWellFormed}
 use Rattle.image.specs.RoundTrip.{Small, TrackHeld, SectionHeld, ReadsBack}
@@ -30,19 +31,13 @@ use Rattle.image.proofs.Laws.{post-length, le16-length, posts-length, n
 
 -- ## Flags
 
-flag-back : (x : Bool) → eqb (flag x) 1 ≡ x
-unfolding flag
-flag-back true = refl
-flag-back false = refl
-
-flag-well-formed : (x : Bool) → leb (flag x) 1 ≡ true
-unfolding flag
-flag-well-formed true = refl
-flag-well-formed false = refl
+truth-well-formed : (x : Bool) → leb (truthNumber x) 1 ≡ true
+truth-well-formed true = refl
+truth-well-formed false = refl
 
 module _ (a b c : Bool) where
   abbrev threeFlags : ℕ
-  threeFlags = flag a + flag b * 2 + flag c * 4
+  threeFlags = truthNumber a + truthNumber b * 2 + truthNumber c * 4
 
 record FaultsBack (a b c : Bool) : Type 0 where
   first : eqb (threeFlags a b c % 2) 1 ≡ a
@@ -51,7 +46,6 @@ record FaultsBack (a b c : Bool) : Type 0 where
   all-known : leb (threeFlags a b c) 7 ≡ true
 
 faults-back : (a b c : Bool) → FaultsBack a b c
-unfolding flag
 faults-back true true true = record { first = refl; second = refl; third = refl; all-known = refl }
 faults-back true true false = record { first = refl; second = refl; third = refl; all-known = refl }
 faults-back true false true = record { first = refl; second = refl; third = refl; all-known = refl }
@@ -88,11 +82,11 @@ module _ (front : List ℕ) {at : ℕ} (here : length front ≡ at) (rest : List
           past front l here 2,
           past front l here 3,
           past front l here 4,
-          flag-well-formed (o .device),
-          flag-well-formed (o .permission),
-          flag-well-formed (o .measures),
+          truth-well-formed (o .device),
+          truth-well-formed (o .permission),
+          truth-well-formed (o .measures),
           faults-back (o .faults .one) (o .faults .two) (o .faults .three) .all-known,
-          flag-well-formed (o .mark),
+          truth-well-formed (o .mark),
         )
 
     post-back : Small (o .seals) → postAt (front ++ (postImage o ++ rest)) at ≡ o
@@ -110,13 +104,13 @@ module _ (front : List ℕ) {at : ℕ} (here : length front ≡ at) (rest : List
           past front l here 4,
           past front l here 6,
           past front l here 7,
-          flag-back (o .device),
-          flag-back (o .permission),
-          flag-back (o .measures),
+          truth-same (o .device),
+          truth-same (o .permission),
+          truth-same (o .measures),
           faults .first,
           faults .second,
           faults .third,
-          flag-back (o .mark),
+          truth-same (o .mark),
           le16-number (o .seals) h,
         )
 
@@ -239,7 +233,7 @@ module _ (front : List ℕ) {at : ℕ} (here : length front ≡ at) (rest : List
         past-none front all here,
         past front all here 1,
         past front all here 2,
-        flag-back (t .cvt),
+        truth-same (t .cvt),
         walk-back (t .walk) (posts ++ (trains ++ last)) rest,
       )
 
@@ -254,7 +248,7 @@ module _ (front : List ℕ) {at : ℕ} (here : length front ≡ at) (rest : List
         p,
         past-none front all here,
         past front all here 1,
-        flag-well-formed (t .cvt),
+        truth-well-formed (t .cvt),
         act-well-formed (t .walk) (posts ++ (trains ++ last)) rest,
       )
 

@@ -12,7 +12,7 @@ use Rattle.section.specs.declared.Section.{Section}
 use Rattle.section.specs.declared.Track.{Track}
 use Rattle.section.specs.declared.Walk.{Walk}
 use Rattle.section.specs.declared.Walk.the-variants.{Settled, Turn}
-use Rattle.section.specs.Bytes.{byte, le16}
+use Rattle.section.specs.Bytes.{byte, le16, truthNumber}
 use Rattle.section.specs.Numbers.{mostPosts, mostBlocks}
 use Rattle.section.specs.Post.{blank}
 use Rattle.text.specs.Text.{firstTexts}
@@ -66,16 +66,13 @@ items item (suc m) = items item m ++ (item m ∷ [])
 
 -- ## What is written
 
-unfoldable pub flag : Bool → ℕ
-flag x = cond x 1 0
-
 -- fault 1 at bit 0, fault 2 at bit 1, fault 3 at bit 2
 unfoldable pub faultsByte : Post → ℕ
-faultsByte o = flag (o .faults .one) + flag (o .faults .two) * 2 + flag (o .faults .three) * 4
+faultsByte o = truthNumber (o .faults .one) + truthNumber (o .faults .two) * 2 + truthNumber (o .faults .three) * 4
 
 -- device (1 at CVT), permission, measures, faults, mark, zero, seals
 unfoldable pub postImage : Post → List ℕ
-postImage o = flag (o .device) ∷ flag (o .permission) ∷ flag (o .measures) ∷ faultsByte o ∷ flag (o .mark) ∷ 0 ∷ le16Bytes (o .seals)
+postImage o = truthNumber (o .device) ∷ truthNumber (o .permission) ∷ truthNumber (o .measures) ∷ faultsByte o ∷ truthNumber (o .mark) ∷ 0 ∷ le16Bytes (o .seals)
 
 -- the first m posts
 unfoldable pub postsImage : ℕ → List Post → List ℕ
@@ -97,7 +94,7 @@ walkImage (Turn p act) = actNumber act ∷ p ∷ []
 
 -- direction (1 for CVT), act, turn's post, zero
 unfoldable pub trackHead : Track → List ℕ
-trackHead t = flag (t .cvt) ∷ (walkImage (t .walk) ++ (0 ∷ []))
+trackHead t = truthNumber (t .cvt) ∷ (walkImage (t .walk) ++ (0 ∷ []))
 
 unfoldable pub trackImage : Track → List ℕ
 trackImage t = trackHead t ++ (postsImage mostPosts (t .posts) ++ (numbersImage mostBlocks (t .trains) ++ numbersImage mostBlocks (t .last)))

@@ -4,7 +4,7 @@ ghost use Prim.Native.Nat.{_+_, _≤_};
 ghost use lib.ListN.{length};
 ghost use Rattle.section.specs.Numbers.{mostPosts, mostBlocks};
 ghost use Rattle.text.specs.Text.{written};
-ghost use Rattle.image.specs.Image.{imageLength, trackLength, postsLength, numbersLength, flag, faultsByte, postImage, postsImage};
+ghost use Rattle.image.specs.Image.{imageLength, trackLength, postsLength, numbersLength, faultsByte, postImage, postsImage};
 ghost use Rattle.image.specs.Image.{numbersImage, actNumber, walkImage, trackHead, trackImage, imageOf};
 use image::LAYOUT_NUMBER;
 use image::POSTS_HELD;
@@ -16,17 +16,12 @@ use section::Section;
 use section::Track;
 use section::Trains;
 use section::Walk;
-
-fn flag(x: bool) -> u8
-    ensures { λ r. ⌜ r ≡ flag x ⌝ }
-{
-    if x { 1 } else { 0 }
-}
+use section::truth_number;
 
 fn faults_byte(o: Post) -> u8
     ensures { λ r. ⌜ r ≡ faultsByte o ⌝ }
 {
-    flag(o.faults.one) + flag(o.faults.two) * 2 + flag(o.faults.three) * 4
+    truth_number(o.faults.one) + truth_number(o.faults.two) * 2 + truth_number(o.faults.three) * 4
 }
 
 fn post_bytes(o: Post) -> [u8; 8]
@@ -34,11 +29,11 @@ fn post_bytes(o: Post) -> [u8; 8]
 {
     let seals = layout::le16_bytes(o.seals);
     [
-        flag(o.device),
-        flag(o.permission),
-        flag(o.measures),
+        truth_number(o.device),
+        truth_number(o.permission),
+        truth_number(o.measures),
         faults_byte(o),
-        flag(o.mark),
+        truth_number(o.mark),
         0,
         seals[0],
         seals[1],
@@ -71,7 +66,7 @@ fn track_head(t: Track) -> [u8; 4]
 {
     let walk = t.walk;
     let turn = walk_bytes(walk);
-    [flag(t.cvt), turn[0], turn[1], 0]
+    [truth_number(t.cvt), turn[0], turn[1], 0]
 }
 
 fn put_posts(buffer: &mut [u8], at: usize, posts: Posts) -> usize

@@ -13,6 +13,7 @@ use Rattle.section.specs.declared.Walk.{Walk}
 use Rattle.section.specs.declared.Walk.the-variants.{Turn}
 use Rattle.section.specs.declared.Section.{Section}
 use Rattle.section.specs.declared.Indications.{Indications}
+use Rattle.section.specs.Bytes.{truthNumber}
 use Rattle.section.specs.Range.{walkInRange, inRange}
 use Rattle.section.specs.Settings.{isMaterialised}
 use Rattle.section.specs.Store.{trackOf}
@@ -87,7 +88,7 @@ pub shown-parts :
     → r₁ ≡ cond (e .own .faults .three) 0 (cond flashing (cond (e .own .device) 3 4) (cond (e .own .device) 2 1))
     → flashing ≡ (isMaterialised c && isNextToSet (setCount (c .posts) (upAt c e) (e .walk)) (rankAt c e))
     → r₂ ≡ cond (not last) (cond (e .own .faults .one || occupied) 2 1) 0 → last ≡ atReceivingEnd c e → occupied ≡ watchedOccupied c e trains
-    → r₃ ≡ cond (e .own .permission) 1 0
+    → r₃ ≡ truthNumber (e .own .permission)
     → _≡_ {A = Indications} (record { circulation = r₁; troncon = r₂; permission = r₃ }) (shown (lampsAt c e trains))
 unfolding lampsAt shown circulation troncon
 shown-parts c e trains r₁ r₂ r₃ flashing last occupied e₁ f e₂ l o e₃ = rw (e₁, f, e₂, l, o, e₃)

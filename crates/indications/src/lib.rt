@@ -18,6 +18,7 @@ use section::Track;
 use section::Trains;
 use section::Walk;
 use section::positions;
+use section::truth_number;
 use site::place;
 
 // CIRCULATION, in the paper's numbers.
@@ -106,12 +107,6 @@ fn troncon(commands: bool, fault1: bool, occupied: bool) -> u8
     if occupied { RED } else { WHITE }
 }
 
-fn number(x: bool) -> u8
-    ensures { λ r. ⌜ r ≡ cond x 1 0 ⌝ }
-{
-    if x { 1 } else { 0 }
-}
-
 // What the post of a site shows.
 fn shown_at(c: Settings, e: Site, trains: &Trains) -> Indications
     requires { ⌜ InItsRanges c e ⌝ }
@@ -125,7 +120,7 @@ fn shown_at(c: Settings, e: Site, trains: &Trains) -> Indications
             own.faults.one,
             trains::watched_occupied(c, e, trains),
         ),
-        permission: number(own.permission),
+        permission: truth_number(own.permission),
     }
 }
 

@@ -15,7 +15,7 @@ use Rattle.section.specs.declared.Step.the-variants.{Order, Set, Announce, Ackn
 use Rattle.section.specs.declared.TrackStep.{TrackStep}
 use Rattle.section.specs.declared.Verdict.{Verdict}
 use Rattle.section.specs.declared.Verdict.the-variants.{Accepted, Refused}
-use Rattle.section.specs.Bytes.{le16, within}
+use Rattle.section.specs.Bytes.{le16, within, truthNumber}
 use Rattle.section.specs.Fresh.{freshTrack, freshSection}
 use Rattle.section.specs.Geometry.{upward, rank, block, isFirst, isLast}
 use Rattle.section.specs.Numbers.{mostBlocks}
@@ -23,7 +23,7 @@ use Rattle.section.specs.Post.{sealed}
 use Rattle.section.specs.Range.{sealsInRange, numbersInRange, actInRange, walkInRange, trackInRange, inRange}
 use Rattle.section.specs.Settings.{isSignalled, noneFrom, isMaterialised, settingsInRange}
 use Rattle.section.specs.Step.{faultWellFormed, numberWellFormed, placeWellFormed, fieldsWellFormed, wellFormed, faultOf, stepOf, stepSaid, decoded}
-use Rattle.section.specs.Step.{postOf, faultNumber, numberOf, trackNumber, bytesOf, encoded}
+use Rattle.section.specs.Step.{postOf, faultNumber, numberOf, bytesOf, encoded}
 use Rattle.section.specs.Store.{trackOf, withTrack, postOn, withPost}
 use Rattle.section.specs.Words.{refusalOf}
 use Rattle.rules.specs.Site.{reach, anyOf, stretchEnds, watchedOccupied, trainBefore, lastEntered, occupancyAt}
@@ -115,7 +115,7 @@ reversalToCvt posts = map MeasuresOn posts ++ reversal posts
 
 -- the byte strings that are offered
 unfoldable pub offeredAs : List TrackStep → List (List ℕ)
-unfolding encoded bytesOf faultNumber trackNumber
+unfolding encoded bytesOf faultNumber
 offeredAs steps = map encoded steps
 
 -- ## Answers

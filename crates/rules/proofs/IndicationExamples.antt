@@ -10,7 +10,7 @@ use Rattle.section.specs.declared.Indications.{Indications}
 use Rattle.section.specs.declared.TrackStep.{TrackStep}
 use Rattle.section.specs.declared.Fault.the-variants.{One, Two, Three}
 use Rattle.section.specs.declared.Step.the-variants.{Order, Set, Announce, Acknowledge, Start, Pass, MeasuresOn, FaultOn, Release}
-use Rattle.section.specs.Step.{trackNumber}
+use Rattle.section.specs.Bytes.{truthNumber}
 use Rattle.rules.specs.Indications.{setCount, isNextToSet, circulation, troncon, shown, lampsAt, dark, indicationsOn, indications}
 use Rattle.rules.proofs.Days.{A, B, telephone, materialised, fresh, sealedAt, on, reversalToCvt}
 use Rattle.rules.proofs.Rows.{_gives_, Holds, seen}
@@ -21,8 +21,8 @@ lamps circulation troncon permission = record { circulation = circulation; tronc
 
 -- what a post shows after a day all of whose steps are accepted
 unfoldable pub shownAfter : Settings → List TrackStep → Bool → ℕ → Option Indications
-unfolding seen trackNumber indications indicationsOn lampsAt shown circulation troncon isNextToSet setCount dark
-shownAfter c day track p = seen (λ (s : Section). indications s (trackNumber track) p) c day
+unfolding seen indications indicationsOn lampsAt shown circulation troncon isNextToSet setCount dark
+shownAfter c day track p = seen (λ (s : Section). indications s (truthNumber track) p) c day
 
 -- ## CIRCULATION
 

@@ -3,6 +3,7 @@ use Prim.Native.Nat.{ℕ, zero, suc}
 use mathlib.Core.Bool.{Bool, false, cond, not, _&&_, _||_}
 use mathlib.Core.List.{List}
 use lib.Dec.{eqb, ltb}
+use Rattle.section.specs.Bytes.{truthNumber}
 use Rattle.section.specs.declared.Settings.{Settings}
 use Rattle.section.specs.declared.Act.the-variants.{Set, Announce, Acknowledge}
 use Rattle.section.specs.declared.Walk.{Walk}
@@ -49,7 +50,7 @@ unfoldable pub troncon : Lamps → ℕ
 troncon l = cond (l .commands) (cond (l .fault1 || l .occupied) 2 1) 0
 
 unfoldable pub shown : Lamps → Indications
-shown l = record { circulation = circulation l; troncon = troncon l; permission = cond (l .permission) 1 0 }
+shown l = record { circulation = circulation l; troncon = troncon l; permission = truthNumber (l .permission) }
 
 -- at a site, with the trains of its track
 unfoldable pub lampsAt : Settings → Site → List ℕ → Lamps

@@ -12,15 +12,15 @@ use borrow.Author.Tests.{lt-ltb, ltb-true}
 use Rattle.section.specs.declared.Step.{Step}
 use Rattle.section.specs.declared.TrackStep.{TrackStep}
 use Rattle.section.specs.declared.Decoded.the-variants.{Well, Malformed}
-use Rattle.section.specs.Bytes.{byte, le16, AllBytes}
+use Rattle.section.specs.Bytes.{byte, le16, AllBytes, truthNumber}
 use Rattle.section.specs.Numbers.{stepLength}
 use Rattle.section.specs.RoundTrip.{DecodesWhatIsEncoded, EncodesInEightBytes, EncodesWhatIsDecoded, DecodesOnlyWhatFits}
 use Rattle.section.specs.Step.{Fields, fieldsIn, numberWellFormed, placeWellFormed, fieldsWellFormed, wellFormed, stepSaid, decoded}
-use Rattle.section.specs.Step.{fieldsOf, kindOf, postOf, numberOf, trackNumber, bytesOf, encoded, stepInRange}
+use Rattle.section.specs.Step.{fieldsOf, kindOf, postOf, numberOf, bytesOf, encoded, stepInRange}
 use Rattle.section.proofs.Laws.{and-left, and-right}
 use Rattle.section.proofs.StepLaws.{malformed, well-said, well-length, well-fields, WellFormed, well-formed-fields, below, fields-back, own}
-use Rattle.section.proofs.StepLaws.{track-within, track-same}
-use Rattle.section.proofs.StepLaws.{track-back, low-back, high-back, zero-low, zero-high, le16-back, kind-small, fault-small, number-small, all-bytes}
+use Rattle.section.proofs.StepLaws.{truth-within, truth-same}
+use Rattle.section.proofs.StepLaws.{truth-back, low-back, high-back, zero-low, zero-high, le16-back, kind-small, fault-small, number-small, all-bytes}
 
 -- ## From a step to its bytes and back
 
@@ -33,9 +33,9 @@ module _ (n : ℕ) (x : Step) (h : stepInRange n x ≡ true) where
   unfolding stepInRange kindOf numberOf
   own-number = and-right (ltb (postOf x) n) (numberWellFormed (kindOf x) (numberOf x)) h
 
-  own-fit : (b : Bool) → fieldsWellFormed n (trackNumber b) (fieldsOf x) 0 ≡ true
+  own-fit : (b : Bool) → fieldsWellFormed n (truthNumber b) (fieldsOf x) 0 ≡ true
   unfolding fieldsWellFormed placeWellFormed
-  own-fit b = rw (own x .kind-well-formed, track-within b, own-post, own x .fault-well-formed, own-number)
+  own-fit b = rw (own x .kind-well-formed, truth-within b, own-post, own x .fault-well-formed, own-number)
 
 le16-zero : le16 0 0 ≡ 0
 unfolding le16
@@ -43,7 +43,7 @@ le16-zero = refl
 
 same-step : (x : TrackStep) → stepSaid (encoded x) ≡ x
 unfolding stepSaid encoded bytesOf
-same-step x = rw (track-same (x .track), le16-back (fieldsOf (x .step) .number), own (x .step) .same)
+same-step x = rw (truth-same (x .track), le16-back (fieldsOf (x .step) .number), own (x .step) .same)
 
 encoded-well : (n : ℕ) (x : TrackStep) → stepInRange n (x .step) ≡ true → wellFormed n (encoded x) ≡ true
 unfolding wellFormed encoded bytesOf
@@ -57,7 +57,7 @@ unfolding encoded bytesOf
 encodes-in-eight-bytes n x m h =
     let f = fieldsOf (x .step) in
     let kind = kind-small (f .kind) (own (x .step) .kind-well-formed) in
-    let track = ltb-true (trackNumber (x .track)) 2 (track-within (x .track)) in
+    let track = ltb-true (truthNumber (x .track)) 2 (truth-within (x .track)) in
     let post = ltb-true (f .post) n (own-post n (x .step) h) in
     let fault = fault-small (f .kind) (f .fault) (own (x .step) .fault-well-formed) in
     let number = number-small (f .kind) (f .number) (own-number n (x .step) h) in (
@@ -122,12 +122,12 @@ module _ (n : ℕ) (s : List ℕ) (x : TrackStep) (d : decoded n s ≡ Well x) w
   encoded-decoded bytes =
       let zero6 : 0 ≡ byte s 6 = zero-low (byte s 6) (byte s 7) (tests .zeros-none) in
       let zero7 : 0 ≡ byte s 7 = zero-high (byte s 6) (byte s 7) (tests .zeros-none) in
-      let track : trackNumber (x .track) ≡ byte s 1 = rw decoded-track (track-back (byte s 1) (tests .track-below)) in
+      let track : truthNumber (x .track) ≡ byte s 1 = rw decoded-track (truth-back (byte s 1) (tests .track-below)) in
       let low = low-back (byte s 4) (byte s 5) (bytes 4) in
       let high = high-back (byte s 4) (byte s 5) (bytes 4) in
-      ap (bytesOf (trackNumber (x .track))) decoded-fields
-      ∙ ext-getD 0 (bytesOf (trackNumber (x .track)) (fieldsIn s)) s (sym decoded-length)
-      (below (λ (i : ℕ). byte (bytesOf (trackNumber (x .track)) (fieldsIn s)) i ≡ byte s i) stepLength
+      ap (bytesOf (truthNumber (x .track))) decoded-fields
+      ∙ ext-getD 0 (bytesOf (truthNumber (x .track)) (fieldsIn s)) s (sym decoded-length)
+      (below (λ (i : ℕ). byte (bytesOf (truthNumber (x .track)) (fieldsIn s)) i ≡ byte s i) stepLength
       (refl, (track, (refl, (refl, (low, (high, (zero6, (zero7, tt)))))))))
 
 pub decodes-only-what-fits : DecodesOnlyWhatFits

@@ -14,11 +14,11 @@ use Rattle.section.specs.declared.Step.{Step}
 use Rattle.section.specs.declared.Step.the-variants.{Order, Set, Announce, Acknowledge, Start, Pass, Leave}
 use Rattle.section.specs.declared.Step.the-variants.{MeasuresOn, MeasuresOff, FaultOn, FaultOff, Release, Key}
 use Rattle.section.specs.declared.Decoded.the-variants.{Well, Malformed}
-use Rattle.section.specs.Bytes.{byte, le16, within, AllBytes}
+use Rattle.section.specs.Bytes.{byte, le16, within, AllBytes, truthNumber}
 use Rattle.section.specs.Numbers.{largestTrain, stepLength, lastFault, lastKind, releaseKind}
 use Rattle.section.specs.Step.{isKind, isTrainKind, isFaultKind, isFault, isTrain}
 use Rattle.section.specs.Step.{Fields, fields, fieldsIn, faultWellFormed, numberWellFormed, placeWellFormed, fieldsWellFormed, wellFormed}
-use Rattle.section.specs.Step.{faultOf, stepOf, stepSaid, decoded, faultNumber, fieldsOf, trackNumber}
+use Rattle.section.specs.Step.{faultOf, stepOf, stepSaid, decoded, faultNumber, fieldsOf}
 use Rattle.section.proofs.Laws.{and-left, and-right}
 
 -- ## Well-formed bytes
@@ -92,9 +92,8 @@ fault-back : (f : ℕ) → isFault f ≡ true → faultNumber (faultOf f) ≡ f
 unfolding faultNumber faultOf
 fault-back f w = from-one (λ (f : ℕ). faultNumber (faultOf f) ≡ f) lastFault (refl, (refl, (refl, tt))) f w
 
-pub track-back : (t : ℕ) → t < 2 → trackNumber (eqb t 1) ≡ t
-unfolding trackNumber
-track-back t h = below (λ (t : ℕ). trackNumber (eqb t 1) ≡ t) 2 (refl, (refl, tt)) t h
+pub truth-back : (t : ℕ) → t < 2 → truthNumber (eqb t 1) ≡ t
+truth-back t h = below (λ (t : ℕ). truthNumber (eqb t 1) ≡ t) 2 (refl, (refl, tt)) t h
 
 -- the step of right fields has these fields
 module _ (p f z : ℕ) where
@@ -154,15 +153,13 @@ own (FaultOff p f) = record { same = ap (FaultOff p) (fault-same f); kind-well-f
 own (Release p z) = record { same = refl; kind-well-formed = refl; fault-well-formed = refl }
 own (Key p) = record { same = refl; kind-well-formed = refl; fault-well-formed = refl }
 
-pub track-within : (b : Bool) → ltb (trackNumber b) 2 ≡ true
-unfolding trackNumber
-track-within true = refl
-track-within false = refl
+pub truth-within : (b : Bool) → ltb (truthNumber b) 2 ≡ true
+truth-within true = refl
+truth-within false = refl
 
-pub track-same : (b : Bool) → eqb (trackNumber b) 1 ≡ b
-unfolding trackNumber
-track-same true = refl
-track-same false = refl
+pub truth-same : (b : Bool) → eqb (truthNumber b) 1 ≡ b
+truth-same true = refl
+truth-same false = refl
 
 -- ## Well-formed fields are small
 

@@ -12,7 +12,7 @@ use Rattle.section.specs.declared.Step.the-variants.{MeasuresOn, Measure
 use Rattle.section.specs.declared.TrackStep.{TrackStep}
 use Rattle.section.specs.declared.Decoded.{Decoded}
 use Rattle.section.specs.declared.Decoded.the-variants.{Well, Malformed}
-use Rattle.section.specs.Bytes.{byte, le16, within}
+use Rattle.section.specs.Bytes.{byte, le16, within, truthNumber}
 use Rattle.section.specs.Numbers.{largestTrain, stepLength, lastFault, lastKind}
 use Rattle.section.specs.Numbers.{orderKind, setKind, announceKind, acknowledgeKind, startKind, passKind, leaveKind}
 use Rattle.section.specs.Numbers.{measuresOnKind, measuresOffKind, faultOnKind, faultOffKind, releaseKind, keyKind}
@@ -138,15 +138,12 @@ postOf x = fieldsOf x .post
 unfoldable pub numberOf : Step → ℕ
 numberOf x = fieldsOf x .number
 
-unfoldable pub trackNumber : Bool → ℕ
-trackNumber b = cond b 1 0
-
 unfoldable pub bytesOf : ℕ → Fields → List ℕ
 bytesOf track f = f .kind ∷ track ∷ f .post ∷ f .fault ∷ f .number % 256 ∷ f .number / 256 ∷ 0 ∷ 0 ∷ []
 
 -- the eight bytes of a step
 unfoldable pub encoded : TrackStep → List ℕ
-encoded x = bytesOf (trackNumber (x .track)) (fieldsOf (x .step))
+encoded x = bytesOf (truthNumber (x .track)) (fieldsOf (x .step))
 
 -- a step whose post and number are in their ranges: one that some bytes say
 unfoldable pub stepInRange : ℕ → Step → Bool

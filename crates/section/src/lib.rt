@@ -9,6 +9,7 @@ pub mod words;
 
 pub use fresh_section::fresh;
 pub use little_endian::le16_of;
+pub use little_endian::truth_number;
 pub use post_record::blank;
 
 pub const LEAST_POSTS: u8 = 2;

@@ -32,7 +32,7 @@ use site::running::place_of;
 fn row_of(track: bool) -> usize
     ensures { λ r. ⌜ (r ≡ row track) × (r < 2) ⌝ }
 {
-    if track { 1 } else { 0 }
+    section::truth_number(track) as usize
 }
 
 // The posts' records of a fresh section.

@@ -56,7 +56,7 @@ returns-10 c = rw (c .moving6 .ensures, c .before .faulty .ensures, c .before .b
 
 returns-11 : tie.Need-returns-11
 unfolding effect
-returns-11 c = rw (c .moving7 .ensures, c .before .cleared .ensures, c .before .before .before .x4 .given .1)
+returns-11 c = rw (c .moving7 .ensures, c .before .without-fault .ensures, c .before .before .before .x4 .given .1)
 
 returns-12 : tie.Need-returns-12
 unfolding effect

@@ -9,11 +9,11 @@ unfolding postImage le16Bytes
 returns c =
     rw (
       c .before .before .before .before .before .le16-bytes .ensures,
-      c .before .before .before .before .flag .ensures,
-      c .before .before .before .flag2 .ensures,
-      c .before .before .flag3 .ensures,
+      c .before .before .before .before .truth-number .ensures,
+      c .before .before .before .truth-number2 .ensures,
+      c .before .before .truth-number3 .ensures,
       c .before .faults-byte .ensures,
-      c .flag4 .ensures,
+      c .truth-number4 .ensures,
     )
 
 pub post-bytes-spec : {M : Type 1} → statement M

@@ -1,6 +1,6 @@
 use borrow.Author.Needs.{needs}
-use Rattle.effects.proofs.cleared.Statement.{statement}
-use Rattle.effects.proofs.cleared.Tie as tie
+use Rattle.effects.proofs.without_fault.Statement.{statement}
+use Rattle.effects.proofs.without_fault.Tie as tie
 
 returns : tie.Need-returns
 returns c = rw (c .marked .ensures, c .before .faulty .ensures, c .before .before .enum-told .given .1)
@@ -11,8 +11,8 @@ returns-2 c = rw (c .faulty2 .ensures, c .before .enum-told2 .given .1)
 returns-3 : tie.Need-returns-3
 returns-3 c = rw (c .faulty3 .ensures, c .before .enum-told3 .given .1)
 
-pub cleared-spec : {M : Type 1} → statement M
-cleared-spec =
+pub without-fault-spec : {M : Type 1} → statement M
+without-fault-spec =
     tie.close
     (tie.spec
     (λ c. search needs)
