@@ -1,4 +1,4 @@
--- An accepted step has what its effect leans on: its checks, the ranges of the walk and of the seal count give it.
+-- An accepted step has what its effect needs: its checks, the ranges of the walk and of the seal count give it.
 use Prim.Native.Nat.{ℕ, _≤_}
 use mathlib.Core.Bool.{Bool, true, false, not, _||_}
 use mathlib.Core.List.{List, _∷_}
