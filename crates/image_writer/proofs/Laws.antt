@@ -9,7 +9,7 @@ use Rattle.section.specs.declared.Section.{Section}
 use Rattle.section.specs.declared.Track.{Track}
 use Rattle.section.specs.declared.Walk.{Walk}
 use Rattle.section.specs.declared.Walk.the-variants.{Settled, Turn}
-use Rattle.section.specs.Bytes.{byte, truthNumber}
+use Rattle.section.specs.Bytes.{byte}
 use Rattle.section.specs.Numbers.{mostPosts, mostBlocks}
 use Rattle.layout.specs.Layout.{le16Bytes, settingsBytes}
 use Rattle.layout.proofs.Parts.{settings-long}
@@ -20,10 +20,6 @@ use Rattle.image.specs.Image.{postsImage, numbersImage, walkImage, trackHead, t
 use Rattle.image.proofs.Laws.{le16-length, posts-length, numbers-length, head-length, track-length}
 
 -- ## Parts of what is written
-
-pub truth-small : {r : ℕ} (x : Bool) → r ≡ truthNumber x → r ≤ 1
-truth-small true e = omega arith
-truth-small false e = omega arith
 
 -- the two bytes of a walk, and a zero
 pub two-and-zero : (w : Walk) (d : ℕ) → d ∷ byte (walkImage w) 0 ∷ byte (walkImage w) 1 ∷ 0 ∷ [] ≡ d ∷ (walkImage w ++ (0 ∷ []))

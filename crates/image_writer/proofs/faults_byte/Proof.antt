@@ -1,25 +1,24 @@
 use native.Mathlib.Omega.{arith}
 use Rattle.image.specs.Image.{faultsByte}
-use Rattle.image_writer.proofs.Laws.{truth-small}
 use borrow.Author.Needs.{needs}
 use Rattle.image_writer.proofs.faults_byte.Statement.{statement}
 use Rattle.image_writer.proofs.faults_byte.Tie as tie
 
 mul-result : tie.Need-mul-result
-mul-result c = omega (arith, truth-small _ (c .truth-number2 .ensures))
+mul-result c = omega (arith, c .truth-number2 .ensures .1)
 
 add-result : tie.Need-add-result
-add-result c = omega (arith, truth-small _ (c .before .truth-number .ensures), truth-small _ (c .truth-number2 .ensures))
+add-result c = omega (arith, c .before .truth-number .ensures .1, c .truth-number2 .ensures .1)
 
 mul-result-2 : tie.Need-mul-result-2
-mul-result-2 c = omega (arith, truth-small _ (c .truth-number3 .ensures))
+mul-result-2 c = omega (arith, c .truth-number3 .ensures .1)
 
 add-result-2 : tie.Need-add-result-2
-add-result-2 c = omega (arith, truth-small _ (c .before .before .truth-number .ensures), truth-small _ (c .before .truth-number2 .ensures), truth-small _ (c .truth-number3 .ensures))
+add-result-2 c = omega (arith, c .before .before .truth-number .ensures .1, c .before .truth-number2 .ensures .1, c .truth-number3 .ensures .1)
 
 returns : tie.Need-returns
 unfolding faultsByte
-returns c = rw (c .before .before .truth-number .ensures, c .before .truth-number2 .ensures, c .truth-number3 .ensures)
+returns c = rw (c .before .before .truth-number .ensures .0, c .before .truth-number2 .ensures .0, c .truth-number3 .ensures .0)
 
 pub faults-byte-spec : {M : Type 1} → statement M
 faults-byte-spec =

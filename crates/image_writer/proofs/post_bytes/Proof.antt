@@ -9,11 +9,11 @@ unfolding postImage le16Bytes
 returns c =
     rw (
       c .before .before .before .before .before .le16-bytes .ensures,
-      c .before .before .before .before .truth-number .ensures,
-      c .before .before .before .truth-number2 .ensures,
-      c .before .before .truth-number3 .ensures,
+      c .before .before .before .before .truth-number .ensures .0,
+      c .before .before .before .truth-number2 .ensures .0,
+      c .before .before .truth-number3 .ensures .0,
       c .before .faults-byte .ensures,
-      c .truth-number4 .ensures,
+      c .truth-number4 .ensures .0,
     )
 
 pub post-bytes-spec : {M : Type 1} → statement M

@@ -6,7 +6,7 @@ use Rattle.image_writer.proofs.track_head.Tie as tie
 
 returns : tie.Need-returns
 unfolding trackHead
-returns c = rw (c .truth-number .ensures, c .before .walk-bytes .ensures) (two-and-zero _ _)
+returns c = rw (c .truth-number .ensures .0, c .before .walk-bytes .ensures) (two-and-zero _ _)
 
 pub track-head-spec : {M : Type 1} → statement M
 track-head-spec =
