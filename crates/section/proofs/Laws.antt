@@ -23,7 +23,7 @@ use Rattle.section.specs.Fresh.{freshTrack, freshSection}
 use Rattle.section.specs.Geometry.{upward, rank, block, isLast}
 use Rattle.section.specs.Numbers.{leastPosts, mostPosts, mostBlocks, mostSeals, largestTrain}
 use Rattle.section.specs.Post.{blank, permitted}
-use Rattle.section.specs.Range.{sealsInRange, numbersInRange, actInRange, walkInRange, trackInRange, inRange}
+use Rattle.section.specs.Range.{postInRange, postsInRange, numbersInRange, actInRange, walkInRange, trackInRange, inRange}
 use Rattle.section.specs.Settings.{settingsInRange}
 use Rattle.section.specs.Store.{trackOf}
 
@@ -101,27 +101,41 @@ module _ (test fits : ℕ → Bool) (none : fits zero ≡ true) (more : (m : ℕ
   goes-on i h e = last-first i h ∙ rw e
 
 module _ (l : List Post) where
-  sealTest : ℕ → Bool
-  sealTest i = leb (getD l i blank .seals) mostSeals
+  postTest : ℕ → Bool
+  postTest i = postInRange (getD l i blank)
 
-  pub seals-each : (m : ℕ) → sealsInRange m l ≡ true → (p : ℕ) → p < m → getD l p blank .seals ≤ mostSeals
-  unfolding sealsInRange sealTest
-  seals-each m h p k = leb-true _ _ (each sealTest (λ (j : ℕ). sealsInRange j l) refl (λ j. refl) m h p k)
+  pub posts-each : (m : ℕ) → postsInRange m l ≡ true → (p : ℕ) → p < m → postInRange (getD l p blank) ≡ true
+  unfolding postsInRange postTest
+  posts-each m h p k = each postTest (λ (j : ℕ). postsInRange j l) refl (λ j. refl) m h p k
 
-  pub seals-all : (m : ℕ) → ((p : ℕ) → p < m → getD l p blank .seals ≤ mostSeals) → sealsInRange m l ≡ true
-  unfolding sealsInRange sealTest
-  seals-all m h = all sealTest (λ (j : ℕ). sealsInRange j l) refl (λ j. refl) m (λ p k. le-leb _ _ (h p k))
+  pub posts-all : (m : ℕ) → ((p : ℕ) → p < m → postInRange (getD l p blank) ≡ true) → postsInRange m l ≡ true
+  unfolding postsInRange postTest
+  posts-all m h = all postTest (λ (j : ℕ). postsInRange j l) refl (λ j. refl) m h
 
-  pub seals-over : (m k p : ℕ) → mostSeals ≤ k → p < m → k < getD l p blank .seals → sealsInRange m l ≡ false
-  seals-over m k p hk hp over = go (sealsInRange m l) refl
+  pub posts-stop : (m p : ℕ) → p < m → postInRange (getD l p blank) ≡ false → postsInRange m l ≡ false
+  posts-stop m p hp over = go (postsInRange m l) refl
     where
-      go : (b : Bool) → sealsInRange m l ≡ b → b ≡ false
-      go true e = absurd (omega (arith, seals-each m e p hp, hk, over))
+      go : (b : Bool) → postsInRange m l ≡ b → b ≡ false
+      go true e = let z : true ≡ false = sym (posts-each m e p hp) ∙ over in let y : _≡_ {A = ℕ} 0 1 = cc in absurd (omega arith)
       go false e = refl
 
-  pub seals-go-on : (i : ℕ) → 0 < i → getD l (i - 1) blank .seals ≤ mostSeals → sealsInRange i l ≡ sealsInRange (i - 1) l
-  unfolding sealsInRange sealTest
-  seals-go-on i h k = goes-on sealTest (λ (j : ℕ). sealsInRange j l) refl (λ j. refl) i h (le-leb _ _ k)
+  pub posts-go-on : (i : ℕ) → 0 < i → postInRange (getD l (i - 1) blank) ≡ true → postsInRange i l ≡ postsInRange (i - 1) l
+  unfolding postsInRange postTest
+  posts-go-on i h k = goes-on postTest (λ (j : ℕ). postsInRange j l) refl (λ j. refl) i h k
+
+-- what the range of a post's record says, both ways
+module _ (o : Post) where
+  pub seals-right : postInRange o ≡ true → o .seals ≤ mostSeals
+  unfolding postInRange
+  seals-right h = leb-true _ _ (and-left (leb (o .seals) mostSeals) (leb (o .caution) largestTrain) h)
+
+  pub caution-right : postInRange o ≡ true → o .caution ≤ largestTrain
+  unfolding postInRange
+  caution-right h = leb-true _ _ (and-right (leb (o .seals) mostSeals) (leb (o .caution) largestTrain) h)
+
+  pub post-in-range : o .seals ≤ mostSeals → o .caution ≤ largestTrain → postInRange o ≡ true
+  unfolding postInRange
+  post-in-range seals caution = both (le-leb _ _ seals) (le-leb _ _ caution)
 
 module _ (l : List ℕ) where
   numberTest : ℕ → Bool
@@ -146,22 +160,22 @@ swap-middle false b c d = refl
 module _ (t : Track) where
   -- post i and the block section beside it
   abbrev pub cellTest : ℕ → Bool
-  cellTest i = leb (getD (t .posts) i blank .seals) mostSeals && (leb (getD (t .trains) i 0) largestTrain && leb (getD (t .last) i 0) largestTrain)
+  cellTest i = postInRange (getD (t .posts) i blank) && (leb (getD (t .trains) i 0) largestTrain && leb (getD (t .last) i 0) largestTrain)
 
   abbrev pub cells : ℕ → Bool
-  cells m = sealsInRange m (t .posts) && (numbersInRange m (t .trains) && numbersInRange m (t .last))
+  cells m = postsInRange m (t .posts) && (numbersInRange m (t .trains) && numbersInRange m (t .last))
 
   cells-more : (m : ℕ) → cells (suc m) ≡ (cellTest m && cells m)
-  unfolding sealsInRange numbersInRange
+  unfolding postsInRange numbersInRange
   cells-more m =
-      let seals = leb (getD (t .posts) m blank .seals) mostSeals in
+      let post = postInRange (getD (t .posts) m blank) in
       let train = leb (getD (t .trains) m 0) largestTrain in
       let last = leb (getD (t .last) m 0) largestTrain in
-      ap (λ (x : Bool). (seals && sealsInRange m (t .posts)) && x) (swap-middle train (numbersInRange m (t .trains)) last (numbersInRange m (t .last)))
-      ∙ swap-middle seals (sealsInRange m (t .posts)) (train && last) (numbersInRange m (t .trains) && numbersInRange m (t .last))
+      ap (λ (x : Bool). (post && postsInRange m (t .posts)) && x) (swap-middle train (numbersInRange m (t .trains)) last (numbersInRange m (t .last)))
+      ∙ swap-middle post (postsInRange m (t .posts)) (train && last) (numbersInRange m (t .trains) && numbersInRange m (t .last))
 
   cells-none : cells zero ≡ true
-  unfolding sealsInRange numbersInRange
+  unfolding postsInRange numbersInRange
   cells-none = refl
 
   pub cells-stop : (i : ℕ) → 0 < i → cellTest (i - 1) ≡ false → cells i ≡ false
@@ -180,11 +194,11 @@ regroup false b c d = refl
 pub track-cells :
     (n : ℕ) (track : Bool) (t : Track) →
     trackInRange n track t
-    ≡ ((sealsInRange n (t .posts) && (numbersInRange (n - 1) (t .trains) && numbersInRange (n - 1) (t .last)))
+    ≡ ((postsInRange n (t .posts) && (numbersInRange (n - 1) (t .trains) && numbersInRange (n - 1) (t .last)))
     && walkInRange n (upward track (t .cvt)) (t .walk))
 unfolding trackInRange
 track-cells n track t =
-    regroup (sealsInRange n (t .posts)) (numbersInRange (n - 1) (t .trains)) (numbersInRange (n - 1) (t .last))
+    regroup (postsInRange n (t .posts)) (numbersInRange (n - 1) (t .trains)) (numbersInRange (n - 1) (t .last))
     (walkInRange n (upward track (t .cvt)) (t .walk))
 
 pub posts-right : (c : Settings) → settingsInRange c ≡ true → (leastPosts ≤ c .posts) × (c .posts ≤ mostPosts)
@@ -197,7 +211,7 @@ posts-right c h =
 
 -- a track in its ranges
 pub record TrackRanges (n : ℕ) (track : Bool) (t : Track) : Type 0 where
-  pub seals : (p : ℕ) → p < n → getD (t .posts) p blank .seals ≤ mostSeals
+  pub posts : (p : ℕ) → p < n → postInRange (getD (t .posts) p blank) ≡ true
   pub trains : (i : ℕ) → i < n - 1 → getD (t .trains) i 0 ≤ largestTrain
   pub last : (i : ℕ) → i < n - 1 → getD (t .last) i 0 ≤ largestTrain
   pub walk : walkInRange n (upward track (t .cvt)) (t .walk) ≡ true
@@ -209,11 +223,11 @@ module _ (n : ℕ) (track : Bool) (t : Track) where
       let walk = walkInRange n (upward track (t .cvt)) (t .walk) in
       let last = numbersInRange (n - 1) (t .last) in
       let trains = numbersInRange (n - 1) (t .trains) in
-      let one = and-parts (sealsInRange n (t .posts)) (trains && (last && walk)) h in
+      let one = and-parts (postsInRange n (t .posts)) (trains && (last && walk)) h in
       let two = and-parts trains (last && walk) (one .1) in
       let three = and-parts last walk (two .1) in
       record {
-        seals = seals-each (t .posts) n (one .0);
+        posts = posts-each (t .posts) n (one .0);
         trains = numbers-each (t .trains) (n - 1) (two .0);
         last = numbers-each (t .last) (n - 1) (three .0);
         walk = three .1;
@@ -222,7 +236,7 @@ module _ (n : ℕ) (track : Bool) (t : Track) where
   pub ranges-hold : TrackRanges n track t → trackInRange n track t ≡ true
   unfolding trackInRange
   ranges-hold r =
-      both (seals-all (t .posts) n (r .seals))
+      both (posts-all (t .posts) n (r .posts))
       (both (numbers-all (t .trains) (n - 1) (r .trains)) (both (numbers-all (t .last) (n - 1) (r .last)) (r .walk)))
 
 -- the turn's post, and its act there
@@ -273,10 +287,10 @@ set-keeps P (x ∷ l) (suc i) zero a d h k = h
 set-keeps P (x ∷ l) (suc i) (suc j) a d h k = set-keeps P l i j a d h k
 
 fresh-track-ranges : (n : ℕ) (track : Bool) → n ≤ mostPosts → TrackRanges n track (freshTrack n track)
-unfolding freshTrack walkInRange
+unfolding freshTrack walkInRange postInRange
 fresh-track-ranges n track h = record {
-  seals = λ p k. set-keeps (λ (o : Post). o .seals ≤ mostSeals) (replicate mostPosts blank) (cond track (n - 1) 0) p (permitted true blank) blank
-      (rw (getD-replicate mostPosts p blank blank (omega arith)) (lit≤ tt)) (lit≤ tt);
+  posts = λ p k. set-keeps (λ (o : Post). postInRange o ≡ true) (replicate mostPosts blank) (cond track (n - 1) 0) p (permitted true blank) blank
+      (rw (getD-replicate mostPosts p blank blank (omega arith)) refl) refl;
   trains = λ i k. rw (getD-replicate {A = ℕ} mostBlocks i 0 0 (omega arith)) (lit≤ tt);
   last = λ i k. rw (getD-replicate {A = ℕ} mostBlocks i 0 0 (omega arith)) (lit≤ tt);
   walk = refl;

@@ -2,20 +2,20 @@
 -- and a step is the one that its own fields give. The theorems are in `Codec`.
 use Prim.Native.Nat.{ℕ, zero, suc, _≤_, _<_, _/_, _%_}
 use mathlib.Core.Path.{_≡_, refl, ap}
-use mathlib.Core.Bool.{Bool, true, false, cond, _&&_}
+use mathlib.Core.Bool.{Bool, true, false, cond, _&&_, _||_}
 use mathlib.Core.List.{List, [], _∷_}
 use native.Mathlib.Omega.{arith}
 use lib.ListN.{length}
 use lib.Dec.{eqb, ltb, leb}
 use borrow.Author.Tests.{eqb-true, ltb-true, leb-true}
 use Rattle.section.specs.declared.Fault.{Fault}
-use Rattle.section.specs.declared.Fault.the-variants.{One, Two, Three}
+use Rattle.section.specs.declared.Fault.the-variants.{One, Two, Three, Four}
 use Rattle.section.specs.declared.Step.{Step}
 use Rattle.section.specs.declared.Step.the-variants.{Order, Set, Announce, Acknowledge, Start, Pass, Leave}
-use Rattle.section.specs.declared.Step.the-variants.{MeasuresOn, MeasuresOff, FaultOn, FaultOff, Release, Key}
+use Rattle.section.specs.declared.Step.the-variants.{MeasuresOn, MeasuresOff, FaultOn, FaultOff, Release, Key, Caution}
 use Rattle.section.specs.declared.Decoded.the-variants.{Well, Malformed}
 use Rattle.section.specs.Bytes.{byte, le16, within, AllBytes, truthNumber}
-use Rattle.section.specs.Numbers.{largestTrain, stepLength, lastFault, lastKind, releaseKind}
+use Rattle.section.specs.Numbers.{largestTrain, stepLength, lastFault, lastKind, releaseKind, cautionKind}
 use Rattle.section.specs.Step.{isKind, isTrainKind, isFaultKind, isFault, isTrain}
 use Rattle.section.specs.Step.{Fields, fields, fieldsIn, faultWellFormed, numberWellFormed, placeWellFormed, fieldsWellFormed, wellFormed}
 use Rattle.section.specs.Step.{faultOf, stepOf, stepSaid, decoded, faultNumber, fieldsOf}
@@ -90,7 +90,7 @@ from-one P m e (suc k) w =
 
 fault-back : (f : ℕ) → isFault f ≡ true → faultNumber (faultOf f) ≡ f
 unfolding faultNumber faultOf
-fault-back f w = from-one (λ (f : ℕ). faultNumber (faultOf f) ≡ f) lastFault (refl, (refl, (refl, tt))) f w
+fault-back f w = from-one (λ (f : ℕ). faultNumber (faultOf f) ≡ f) lastFault (refl, (refl, (refl, (refl, tt)))) f w
 
 pub truth-back : (t : ℕ) → t < 2 → truthNumber (eqb t 1) ≡ t
 truth-back t h = below (λ (t : ℕ). truthNumber (eqb t 1) ≡ t) 2 (refl, (refl, tt)) t h
@@ -110,7 +110,7 @@ module _ (p f z : ℕ) where
   unfolding stepOf faultWellFormed numberWellFormed within
   fields-again k w =
       from-one (λ (k : ℕ). faultWellFormed k f ≡ true → numberWellFormed k z ≡ true → fieldsOf (stepOf (fields k p f z)) ≡ fields k p f z) lastKind
-      (plain, (plain, (plain, (plain, (numbered, (numbered, (numbered, (plain, (plain, (faulted, (faulted, (numbered, (plain, tt))))))))))))) k w
+      (plain, (plain, (plain, (plain, (numbered, (numbered, (numbered, (plain, (plain, (faulted, (faulted, (numbered, (plain, (numbered, tt)))))))))))))) k w
 
 pub fields-back :
     (f : Fields) → isKind (f .kind) ≡ true → faultWellFormed (f .kind) (f .fault) ≡ true → numberWellFormed (f .kind) (f .number) ≡ true →
@@ -124,12 +124,14 @@ unfolding faultNumber within
 fault-within One = refl
 fault-within Two = refl
 fault-within Three = refl
+fault-within Four = refl
 
 fault-same : (f : Fault) → faultOf (faultNumber f) ≡ f
 unfolding faultNumber faultOf
 fault-same One = refl
 fault-same Two = refl
 fault-same Three = refl
+fault-same Four = refl
 
 -- they give the step, and its kind and fault are right
 pub record Own (x : Step) : Type 0 where
@@ -152,6 +154,7 @@ own (FaultOn p f) = record { same = ap (FaultOn p) (fault-same f); kind-well-for
 own (FaultOff p f) = record { same = ap (FaultOff p) (fault-same f); kind-well-formed = refl; fault-well-formed = fault-within f }
 own (Release p z) = record { same = refl; kind-well-formed = refl; fault-well-formed = refl }
 own (Key p) = record { same = refl; kind-well-formed = refl; fault-well-formed = refl }
+own (Caution p z) = record { same = refl; kind-well-formed = refl; fault-well-formed = refl }
 
 pub truth-within : (b : Bool) → ltb (truthNumber b) 2 ≡ true
 truth-within true = refl
@@ -166,7 +169,7 @@ truth-same false = refl
 -- a well-formed number is none or a train's
 pub number-small : (kind number : ℕ) → numberWellFormed kind number ≡ true → number ≤ largestTrain
 unfolding numberWellFormed within
-number-small kind number e = small (isTrainKind kind) (eqb kind releaseKind) e
+number-small kind number e = small (isTrainKind kind || eqb kind cautionKind) (eqb kind releaseKind) e
   where
     small : (moves releases : Bool) →
         cond moves (isTrain number) (cond releases (leb number largestTrain) (eqb number 0)) ≡ true →

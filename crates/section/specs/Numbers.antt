@@ -1,4 +1,4 @@
--- The numbers of document 01, each once: limits, lengths, kinds of steps.
+-- The numbers of documents 01 and 02, each once: limits, lengths, kinds of steps.
 use Prim.Native.Nat.{ℕ}
 
 abbrev pub leastPosts : ℕ
@@ -24,9 +24,21 @@ mostSeals = 999
 abbrev pub stepLength : ℕ
 stepLength = 8
 
--- the faults of a post: 1 to 3
+-- the faults of a post: 1 to 4
 abbrev pub lastFault : ℕ
-lastFault = 3
+lastFault = 4
+
+-- level crossings in the settings
+abbrev pub mostCrossings : ℕ
+mostCrossings = 8
+
+-- a byte of the crossings that is unused
+abbrev pub unused : ℕ
+unused = 255
+
+-- what such a byte has more where there are no counter-direction announcing zones
+abbrev pub noZones : ℕ
+noZones = 128
 
 -- ## Kinds of steps, as byte 0 holds them
 
@@ -69,6 +81,9 @@ releaseKind = 12
 abbrev pub keyKind : ℕ
 keyKind = 13
 
+abbrev pub cautionKind : ℕ
+cautionKind = 14
+
 -- they are numbered from 1 on
 abbrev pub lastKind : ℕ
-lastKind = keyKind
+lastKind = cautionKind

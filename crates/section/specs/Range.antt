@@ -16,10 +16,14 @@ use Rattle.section.specs.Numbers.{mostSeals, largestTrain}
 use Rattle.section.specs.Post.{blank}
 use Rattle.section.specs.Settings.{settingsInRange}
 
--- "a seal count 0 to 999", of the first m posts
-unfoldable pub sealsInRange : ℕ → List Post → Bool
-sealsInRange zero l = true
-sealsInRange (suc m) l = leb (getD l m blank .seals) mostSeals && sealsInRange m l
+-- "a seal count 0 to 999"; a caution form for a train, 0 for none
+unfoldable pub postInRange : Post → Bool
+postInRange o = leb (o .seals) mostSeals && leb (o .caution) largestTrain
+
+-- the first m posts
+unfoldable pub postsInRange : ℕ → List Post → Bool
+postsInRange zero l = true
+postsInRange (suc m) l = postInRange (getD l m blank) && postsInRange m l
 
 -- trains and last trains, of the first m block sections
 unfoldable pub numbersInRange : ℕ → List ℕ → Bool
@@ -38,7 +42,7 @@ walkInRange n up (Turn p act) = ltb p n && actInRange n up p act
 
 unfoldable pub trackInRange : ℕ → Bool → Track → Bool
 trackInRange n track t =
-    sealsInRange n (t .posts)
+    postsInRange n (t .posts)
     && (numbersInRange (n - 1) (t .trains) && (numbersInRange (n - 1) (t .last) && walkInRange n (upward track (t .cvt)) (t .walk)))
 
 -- what refusal 6 asks for

@@ -1,10 +1,11 @@
--- Settings and their ranges (document 01, "The day file").
+-- Settings and their ranges (document 01, "The day file"; document 02, request 1).
 use Prim.Native.Nat.{ℕ, _-_, _/_, _%_, _^_}
 use mathlib.Core.Bool.{Bool, _&&_}
 use lib.Dec.{eqb, leb}
 use Rattle.section.specs.declared.Settings.{Settings}
 use Rattle.section.specs.Bytes.{within}
-use Rattle.section.specs.Numbers.{leastPosts, mostPosts, largestLine}
+use Rattle.section.specs.Crossings.{crossingsInRange}
+use Rattle.section.specs.Numbers.{leastPosts, mostPosts, largestLine, mostCrossings}
 
 -- "bit p set for a signalled post"
 unfoldable pub isSignalled : ℕ → ℕ → Bool
@@ -18,7 +19,7 @@ noneFrom mask n = eqb (mask / 2 ^ n) 0
 unfoldable pub isMaterialised : Settings → Bool
 isMaterialised c = eqb (c .form) 1
 
--- "byte 0 n; byte 1 form; bytes 2–3 a mask, .. both ends set, none above n−1; bytes 4–5 line number 1 to 999"
+-- "byte 0 n; byte 1 form; bytes 2–3 a mask, .. both ends set, none above n−1; bytes 4–5 line number 1 to 999"; then the crossings
 unfoldable pub settingsInRange : Settings → Bool
 settingsInRange c =
     within leastPosts mostPosts (c .posts)
@@ -26,4 +27,5 @@ settingsInRange c =
     && (isSignalled (c .mask) 0
     && (isSignalled (c .mask) (c .posts - 1)
     && (noneFrom (c .mask) (c .posts)
-    && within 1 largestLine (c .line)))))
+    && (within 1 largestLine (c .line)
+    && crossingsInRange (c .posts) mostCrossings (c .crossings))))))

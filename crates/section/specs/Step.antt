@@ -1,21 +1,21 @@
--- A step in its eight bytes (document 01, "The day file").
+-- A step in its eight bytes (document 01, "The day file"; document 02, request 1).
 use Prim.Native.Nat.{ℕ, _/_, _%_}
-use mathlib.Core.Bool.{Bool, cond, _&&_}
+use mathlib.Core.Bool.{Bool, cond, _&&_, _||_}
 use mathlib.Core.List.{List, [], _∷_}
 use lib.ListN.{length}
 use lib.Dec.{eqb, ltb, leb}
 use Rattle.section.specs.declared.Fault.{Fault}
-use Rattle.section.specs.declared.Fault.the-variants.{One, Two, Three}
+use Rattle.section.specs.declared.Fault.the-variants.{One, Two, Three, Four}
 use Rattle.section.specs.declared.Step.{Step}
 use Rattle.section.specs.declared.Step.the-variants.{Order, Set, Announce, Acknowledge, Start, Pass, Leave}
-use Rattle.section.specs.declared.Step.the-variants.{MeasuresOn, MeasuresOff, FaultOn, FaultOff, Release, Key}
+use Rattle.section.specs.declared.Step.the-variants.{MeasuresOn, MeasuresOff, FaultOn, FaultOff, Release, Key, Caution}
 use Rattle.section.specs.declared.TrackStep.{TrackStep}
 use Rattle.section.specs.declared.Decoded.{Decoded}
 use Rattle.section.specs.declared.Decoded.the-variants.{Well, Malformed}
 use Rattle.section.specs.Bytes.{byte, le16, within, truthNumber}
 use Rattle.section.specs.Numbers.{largestTrain, stepLength, lastFault, lastKind}
 use Rattle.section.specs.Numbers.{orderKind, setKind, announceKind, acknowledgeKind, startKind, passKind, leaveKind}
-use Rattle.section.specs.Numbers.{measuresOnKind, measuresOffKind, faultOnKind, faultOffKind, releaseKind, keyKind}
+use Rattle.section.specs.Numbers.{measuresOnKind, measuresOffKind, faultOnKind, faultOffKind, releaseKind, keyKind, cautionKind}
 
 -- ## The fields
 
@@ -35,7 +35,7 @@ fieldsIn s = fields (byte s 0) (byte s 2) (byte s 3) (le16 (byte s 4) (byte s 5)
 
 -- ## The kinds
 
--- "kind, 1 to 13"
+-- "kind, 1 to 13", and 14
 abbrev pub isKind : ℕ → Bool
 isKind kind = within 1 lastKind kind
 
@@ -55,14 +55,14 @@ isTrain number = within 1 largestTrain number
 
 -- ## The tests
 
--- "The fault is 1 to 3 in kinds 10 and 11, else zero."
+-- "The fault is 1 to 3 in kinds 10 and 11, else zero." "Kinds 10 and 11 take fault 4 too"
 unfoldable pub faultWellFormed : ℕ → ℕ → Bool
 faultWellFormed kind fault = cond (isFaultKind kind) (isFault fault) (eqb fault 0)
 
--- "The number is 1 to 9,999 in kinds 5 to 7, 0 to 9,999 in kind 12, else zero."
+-- "The number is 1 to 9,999 in kinds 5 to 7, 0 to 9,999 in kind 12, else zero." "kind 14 (number 1 to 9,999)"
 unfoldable pub numberWellFormed : ℕ → ℕ → Bool
 numberWellFormed kind number =
-    cond (isTrainKind kind) (isTrain number)
+    cond (isTrainKind kind || eqb kind cautionKind) (isTrain number)
     (cond (eqb kind releaseKind) (leb number largestTrain) (eqb number 0))
 
 -- "byte 0 kind, 1 to 13; byte 1 track, 0 or 1; byte 2 post, below n"
@@ -81,7 +81,7 @@ wellFormed n s = eqb (length s) stepLength && fieldsWellFormed n (byte s 1) (fie
 -- ## The step that the fields give
 
 unfoldable pub faultOf : ℕ → Fault
-faultOf fault = cond (eqb fault 1) One (cond (eqb fault 2) Two Three)
+faultOf fault = cond (eqb fault 1) One (cond (eqb fault 2) Two (cond (eqb fault 3) Three Four))
 
 unfoldable pub stepOf : Fields → Step
 stepOf f =
@@ -97,7 +97,8 @@ stepOf f =
     (cond (eqb (f .kind) faultOnKind) (FaultOn (f .post) (faultOf (f .fault)))
     (cond (eqb (f .kind) faultOffKind) (FaultOff (f .post) (faultOf (f .fault)))
     (cond (eqb (f .kind) releaseKind) (Release (f .post) (f .number))
-    (Key (f .post)))))))))))))
+    (cond (eqb (f .kind) keyKind) (Key (f .post))
+    (Caution (f .post) (f .number))))))))))))))
 
 -- the step that eight bytes say, right or not
 unfoldable pub stepSaid : List ℕ → TrackStep
@@ -113,6 +114,7 @@ unfoldable pub faultNumber : Fault → ℕ
 faultNumber One = 1
 faultNumber Two = 2
 faultNumber Three = 3
+faultNumber Four = 4
 
 abbrev pub fieldsOf : Step → Fields
 fieldsOf (Order p) = fields orderKind p 0 0
@@ -128,6 +130,7 @@ fieldsOf (FaultOn p f) = fields faultOnKind p (faultNumber f) 0
 fieldsOf (FaultOff p f) = fields faultOffKind p (faultNumber f) 0
 fieldsOf (Release p z) = fields releaseKind p 0 z
 fieldsOf (Key p) = fields keyKind p 0 0
+fieldsOf (Caution p z) = fields cautionKind p 0 z
 
 unfoldable pub kindOf : Step → ℕ
 kindOf x = fieldsOf x .kind

@@ -26,4 +26,6 @@ pub const RELEASE: u8 = 12;
 
 pub const KEY: u8 = 13;
 
-pub const LAST: u8 = KEY;
+pub const CAUTION: u8 = 14;
+
+pub const LAST: u8 = CAUTION;

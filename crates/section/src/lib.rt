@@ -27,25 +27,40 @@ pub const MOST_SEALS: u16 = 999;
 
 pub const STEP_LENGTH: usize = 8;
 
-// The faults of a post: 1 to 3.
-pub const LAST_FAULT: u8 = 3;
+// The faults of a post: 1 to 4.
+pub const LAST_FAULT: u8 = 4;
 
-// What a line is: n posts, the form (0 telephone, 1 materialised), the mask of signalled posts, the line number.
+// The level crossings that settings can list.
+pub const MOST_CROSSINGS: usize = 8;
+
+// A byte of the crossings that is unused.
+pub const UNUSED: u8 = 255;
+
+// What a byte of the crossings has more where there are no counter-direction announcing zones.
+pub const NO_ZONES: u8 = 128;
+
+// The level crossings of a line, for both tracks: the block section of each, with NO_ZONES or without, or UNUSED.
+pub type Crossings = [u8; MOST_CROSSINGS];
+
+// What a line is: n posts, the form (0 telephone, 1 materialised), the mask of signalled posts, the line number, the level crossings.
 pub struct Settings {
     pub posts: u8,
     pub form: u8,
     pub mask: u16,
     pub line: u16,
+    pub crossings: Crossings,
 }
 
-// One: the section control reads occupied. Two: the device stays locked. Three: the CIRCULATION lamp is dark.
+// One: the section control reads occupied. Two: the device stays locked. Three: the CIRCULATION lamp is dark. Four: the announcing zones of
+// the crossings ahead did not adapt.
 pub enum Fault {
     One,
     Two,
     Three,
+    Four,
 }
 
-// A step: one of thirteen kinds, each with only the fields it needs.
+// A step: one of fourteen kinds, each with only the fields it needs. Caution: a caution form (E.S. 379) for a train is handed out.
 pub enum Step {
     Order { post: u8 },
     Set { post: u8 },
@@ -60,6 +75,7 @@ pub enum Step {
     FaultOff { post: u8, fault: Fault },
     Release { post: u8, number: u16 },
     Key { post: u8 },
+    Caution { post: u8, number: u16 },
 }
 
 // A step with its track: true for B, false for A.
@@ -79,9 +95,10 @@ pub struct Faults {
     pub one: bool,
     pub two: bool,
     pub three: bool,
+    pub four: bool,
 }
 
-// What a post keeps on one track. `device`: its device stands at CVT.
+// What a post keeps on one track. `device`: its device stands at CVT. `caution`: the train for which a caution form lies there, 0 for none.
 pub struct Post {
     pub device: bool,
     pub permission: bool,
@@ -89,6 +106,7 @@ pub struct Post {
     pub faults: Faults,
     pub mark: bool,
     pub seals: u16,
+    pub caution: u16,
 }
 
 // What the turn's post is to do next.

@@ -2,7 +2,7 @@
 ghost use mathlib.Core.Path.{_≡_};
 ghost use Prim.Native.Nat.{_<_};
 ghost use Rattle.section.specs.Numbers.{mostSeals};
-ghost use Rattle.section.specs.Post.{blank, turned, permitted, measured, withFault, faulty, marked, sealed, hasFault};
+ghost use Rattle.section.specs.Post.{blank, turned, permitted, measured, withFault, faulty, marked, sealed, cautioned, hasFault};
 use crate::Fault;
 use crate::Faults;
 use crate::Post;
@@ -22,6 +22,9 @@ impl Faults {
             Fault::Three => {
                 self.three = x;
             }
+            Fault::Four => {
+                self.four = x;
+            }
         }
         self
     }
@@ -34,6 +37,7 @@ pub fn blank() -> Post
         one: false,
         two: false,
         three: false,
+        four: false,
     };
     Post {
         device: false,
@@ -42,6 +46,7 @@ pub fn blank() -> Post
         faults: faults,
         mark: false,
         seals: 0,
+        caution: 0,
     }
 }
 
@@ -93,6 +98,14 @@ impl Post {
         self
     }
 
+    // The caution form for that train, instead of any other; 0: none.
+    pub fn cautioned(mut self, number: u16) -> Post
+        ensures { λ r. ⌜ r ≡ cautioned number self ⌝ }
+    {
+        self.caution = number;
+        self
+    }
+
     pub fn has_fault(self, f: Fault) -> bool
         ensures { λ r. ⌜ r ≡ hasFault f self ⌝ }
     {
@@ -100,6 +113,7 @@ impl Post {
             Fault::One => self.faults.one,
             Fault::Two => self.faults.two,
             Fault::Three => self.faults.three,
+            Fault::Four => self.faults.four,
         }
     }
 }
