@@ -1,4 +1,4 @@
--- What a step looks at (document 01, "The section", "Steps, checks in order"): the site, where it is taken, and the occupancy, the trains
+-- What a step looks at (document 01, "The section", "Steps, checks in order"; document 02, request 1): the site, where it is taken, and the occupancy, the trains
 -- that it asks for and the other track. An effect takes the site alone.
 use Prim.Native.Nat.{ℕ, zero, suc, _-_}
 use mathlib.Core.Bool.{Bool, true, false, cond, not, _&&_, _||_}
@@ -14,6 +14,8 @@ use Rattle.section.specs.declared.Track.{Track}
 use Rattle.section.specs.declared.Section.{Section}
 use Rattle.rules.specs.declared.Site.{Site}
 use Rattle.section.specs.Geometry.{upward, rank, block, isFirst, isLast}
+use Rattle.section.specs.Crossings.{liesIn, lacksZones}
+use Rattle.section.specs.Numbers.{mostCrossings}
 use Rattle.section.specs.Settings.{isSignalled}
 use Rattle.section.specs.Store.{trackOf, postOn}
 
@@ -122,6 +124,14 @@ module _ (c : Settings) where
   -- the train in the block section that follows the post of rank j
   abbrev pub trainAt : Bool → Bool → List ℕ → ℕ → ℕ
   trainAt track cvt trains j = getD trains (block (c .posts) (upward track cvt) j) 0
+
+  -- a crossing lies in the block section ahead; the receiving end has none ahead
+  unfoldable pub crossingAhead : Site → Bool
+  crossingAhead e = not (atReceivingEnd e) && anyOf (liesIn (blockAhead e)) mostCrossings (c .crossings)
+
+  -- one "without zones" does
+  unfoldable pub zonesLackAhead : Site → Bool
+  zonesLackAhead e = not (atReceivingEnd e) && anyOf (λ (b : ℕ). liesIn (blockAhead e) b && lacksZones b) mostCrossings (c .crossings)
 
   -- a train in the part that the post watches: the block section ahead ("the last post has none")
   unfoldable pub watchedOccupied : Site → List ℕ → Bool

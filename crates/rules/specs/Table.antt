@@ -1,4 +1,4 @@
--- The table of steps (document 01, "Steps, checks in order"): for each kind its checks in the paper's order, and its effect.
+-- The table of steps (document 01, "Steps, checks in order"; document 02, request 1): for each kind its checks in the paper's order, and its effect.
 use Prim.Native.Nat.{ℕ}
 use mathlib.Core.Bool.{Bool, true, false, cond, not, _&&_, _||_}
 use mathlib.Core.List.{List, [], _∷_}
@@ -7,22 +7,23 @@ use lib.Dec.{eqb}
 use Rattle.section.specs.declared.Settings.{Settings}
 use Rattle.section.specs.declared.Post.{Post}
 use Rattle.section.specs.declared.Fault.{Fault}
-use Rattle.section.specs.declared.Fault.the-variants.{One, Two, Three}
+use Rattle.section.specs.declared.Fault.the-variants.{One, Two, Three, Four}
 use Rattle.section.specs.declared.Act.the-variants as act
 use Rattle.section.specs.declared.Walk.the-variants.{Settled, Turn}
 use Rattle.section.specs.declared.Track.{Track}
 use Rattle.section.specs.declared.Step.{Step}
 use Rattle.section.specs.declared.Step.the-variants.{Order, Set, Announce, Acknowledge, Start, Pass, Leave, MeasuresOn, MeasuresOff, FaultOn}
-use Rattle.section.specs.declared.Step.the-variants.{FaultOff, Release, Key}
+use Rattle.section.specs.declared.Step.the-variants.{FaultOff, Release, Key, Caution}
 use Rattle.section.specs.declared.Said.the-variants.{Nothing, Cvt, Cvtz, Vns, Vnsz}
 use Rattle.section.specs.Numbers.{mostSeals}
-use Rattle.section.specs.Post.{turned, permitted, measured, faulty, marked, sealed, hasFault}
+use Rattle.section.specs.Post.{turned, permitted, measured, faulty, marked, sealed, cautioned, hasFault}
 use Rattle.section.specs.Settings.{isMaterialised}
 use Rattle.rules.specs.declared.Site.{Site}
 use Rattle.rules.specs.declared.Movement.{Movement}
 use Rattle.rules.specs.declared.Movement.the-variants.{Stays, Enters, Moves, Leaves}
 use Rattle.rules.specs.declared.Effect.{Effect}
 use Rattle.rules.specs.Site.{isSettled, isTurn, Occupancy, rankAt, atSendingEnd, atReceivingEnd, blockAhead, blockBefore, nextPost, stretchEnds}
+use Rattle.rules.specs.Site.{crossingAhead, zonesLackAhead}
 
 -- a check: what must hold, and the refusal where it does not
 pub record Check : Type 0 where
@@ -42,6 +43,11 @@ abbrev pub withoutFault : Fault → Post → Post
 withoutFault One o = marked false (faulty One false o)
 withoutFault Two o = faulty Two false o
 withoutFault Three o = faulty Three false o
+withoutFault Four o = faulty Four false o
+
+-- a caution form is "used up by that train's entry, needed or not"
+abbrev pub usedUp : ℕ → Post → Post
+usedUp number o = cautioned (cond (eqb (o .caution) number) 0 (o .caution)) o
 
 -- ## What the refusals ask: first those that need no settings
 
@@ -70,6 +76,13 @@ module _ (c : Settings) where
   abbrev pub fault1Confirmed : Site → Bool
   fault1Confirmed e = atReceivingEnd c e || (not (e .own .faults .one) || e .own .mark)
 
+  -- 22: "Start or pass into a block section with a crossing, under fault 4 or in CVT without zones, needs an E.S. 379 form for that train"
+  abbrev pub cautionNeeded : Site → Bool
+  cautionNeeded e = crossingAhead c e && (e .own .faults .four || (e .cvt && zonesLackAhead c e))
+
+  abbrev pub cautionHeld : ℕ → Site → Bool
+  cautionHeld number e = not (cautionNeeded e) || eqb (e .own .caution) number
+
   -- ## Checks
 
   unfoldable pub checks : Step → Site → Occupancy → List Check
@@ -82,9 +95,10 @@ module _ (c : Settings) where
   checks (Acknowledge p) e g = (isTurn (e .walk) (e .post) act.Acknowledge else 15) ∷ []
   checks (Start p number) e g =
       (isSettled (e .walk) else 11) ∷ (atSendingEnd c e else 12) ∷ (not (g .numberOnTrack) else 17) ∷ (not (g .stretchOccupied) else 13)
-      ∷ (fault1Confirmed e else 18) ∷ []
+      ∷ (fault1Confirmed e else 18) ∷ (cautionHeld number e else 22) ∷ []
   checks (Pass p number) e g =
-      (not (atSendingEnd c e || atReceivingEnd c e) else 12) ∷ (eqb (g .trainBefore) number else 17) ∷ (not (passOccupied e g) else 13) ∷ []
+      (not (atSendingEnd c e || atReceivingEnd c e) else 12) ∷ (eqb (g .trainBefore) number else 17) ∷ (not (passOccupied e g) else 13)
+      ∷ (cautionHeld number e else 22) ∷ []
   checks (Leave p number) e g = (atReceivingEnd c e else 12) ∷ (eqb (g .trainBefore) number else 17) ∷ []
   checks (MeasuresOn p) e g = (not (e .own .measures) else 21) ∷ []
   checks (MeasuresOff p) e g = (e .own .measures else 21) ∷ (not (e .own .device) else 16) ∷ []
@@ -96,13 +110,15 @@ module _ (c : Settings) where
   checks (Key p) e g =
       (isTurn (e .walk) (e .post) act.Set else 15) ∷ (e .own .faults .two else 21) ∷ (not (g .watched) else 13) ∷ (fault1Confirmed e else 18)
       ∷ (measuresSuffice e else 16) ∷ (not (eqb (e .own .seals) mostSeals) else 20) ∷ []
+  -- "given 12 where no crossing lies in the block section ahead"
+  checks (Caution p number) e g = (crossingAhead c e else 12) ∷ []
 
   -- ## Effects
 
-  -- "device turned, release mark gone"; "the running direction changes, and the last post gets permission, at that last set"
+  -- "device turned, release mark gone"; "set or key removes" the caution form; "the running direction changes, and the last post gets permission, at that last set"
   abbrev pub setting : Site → Post → Effect
   setting e own = record {
-    own = permitted (atReceivingEnd c e || own .permission) (marked false (turned (not (e .cvt)) own));
+    own = permitted (atReceivingEnd c e || own .permission) (cautioned 0 (marked false (turned (not (e .cvt)) own)));
     walk = cond (atReceivingEnd c e) Settled (Turn (e .post) act.Announce);
     cvt = cond (atReceivingEnd c e) (not (e .cvt)) (e .cvt);
     train = Stays;
@@ -118,8 +134,8 @@ module _ (c : Settings) where
   effect (Acknowledge p) e =
       record { own = e .own; walk = Turn (e .post) act.Set; cvt = e .cvt; train = Stays; said = cond (e .cvt) Vnsz Cvtz }
   effect (Start p number) e =
-      record { own = marked false (e .own); walk = e .walk; cvt = e .cvt; train = Enters number; said = Nothing }
-  effect (Pass p number) e = record { own = e .own; walk = e .walk; cvt = e .cvt; train = Moves number; said = Nothing }
+      record { own = usedUp number (marked false (e .own)); walk = e .walk; cvt = e .cvt; train = Enters number; said = Nothing }
+  effect (Pass p number) e = record { own = usedUp number (e .own); walk = e .walk; cvt = e .cvt; train = Moves number; said = Nothing }
   effect (Leave p number) e = record { own = e .own; walk = e .walk; cvt = e .cvt; train = Leaves; said = Nothing }
   effect (MeasuresOn p) e = keeping e (measured true (e .own))
   effect (MeasuresOff p) e = keeping e (measured false (e .own))
@@ -127,6 +143,8 @@ module _ (c : Settings) where
   effect (FaultOff p f) e = keeping e (withoutFault f (e .own))
   effect (Release p number) e = keeping e (marked true (e .own))
   effect (Key p) e = setting e (sealed (e .own))
+  -- "handed out at that post"; "A newer form replaces the older"
+  effect (Caution p number) e = keeping e (cautioned number (e .own))
 
   -- the block section before the post, left by its train: emptied where cells are cleared
   abbrev pub vacated : Bool → Site → List ℕ → List ℕ
