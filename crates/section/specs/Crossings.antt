@@ -4,7 +4,7 @@ use Prim.Native.Nat.{ℕ, zero, suc, _+_, _*_, _-_, _/_, _%_}
 use mathlib.Core.Bool.{Bool, true, not, _&&_, _||_}
 use mathlib.Core.List.{List}
 use lib.ListN.{replicate}
-use lib.Dec.{eqb, leb}
+use lib.Dec.{eqb, ltb, leb}
 use Rattle.section.specs.Bytes.{byte}
 use Rattle.section.specs.Numbers.{mostCrossings, unused, noZones}
 
@@ -31,9 +31,9 @@ hasCrossings l = isUsed (byte l 0)
 
 -- ## Their range
 
--- a block section that a line of n posts has
+-- a byte that names a block section of a line of n posts, or is unused
 abbrev pub crossingInRange : ℕ → ℕ → Bool
-crossingInRange n b = not (isUsed b) || leb (crossingBlock b) (n - 2)
+crossingInRange n b = not (isUsed b) || (ltb b 256 && leb (crossingBlock b) (n - 2))
 
 -- "The section numbers never fall, and within one section bytes without the 128 stand first"; an unused byte stands after all others
 abbrev pub crossingOrder : ℕ → ℕ
