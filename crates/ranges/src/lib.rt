@@ -44,15 +44,16 @@ fn post_and_block_in_range(own: Post, train: u16, last: u16) -> bool
     last <= LARGEST_TRAIN
 }
 
-// Every post and block section of a track, in one loop from the last post down.
+// The end post n−1, and every other post with the block section beside it, in one loop from the last down.
 fn cells_in_range(n: u8, t: Track) -> bool
     requires { ⌜ (leastPosts ≤ n) × (n ≤ mostPosts) ⌝ }
     ensures { λ r. ⌜ r ≡ (postsInRange n (t .posts) && (numbersInRange (n - 1) (t .trains) && numbersInRange (n - 1) (t .last))) ⌝ }
 {
-    let mut i = (n - 1) as usize;
-    if !post_in_range(t.posts[i]) {
+    let end = (n - 1) as usize;
+    if !post_in_range(t.posts[end]) {
         return false;
     }
+    let mut i = (n - 1) as usize;
     while i > 0 {
         i -= 1;
         if !post_and_block_in_range(t.posts[i], t.trains[i], t.last[i]) {

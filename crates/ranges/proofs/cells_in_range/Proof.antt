@@ -10,17 +10,17 @@ use Rattle.ranges.proofs.cells_in_range.Statement.{statement}
 use Rattle.ranges.proofs.cells_in_range.Tie as tie
 
 abbrev Inv-loop : tie.InvT-loop
-Inv-loop n t i₀ i =
+Inv-loop n t end i₀ i =
     (i < n) × ((postsInRange n (t .posts) && (numbersInRange (n - 1) (t .trains) && numbersInRange (n - 1) (t .last))) ≡ cells t i)
 
 abbrev μ-loop : tie.MeasureT-loop
-μ-loop n t i₀ i = i
+μ-loop n t end i₀ i = i
 
-sub-i : tie.Need-sub-i Inv-loop μ-loop
-sub-i c = omega arith
+sub-end : tie.Need-sub-end Inv-loop μ-loop
+sub-end c = omega arith
 
-cast-i : tie.Need-cast-i Inv-loop μ-loop
-cast-i c = omega arith
+cast-end : tie.Need-cast-end Inv-loop μ-loop
+cast-end c = omega arith
 
 mul-post-in-range : tie.Need-mul-post-in-range Inv-loop μ-loop
 mul-post-in-range c = omega arith
@@ -36,6 +36,12 @@ returns c =
     let a = c .before .before .before .args in
     let failed = told-false (c .before .post-in-range .ensures) (c .if1 .taken) in
     rw (posts-stop (a .t2 .posts) (a .n) (a .n - 1) (omega arith) failed)
+
+sub-i : tie.Need-sub-i Inv-loop μ-loop
+sub-i c = omega arith
+
+cast-i : tie.Need-cast-i Inv-loop μ-loop
+cast-i c = omega arith
 
 loop-holds : tie.Need-loop-holds Inv-loop μ-loop
 loop-holds c =
@@ -97,12 +103,14 @@ cells-in-range-spec =
     (tie.spec
     Inv-loop
     μ-loop
-    sub-i
-    cast-i
+    sub-end
+    cast-end
     mul-post-in-range
     element-copy-out-post-in-range
     post-in-range-requires
     returns
+    sub-i
+    cast-i
     loop-holds
     sub-i-2
     mul-post-and-block-in-range
