@@ -1,4 +1,4 @@
-// Whether eight bytes say a step: every test of document 01's steps, and of request 1's.
+// Whether eight bytes say a step: every test of the steps in documents 01 and 02.
 ghost use mathlib.Core.Bool.{_||_};
 ghost use mathlib.Core.Path.{_≡_};
 ghost use lib.Dec.{eqb};
