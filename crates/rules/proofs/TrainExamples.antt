@@ -178,6 +178,16 @@ pub start-refused-22-without-zones :
 unfolding judged
 start-refused-22-without-zones = refl
 
+-- A in CVT with the devices at VNS, a crossing without zones in block section 1: no day reaches it
+unfoldable pub withoutZones : Section
+unfolding fresh
+withoutZones = changedTrack A (running CVT Settled) (fresh (withCrossings (129 ∷ []) (telephone 3 7)))
+
+-- the running direction asks for the form, not the device
+pub caution-form-looks-at-no-device : Holds ((judgedFrom withoutZones (on A (Start 2 7 ∷ [])) gives refused 22) ∷ [])
+unfolding withoutZones judged
+caution-form-looks-at-no-device = refl
+
 -- "checks in order"
 pub start-checks-in-order :
     Holds
