@@ -319,7 +319,7 @@ pass-checks-in-order = refl
 
 -- ## A caution form is "used up by that train's entry, needed or not"
 
-pub caution-form-used-up :
+pub caution-form-serves-once :
     Holds
     ((judged (withCrossings (0 ∷ []) (telephone 2 3)) (on A (FaultOn 0 Four ∷ Caution 0 7 ∷ Start 0 7 ∷ Leave 1 7 ∷ Start 0 7 ∷ [])) gives refused 22)
     ∷ (judged (withCrossings (0 ∷ []) (telephone 2 3)) (on A (Caution 0 7 ∷ Start 0 7 ∷ Leave 1 7 ∷ FaultOn 0 Four ∷ Start 0 7 ∷ [])) gives refused 22)
@@ -330,7 +330,7 @@ pub caution-form-used-up :
     ∷ (judged (withCrossings (0 ∷ []) (telephone 2 3)) (on A (FaultOn 0 Four ∷ Caution 0 7 ∷ Caution 0 8 ∷ Start 0 8 ∷ [])) gives accepted)
     ∷ [])
 unfolding judged
-caution-form-used-up = refl
+caution-form-serves-once = refl
 
 -- a pass looks at no walk and no device, and of the faults at fault 4 alone: a train runs on in a reversal behind it
 pub pass-in-a-reversal :
