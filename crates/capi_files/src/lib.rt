@@ -24,7 +24,7 @@ pub extern "C" fn bsr_read(file: &[u8]) -> u32
     packed_reading(reading)
 }
 
-// The settings of a day file in its own bytes, with the crossings where it lists some, at the front of the buffer; eight zeros for a file that is refused.
+// The settings of a day file in its own bytes, at the front of the buffer: eight or, with crossings, sixteen. A file that is refused gives eight zeros.
 #[no_mangle]
 pub extern "C" fn bsr_settings(file: &[u8], buffer: &mut [u8]) -> u64
     ensures { λ r. ⌜ r ≡ packedCopied (copied (settingsPart (readOf (now (file .entry)) .settings)) (now (buffer .entry))) ⌝ }
