@@ -2,7 +2,7 @@
 use mathlib.Core.Path.{_≡_, refl, sym, ap}
 use mathlib.Core.Bool.{Bool, true, false, cond}
 use mathlib.Core.List.{List, [], _∷_, _++_}
-use Prim.Native.Nat.{ℕ, zero, suc, _+_, _%_, _≤_, _<_}
+use Prim.Native.Nat.{ℕ, zero, suc, _+_, _-_, _%_, _≤_, _<_}
 use native.Mathlib.Nat.{not-suc-le-zero}
 use native.Mathlib.Omega.{arith}
 use lib.ListN.{length, getD, length-append, length-drop}
@@ -14,7 +14,7 @@ use Rattle.section.specs.Numbers.{stepLength, mostCrossings}
 use Rattle.section.specs.Crossings.{hasCrossings}
 use Rattle.layout.specs.Layout.{settingsLength, tailLength, trailerLength, longestSettings, shortestFile, settingsDistance, stepsDistance, bsr1, bsr2}
 use Rattle.layout.specs.Layout.{markOf, le16Bytes, le32Bytes, crossingBytes, settingsBytes, tailOf, settingsPart, trailer, fromEnd, trailerIn}
-use Rattle.layout.specs.Layout.{hasMark, tailIn}
+use Rattle.layout.specs.Layout.{hasMark, tailIn, stepsIn}
 use Rattle.layout.proofs.Numbers.{listed}
 
 -- ## The tail
@@ -67,6 +67,10 @@ trailer-long tail count = rw (length-append, mark-long)
 pub trailer-length : (file : List ℕ) → shortestFile ≤ length file → length (trailerIn file) ≡ trailerLength
 unfolding trailerIn fromEnd
 trailer-length file h = simp length-drop (omega arith)
+
+pub steps-length : (file : List ℕ) → length (stepsIn file) ≡ length file - settingsDistance (tailIn file)
+unfolding stepsIn
+steps-length file = length-take-le (length file - settingsDistance (tailIn file)) file (omega arith)
 
 -- ## The bytes, one by one
 
