@@ -2,12 +2,13 @@
 // It is not stable: names and packed numbers may change with any delivery.
 ghost use mathlib.Core.Path.{_≡_};
 ghost use lib.ListN.{length};
-ghost use Rattle.layout.specs.Layout.{settingsBytes, stepsPart};
+ghost use Rattle.layout.specs.Layout.{settingsPart, stepsPart};
 ghost use Rattle.dayfile.specs.Answers.{readOf};
 ghost use Rattle.text.specs.Copied.{copied, copiedOut};
 ghost use Rattle.packed.specs.Packed.{packedReading, packedWritten, packedCopied};
 ghost use Rattle.capi_files.specs.DayFiles.{writeAnswer, writeBuffer};
 use dayfile::Written;
+use layout::SETTINGS_LENGTH;
 use packed::lent_settings_well_formed;
 use packed::packed_copied;
 use packed::packed_reading;
@@ -23,15 +24,17 @@ pub extern "C" fn bsr_read(file: &[u8]) -> u32
     packed_reading(reading)
 }
 
-// The settings of a day file in its own bytes, at the front of the buffer; zeros for a file that is refused.
+// The settings of a day file in its own bytes, at the front of the buffer: eight or, with crossings, sixteen. A file that is refused gives eight zeros.
 #[no_mangle]
 pub extern "C" fn bsr_settings(file: &[u8], buffer: &mut [u8]) -> u64
-    ensures { λ r. ⌜ r ≡ packedCopied (copied (settingsBytes (readOf (now (file .entry)) .settings)) (now (buffer .entry))) ⌝ }
-    ensures { λ _. ⌜ now (buffer .exit) ≡ copiedOut (settingsBytes (readOf (now (file .entry)) .settings)) (now (buffer .entry)) ⌝ }
+    ensures { λ r. ⌜ r ≡ packedCopied (copied (settingsPart (readOf (now (file .entry)) .settings)) (now (buffer .entry))) ⌝ }
+    ensures { λ _. ⌜ now (buffer .exit) ≡ copiedOut (settingsPart (readOf (now (file .entry)) .settings)) (now (buffer .entry)) ⌝ }
 {
     let answer = dayfile::read(file);
-    let settings = layout::settings_bytes(answer.settings);
-    packed_copied(text::copy_out(&settings, buffer))
+    let c = answer.settings;
+    let settings = layout::settings_bytes(c);
+    let end = SETTINGS_LENGTH + layout::tail_of(c);
+    packed_copied(text::copy_out(&settings[0..end], buffer))
 }
 
 // The length of the part that holds the first so many steps.

@@ -7,7 +7,7 @@ use native.Mathlib.Omega.{arith}
 use lib.Dec.{eqb, leb}
 use lib.ListN.{length, take, drop, getD, length-append}
 use lib.Seq.{take-all, getD-append-add}
-use borrow.Author.Tests.{eq-eqb}
+use borrow.Author.Tests.{eq-eqb, le-leb}
 use Rattle.section.specs.declared.Act.the-variants.{Set, Announce, Acknowledge}
 use Rattle.section.specs.declared.Post.{Post}
 use Rattle.section.specs.declared.Section.{Section}
@@ -15,10 +15,10 @@ use Rattle.section.specs.declared.Track.{Track}
 use Rattle.section.specs.declared.Walk.{Walk}
 use Rattle.section.specs.declared.Walk.the-variants.{Settled, Turn}
 use Rattle.section.specs.Bytes.{byte, le16, truthNumber}
-use Rattle.section.specs.Numbers.{mostPosts, mostBlocks}
+use Rattle.section.specs.Numbers.{mostPosts, mostBlocks, mostCrossings}
 use Rattle.section.specs.Post.{blank}
-use Rattle.layout.specs.Layout.{settingsLength, le16Bytes, settingsBytes, settingsOf}
-use Rattle.layout.proofs.Numbers.{le16-number}
+use Rattle.layout.specs.Layout.{longestSettings, le16Bytes, settingsBytes, settingsOf}
+use Rattle.layout.proofs.Numbers.{le16-number, listed}
 use Rattle.section.proofs.StepLaws.{truth-same}
 use Rattle.image.specs.Image.{numberLength, postLength, postsLength, numbersLength, headLength}
 use Rattle.image.specs.Image.{settingsPlace, trackA, trackB, imageLength, layoutNumber}
@@ -35,25 +35,39 @@ truth-well-formed : (x : Bool) → leb (truthNumber x) 1 ≡ true
 truth-well-formed true = refl
 truth-well-formed false = refl
 
-module _ (a b c : Bool) where
-  abbrev threeFlags : ℕ
-  threeFlags = truthNumber a + truthNumber b * 2 + truthNumber c * 4
+truth-small : (x : Bool) → truthNumber x ≤ 1
+truth-small true = omega arith
+truth-small false = omega arith
 
-record FaultsBack (a b c : Bool) : Type 0 where
-  first : eqb (threeFlags a b c % 2) 1 ≡ a
-  second : eqb (threeFlags a b c / 2 % 2) 1 ≡ b
-  third : eqb (threeFlags a b c / 4 % 2) 1 ≡ c
-  all-known : leb (threeFlags a b c) 7 ≡ true
+-- a binary digit is the flag that it was made from
+flag-back : (n : ℕ) (x : Bool) → n ≡ truthNumber x → eqb n 1 ≡ x
+flag-back n x e = ap (λ (k : ℕ). eqb k 1) e ∙ truth-same x
 
-faults-back : (a b c : Bool) → FaultsBack a b c
-faults-back true true true = record { first = refl; second = refl; third = refl; all-known = refl }
-faults-back true true false = record { first = refl; second = refl; third = refl; all-known = refl }
-faults-back true false true = record { first = refl; second = refl; third = refl; all-known = refl }
-faults-back true false false = record { first = refl; second = refl; third = refl; all-known = refl }
-faults-back false true true = record { first = refl; second = refl; third = refl; all-known = refl }
-faults-back false true false = record { first = refl; second = refl; third = refl; all-known = refl }
-faults-back false false true = record { first = refl; second = refl; third = refl; all-known = refl }
-faults-back false false false = record { first = refl; second = refl; third = refl; all-known = refl }
+module _ (a b c d : Bool) where
+  abbrev fourFlags : ℕ
+  fourFlags = truthNumber a + truthNumber b * 2 + truthNumber c * 4 + truthNumber d * 8
+
+record FaultsBack (a b c d : Bool) : Type 0 where
+  first : eqb (fourFlags a b c d % 2) 1 ≡ a
+  second : eqb (fourFlags a b c d / 2 % 2) 1 ≡ b
+  third : eqb (fourFlags a b c d / 4 % 2) 1 ≡ c
+  fourth : eqb (fourFlags a b c d / 8 % 2) 1 ≡ d
+  all-known : leb (fourFlags a b c d) 15 ≡ true
+
+faults-back : (a b c d : Bool) → FaultsBack a b c d
+faults-back a b c d =
+    let all = fourFlags a b c d in
+    let wa = truth-small a in
+    let wb = truth-small b in
+    let wc = truth-small c in
+    let wd = truth-small d in
+    record {
+      first = flag-back (all % 2) a (omega arith);
+      second = flag-back (all / 2 % 2) b (omega arith);
+      third = flag-back (all / 4 % 2) c (omega arith);
+      fourth = flag-back (all / 8 % 2) d (omega arith);
+      all-known = le-leb all 15 (omega arith);
+    }
 
 -- ## Past a first part
 
@@ -85,18 +99,20 @@ module _ (front : List ℕ) {at : ℕ} (here : length front ≡ at) (rest : List
           truth-well-formed (o .device),
           truth-well-formed (o .permission),
           truth-well-formed (o .measures),
-          faults-back (o .faults .one) (o .faults .two) (o .faults .three) .all-known,
+          faults-back (o .faults .one) (o .faults .two) (o .faults .three) (o .faults .four) .all-known,
           truth-well-formed (o .mark),
         )
 
-    post-back : Small (o .seals) → postAt (front ++ (postImage o ++ rest)) at ≡ o
+    post-back : Small (o .seals) → Small (o .caution) → postAt (front ++ (postImage o ++ rest)) at ≡ o
     unfolding postAt numberAt postImage faultsByte le16Bytes
-    post-back h =
+    post-back seals caution =
         let l = postImage o ++ rest in
-        let faults = faults-back (o .faults .one) (o .faults .two) (o .faults .three) in
+        let faults = faults-back (o .faults .one) (o .faults .two) (o .faults .three) (o .faults .four) in
         let seven : at + 6 + 1 ≡ at + 7 = omega arith in
+        let nine : at + 8 + 1 ≡ at + 9 = omega arith in
         rw (
           seven,
+          nine,
           past-none front l here,
           past front l here 1,
           past front l here 2,
@@ -104,14 +120,18 @@ module _ (front : List ℕ) {at : ℕ} (here : length front ≡ at) (rest : List
           past front l here 4,
           past front l here 6,
           past front l here 7,
+          past front l here 8,
+          past front l here 9,
           truth-same (o .device),
           truth-same (o .permission),
           truth-same (o .measures),
           faults .first,
           faults .second,
           faults .third,
+          faults .fourth,
           truth-same (o .mark),
-          le16-number (o .seals) h,
+          le16-number (o .seals) seals,
+          le16-number (o .caution) caution,
         )
 
 -- ## Numbers and posts, one after another
@@ -136,13 +156,14 @@ module _ (front : List ℕ) {at : ℕ} (here : length front ≡ at) where
 
   module _ (l : List Post) (m : ℕ) (rest : List ℕ) where
     posts-back :
-        ((p : ℕ) → Small (getD l p blank .seals)) → m ≤ length l → postsFrom (front ++ (postsImage m l ++ rest)) at m ≡ take m l
+        ((p : ℕ) → Small (getD l p blank .seals)) → ((p : ℕ) → Small (getD l p blank .caution)) → m ≤ length l →
+        postsFrom (front ++ (postsImage m l ++ rest)) at m ≡ take m l
     unfolding postsFrom postsImage
-    posts-back small h =
+    posts-back seals cautions h =
         let back =
         each (λ (p : ℕ). postImage (getD l p blank)) postLength (λ p. post-length (getD l p blank)) front at here
         (λ (p : ℕ) (k : List ℕ). postAt k (at + postLength * p) ≡ getD l p blank)
-        (λ p before behind e. post-back before e behind (getD l p blank) (small p)) m rest in
+        (λ p before behind e. post-back before e behind (getD l p blank) (seals p) (cautions p)) m rest in
         same-items _ _ m back ∙ first-items blank l m h
 
     posts-well-formed : postsWellFormed (front ++ (postsImage m l ++ rest)) at m ≡ true
@@ -215,7 +236,7 @@ module _ (front : List ℕ) {at : ℕ} (here : length front ≡ at) (rest : List
       let held-last = h .last-held in
       let p : postsFrom (front ++ all) (at + headLength) mostPosts ≡ t .posts =
       ap (λ (k : List ℕ). postsFrom k (at + headLength) mostPosts) (posts-apart front (trackHead t) posts trains last rest)
-      ∙ posts-back (front ++ trackHead t) at-posts (t .posts) mostPosts ((trains ++ last) ++ rest) (h .seals-small) (omega arith)
+      ∙ posts-back (front ++ trackHead t) at-posts (t .posts) mostPosts ((trains ++ last) ++ rest) (h .seals-small) (h .cautions-small) (omega arith)
       ∙ take-all mostPosts (t .posts) (omega arith) in
       let n : numbersFrom (front ++ all) (at + (headLength + postsLength)) mostBlocks ≡ t .trains =
       ap (λ (k : List ℕ). numbersFrom k (at + (headLength + postsLength)) mostBlocks) (trains-apart front (trackHead t) posts trains last rest)
@@ -255,9 +276,12 @@ module _ (front : List ℕ) {at : ℕ} (here : length front ≡ at) (rest : List
 -- ## A section
 
 module _ (s : Section) where
-  settings-back : Small (s .settings .mask) → Small (s .settings .line) → settingsOf (take settingsLength (drop settingsPlace (imageOf s))) ≡ s .settings
+  settings-back :
+      Small (s .settings .mask) → Small (s .settings .line) → length (s .settings .crossings) ≡ mostCrossings →
+      settingsOf (take longestSettings (drop settingsPlace (imageOf s))) ≡ s .settings
   unfolding settingsOf imageOf imageHead settingsBytes le16Bytes
-  settings-back m l = rw (le16-number (s .settings .mask) m, le16-number (s .settings .line) l)
+  settings-back m l k =
+      rw (le16-number (s .settings .mask) m, le16-number (s .settings .line) l, ← listed mostCrossings 0 (s .settings .crossings) k)
 
   b-apart : imageOf s ≡ (imageHead s ++ trackImage (s .a)) ++ (trackImage (s .b) ++ [])
   unfolding imageOf
@@ -296,7 +320,7 @@ module _ (s : Section) where
 
   section-back : SectionHeld s → sectionOf (imageOf s) ≡ s
   unfolding sectionOf
-  section-back h = rw (settings-back (h .mask-small) (h .line-small), a-back (h .a-held), b-back (h .b-held))
+  section-back h = rw (settings-back (h .mask-small) (h .line-small) (h .crossings-held), a-back (h .a-held), b-back (h .b-held))
 
 pub reads-back : ReadsBack
 reads-back s h = (image-well-formed s, section-back s h)

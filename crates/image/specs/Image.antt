@@ -1,5 +1,5 @@
--- The image of a section, 394 bytes, little-endian: the layout's number, the settings as in a day file, then track A and track B. The layout may
--- change with any delivery, and its number with it.
+-- The image of a section, 466 bytes, little-endian: the layout's number, the settings with their crossings, then track A and track B. The layout
+-- may change with any delivery, and its number with it.
 use Prim.Native.Nat.{ℕ, zero, suc, _+_, _*_, _/_, _%_}
 use mathlib.Core.Bool.{Bool, true, cond, _&&_}
 use mathlib.Core.List.{List, [], _∷_, _++_}
@@ -16,7 +16,7 @@ use Rattle.section.specs.Bytes.{byte, le16, truthNumber}
 use Rattle.section.specs.Numbers.{mostPosts, mostBlocks}
 use Rattle.section.specs.Post.{blank}
 use Rattle.text.specs.Text.{firstTexts}
-use Rattle.layout.specs.Layout.{settingsLength, le16Bytes, settingsBytes, settingsOf}
+use Rattle.layout.specs.Layout.{longestSettings, le16Bytes, settingsBytes, settingsOf}
 
 -- ## Lengths and places
 
@@ -24,7 +24,7 @@ abbrev pub numberLength : ℕ
 numberLength = 2
 
 abbrev pub postLength : ℕ
-postLength = 8
+postLength = 10
 
 abbrev pub postsLength : ℕ
 postsLength = postLength * mostPosts
@@ -36,7 +36,7 @@ numbersLength = numberLength * mostBlocks
 abbrev pub headLength : ℕ
 headLength = 4
 
--- 192
+-- 224
 abbrev pub trackLength : ℕ
 trackLength = headLength + (postsLength + (numbersLength + numbersLength))
 
@@ -45,17 +45,17 @@ abbrev pub settingsPlace : ℕ
 settingsPlace = numberLength
 
 abbrev pub trackA : ℕ
-trackA = settingsPlace + settingsLength
+trackA = settingsPlace + longestSettings
 
 abbrev pub trackB : ℕ
 trackB = trackA + trackLength
 
--- 394
+-- 466
 abbrev pub imageLength : ℕ
 imageLength = trackA + (trackLength + trackLength)
 
 abbrev pub layoutNumber : ℕ
-layoutNumber = 1
+layoutNumber = 2
 
 -- ## Items one after another
 
@@ -66,13 +66,16 @@ items item (suc m) = items item m ++ (item m ∷ [])
 
 -- ## What is written
 
--- fault 1 at bit 0, fault 2 at bit 1, fault 3 at bit 2
+-- fault 1 at bit 0, fault 2 at bit 1, fault 3 at bit 2, fault 4 at bit 3
 unfoldable pub faultsByte : Post → ℕ
-faultsByte o = truthNumber (o .faults .one) + truthNumber (o .faults .two) * 2 + truthNumber (o .faults .three) * 4
+faultsByte o =
+    truthNumber (o .faults .one) + truthNumber (o .faults .two) * 2 + truthNumber (o .faults .three) * 4 + truthNumber (o .faults .four) * 8
 
--- device (1 at CVT), permission, measures, faults, mark, zero, seals
+-- device (1 at CVT), permission, measures, faults, mark, zero, seals, the caution form's train (0 for none)
 unfoldable pub postImage : Post → List ℕ
-postImage o = truthNumber (o .device) ∷ truthNumber (o .permission) ∷ truthNumber (o .measures) ∷ faultsByte o ∷ truthNumber (o .mark) ∷ 0 ∷ le16Bytes (o .seals)
+postImage o =
+    truthNumber (o .device) ∷ truthNumber (o .permission) ∷ truthNumber (o .measures) ∷ faultsByte o ∷ truthNumber (o .mark) ∷ 0
+    ∷ (le16Bytes (o .seals) ++ le16Bytes (o .caution))
 
 -- the first m posts
 unfoldable pub postsImage : ℕ → List Post → List ℕ
@@ -115,9 +118,15 @@ postAt l at = record {
   device = eqb (byte l at) 1;
   permission = eqb (byte l (at + 1)) 1;
   measures = eqb (byte l (at + 2)) 1;
-  faults = record { one = eqb (byte l (at + 3) % 2) 1; two = eqb (byte l (at + 3) / 2 % 2) 1; three = eqb (byte l (at + 3) / 4 % 2) 1 };
+  faults = record {
+    one = eqb (byte l (at + 3) % 2) 1;
+    two = eqb (byte l (at + 3) / 2 % 2) 1;
+    three = eqb (byte l (at + 3) / 4 % 2) 1;
+    four = eqb (byte l (at + 3) / 8 % 2) 1;
+  };
   mark = eqb (byte l (at + 4)) 1;
   seals = numberAt l (at + 6);
+  caution = numberAt l (at + 8);
 }
 
 -- m posts, one after another
@@ -141,14 +150,14 @@ trackFrom l at = record {
 }
 
 unfoldable pub sectionOf : List ℕ → Section
-sectionOf l = record { settings = settingsOf (take settingsLength (drop settingsPlace l)); a = trackFrom l trackA; b = trackFrom l trackB }
+sectionOf l = record { settings = settingsOf (take longestSettings (drop settingsPlace l)); a = trackFrom l trackA; b = trackFrom l trackB }
 
 -- ## Whether every byte stands for a value
 
 unfoldable pub postWellFormed : List ℕ → ℕ → Bool
 postWellFormed l at =
     leb (byte l at) 1
-    && (leb (byte l (at + 1)) 1 && (leb (byte l (at + 2)) 1 && (leb (byte l (at + 3)) 7 && leb (byte l (at + 4)) 1)))
+    && (leb (byte l (at + 1)) 1 && (leb (byte l (at + 2)) 1 && (leb (byte l (at + 3)) 15 && leb (byte l (at + 4)) 1)))
 
 -- of m posts, one after another
 unfoldable pub postsWellFormed : List ℕ → ℕ → ℕ → Bool

@@ -5,7 +5,7 @@ use mathlib.Core.Path.{_≡_}
 use lib.ListN.{length, getD}
 use Rattle.section.specs.declared.Section.{Section}
 use Rattle.section.specs.declared.Track.{Track}
-use Rattle.section.specs.Numbers.{mostPosts, mostBlocks}
+use Rattle.section.specs.Numbers.{mostPosts, mostBlocks, mostCrossings}
 use Rattle.section.specs.Post.{blank}
 use Rattle.image.specs.Image.{imageWellFormed, imageOf, sectionOf}
 
@@ -19,12 +19,14 @@ pub record TrackHeld (t : Track) : Type 0 where
   pub trains-held : length (t .trains) ≡ mostBlocks
   pub last-held : length (t .last) ≡ mostBlocks
   pub seals-small : (p : ℕ) → Small (getD (t .posts) p blank .seals)
+  pub cautions-small : (p : ℕ) → Small (getD (t .posts) p blank .caution)
   pub trains-small : (i : ℕ) → Small (getD (t .trains) i 0)
   pub last-small : (i : ℕ) → Small (getD (t .last) i 0)
 
 pub record SectionHeld (s : Section) : Type 0 where
   pub mask-small : Small (s .settings .mask)
   pub line-small : Small (s .settings .line)
+  pub crossings-held : length (s .settings .crossings) ≡ mostCrossings
   pub a-held : TrackHeld (s .a)
   pub b-held : TrackHeld (s .b)
 

@@ -1,4 +1,4 @@
-// The image of a section, 394 bytes: its layout, and whether every byte of it stands for a value.
+// The image of a section, 466 bytes: its layout, and whether every byte of it stands for a value.
 // The layout may change with any delivery, and its number with it: an image of another layout is not well formed.
 
 pub mod reader;
@@ -8,14 +8,14 @@ ghost use Prim.Native.Nat.{_+_, _≤_};
 ghost use lib.ListN.{length};
 ghost use Rattle.section.specs.Numbers.{mostPosts};
 ghost use Rattle.image.specs.Image.{trackLength, postLength, postsLength, postWellFormed, postsWellFormed, trackWellFormed, imageWellFormed};
-use layout::SETTINGS_LENGTH;
+use layout::LONGEST_SETTINGS;
 use section::MOST_BLOCKS;
 use section::MOST_POSTS;
 
 // Every post that a track can keep, also past n.
 pub const POSTS_HELD: usize = MOST_POSTS as usize;
 
-pub const POST_LENGTH: usize = 8;
+pub const POST_LENGTH: usize = 10;
 
 pub const NUMBER_LENGTH: usize = 2;
 
@@ -29,12 +29,12 @@ pub const LAST_TRAINS: usize = TRAINS + NUMBER_LENGTH * MOST_BLOCKS;
 const TRACK_LENGTH: usize = LAST_TRAINS + NUMBER_LENGTH * MOST_BLOCKS;
 
 // The number of this layout, in an image's first two bytes.
-pub const LAYOUT_NUMBER: u16 = 1;
+pub const LAYOUT_NUMBER: u16 = 2;
 
 // Where the settings and each track stand in a section's image.
 pub const SETTINGS: usize = NUMBER_LENGTH;
 
-pub const TRACK_A: usize = SETTINGS + SETTINGS_LENGTH;
+pub const TRACK_A: usize = SETTINGS + LONGEST_SETTINGS;
 
 pub const TRACK_B: usize = TRACK_A + TRACK_LENGTH;
 
@@ -54,7 +54,7 @@ fn post_well_formed(bytes: &[u8], at: usize) -> bool
     if bytes[at + 2] > 1 {
         return false;
     }
-    if bytes[at + 3] > 7 {
+    if bytes[at + 3] > 15 {
         return false;
     }
     bytes[at + 4] <= 1

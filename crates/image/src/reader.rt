@@ -41,6 +41,7 @@ fn post_at(bytes: &[u8], at: usize) -> Post
         one: flags % 2 == 1,
         two: flags / 2 % 2 == 1,
         three: flags / 4 % 2 == 1,
+        four: flags / 8 % 2 == 1,
     };
     Post {
         device: bytes[at] == 1,
@@ -49,6 +50,7 @@ fn post_at(bytes: &[u8], at: usize) -> Post
         faults: faults,
         mark: bytes[at + 4] == 1,
         seals: number_at(bytes, at + 6),
+        caution: number_at(bytes, at + 8),
     }
 }
 

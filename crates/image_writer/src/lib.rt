@@ -7,6 +7,7 @@ ghost use Rattle.text.specs.Text.{written};
 ghost use Rattle.image.specs.Image.{imageLength, trackLength, postsLength, numbersLength, faultsByte, postImage, postsImage};
 ghost use Rattle.image.specs.Image.{numbersImage, actNumber, walkImage, trackHead, trackImage, imageOf};
 use image::LAYOUT_NUMBER;
+use image::POST_LENGTH;
 use image::POSTS_HELD;
 use section::Act;
 use section::MOST_BLOCKS;
@@ -21,13 +22,15 @@ use section::truth_number;
 fn faults_byte(o: Post) -> u8
     ensures { λ r. ⌜ r ≡ faultsByte o ⌝ }
 {
-    truth_number(o.faults.one) + truth_number(o.faults.two) * 2 + truth_number(o.faults.three) * 4
+    let low = truth_number(o.faults.one) + truth_number(o.faults.two) * 2;
+    low + truth_number(o.faults.three) * 4 + truth_number(o.faults.four) * 8
 }
 
-fn post_bytes(o: Post) -> [u8; 8]
+fn post_bytes(o: Post) -> [u8; POST_LENGTH]
     ensures { λ r. ⌜ r ≡ postImage o ⌝ }
 {
     let seals = layout::le16_bytes(o.seals);
+    let caution = layout::le16_bytes(o.caution);
     [
         truth_number(o.device),
         truth_number(o.permission),
@@ -37,6 +40,8 @@ fn post_bytes(o: Post) -> [u8; 8]
         0,
         seals[0],
         seals[1],
+        caution[0],
+        caution[1],
     ]
 }
 

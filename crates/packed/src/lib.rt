@@ -8,7 +8,7 @@ use dayfile::Written;
 use section::Indications;
 use text::Copied;
 
-// Whether lent bytes are settings: as many as a day file has for them, and such that its reader takes them.
+// Whether lent bytes are settings: as many as a day file has for them, eight or, with crossings, sixteen, and such that its reader takes them.
 pub fn lent_settings_well_formed(bytes: &[u8]) -> bool
     ensures { λ r. ⌜ r ≡ lentSettingsWellFormed (now (bytes .entry)) ⌝ }
 {

@@ -8,7 +8,8 @@ returns : tie.Need-returns
 unfolding postImage le16Bytes
 returns c =
     rw (
-      c .before .before .before .before .before .le16-bytes .ensures,
+      c .before .before .before .before .before .before .le16-bytes .ensures,
+      c .before .before .before .before .before .le16-bytes2 .ensures,
       c .before .before .before .before .truth-number .ensures .0,
       c .before .before .before .truth-number2 .ensures .0,
       c .before .before .truth-number3 .ensures .0,
@@ -26,6 +27,9 @@ post-bytes-spec =
     (λ c κs. search needs)
     (λ c κs. search needs)
     (λ c κs. search needs)
+    (λ c κs. search needs)
+    (λ c. search needs)
+    (λ c. search needs)
     (λ c. search needs)
     (λ c. search needs)
     returns)

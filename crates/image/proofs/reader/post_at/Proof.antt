@@ -5,7 +5,7 @@ use Rattle.image.proofs.reader.post_at.Tie as tie
 
 returns : tie.Need-returns
 unfolding postAt
-returns c = rw (c .number-at .ensures)
+returns c = rw (c .before .number-at .ensures, c .number-at2 .ensures)
 
 pub post-at-spec : {M : Type 1} → statement M
 post-at-spec =
@@ -20,6 +20,8 @@ post-at-spec =
     (λ c. search needs)
     (λ c. search needs)
     (λ c. search needs)
+    (λ c. search needs)
+    (λ c κs. search needs)
     (λ c. search needs)
     (λ c κs. search needs)
     returns)
