@@ -1,17 +1,19 @@
 // Whether settings and the fields of a state are in their ranges: refusal 6.
 
+mod crossings;
 pub mod settings;
 
 ghost use mathlib.Core.Path.{_≡_};
 ghost use mathlib.Core.Bool.{_&&_};
 ghost use Prim.Native.Nat.{_-_, _<_, _≤_};
 ghost use lib.Dec.{leb};
-ghost use Rattle.section.specs.Numbers.{largestTrain, mostSeals, leastPosts, mostPosts};
-ghost use Rattle.section.specs.Range.{sealsInRange, numbersInRange, actInRange, walkInRange, trackInRange, inRange};
+ghost use Rattle.section.specs.Numbers.{largestTrain, leastPosts, mostPosts};
+ghost use Rattle.section.specs.Range.{postInRange, postsInRange, numbersInRange, actInRange, walkInRange, trackInRange, inRange};
 use crate::settings::settings_in_range;
 use section::Act;
 use section::LARGEST_TRAIN;
 use section::MOST_SEALS;
+use section::Post;
 use section::Section;
 use section::Track;
 use section::Walk;
@@ -19,11 +21,21 @@ use section::positions::is_first;
 use section::positions::is_last;
 use section::positions::is_upward;
 
-// A post's seal count, and the train and the last train of the block section beside it.
-fn post_and_block_in_range(seals: u16, train: u16, last: u16) -> bool
-    ensures { λ r. ⌜ r ≡ (leb seals mostSeals && (leb train largestTrain && leb last largestTrain)) ⌝ }
+// A post's seal count, and the train of its caution form.
+fn post_in_range(own: Post) -> bool
+    ensures { λ r. ⌜ r ≡ postInRange own ⌝ }
 {
-    if seals > MOST_SEALS {
+    if own.seals > MOST_SEALS {
+        return false;
+    }
+    own.caution <= LARGEST_TRAIN
+}
+
+// A post's record, and the train and the last train of the block section beside it.
+fn post_and_block_in_range(own: Post, train: u16, last: u16) -> bool
+    ensures { λ r. ⌜ r ≡ (postInRange own && (leb train largestTrain && leb last largestTrain)) ⌝ }
+{
+    if !post_in_range(own) {
         return false;
     }
     if train > LARGEST_TRAIN {
@@ -32,18 +44,19 @@ fn post_and_block_in_range(seals: u16, train: u16, last: u16) -> bool
     last <= LARGEST_TRAIN
 }
 
-// Every post and block section of a track, in one loop from the last post down.
+// The end post n−1, and every other post with the block section beside it, in one loop from the last down.
 fn cells_in_range(n: u8, t: Track) -> bool
     requires { ⌜ (leastPosts ≤ n) × (n ≤ mostPosts) ⌝ }
-    ensures { λ r. ⌜ r ≡ (sealsInRange n (t .posts) && (numbersInRange (n - 1) (t .trains) && numbersInRange (n - 1) (t .last))) ⌝ }
+    ensures { λ r. ⌜ r ≡ (postsInRange n (t .posts) && (numbersInRange (n - 1) (t .trains) && numbersInRange (n - 1) (t .last))) ⌝ }
 {
-    let mut i = (n - 1) as usize;
-    if t.posts[i].seals > MOST_SEALS {
+    let end = (n - 1) as usize;
+    if !post_in_range(t.posts[end]) {
         return false;
     }
+    let mut i = (n - 1) as usize;
     while i > 0 {
         i -= 1;
-        if !post_and_block_in_range(t.posts[i].seals, t.trains[i], t.last[i]) {
+        if !post_and_block_in_range(t.posts[i], t.trains[i], t.last[i]) {
             return false;
         }
     }

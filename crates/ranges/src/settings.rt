@@ -3,6 +3,7 @@ ghost use mathlib.Core.Path.{_≡_};
 ghost use Prim.Native.Nat.{_≤_};
 ghost use Rattle.section.specs.Numbers.{mostPosts};
 ghost use Rattle.section.specs.Settings.{noneFrom, settingsInRange};
+use crate::crossings::crossings_in_range;
 use section::LARGEST_LINE;
 use section::LEAST_POSTS;
 use section::MOST_POSTS;
@@ -42,5 +43,9 @@ pub fn settings_in_range(c: Settings) -> bool
     if c.line < 1 {
         return false;
     }
-    c.line <= LARGEST_LINE
+    if c.line > LARGEST_LINE {
+        return false;
+    }
+    let crossings = c.crossings;
+    crossings_in_range(n, &crossings)
 }

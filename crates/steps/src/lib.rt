@@ -20,7 +20,8 @@ fn fault_of(fault: u8) -> Fault
     match fault {
         1 => Fault::One,
         2 => Fault::Two,
-        _ => Fault::Three,
+        3 => Fault::Three,
+        _ => Fault::Four,
     }
 }
 
@@ -58,7 +59,11 @@ fn step_of(kind: u8, post: u8, fault: u8, number: u16) -> Step
             post: post,
             number: number,
         },
-        _ => Step::Key { post: post },
+        kinds::KEY => Step::Key { post: post },
+        _ => Step::Caution {
+            post: post,
+            number: number,
+        },
     }
 }
 

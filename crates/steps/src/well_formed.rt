@@ -1,7 +1,10 @@
-// Whether eight bytes say a step: every test of document 01's steps.
+// Whether eight bytes say a step: every test of the steps in documents 01 and 02.
+ghost use mathlib.Core.Bool.{_||_};
 ghost use mathlib.Core.Path.{_≡_};
+ghost use lib.Dec.{eqb};
 ghost use Rattle.section.specs.Bytes.{within};
-ghost use Rattle.section.specs.Step.{isTrain, fields, faultWellFormed, numberWellFormed, placeWellFormed, fieldsWellFormed, wellFormed};
+ghost use Rattle.section.specs.Numbers.{cautionKind};
+ghost use Rattle.section.specs.Step.{isTrain, isTrainKind, fields, faultWellFormed, numberWellFormed, placeWellFormed, fieldsWellFormed, wellFormed};
 use section::LARGEST_TRAIN;
 use section::LAST_FAULT;
 use section::STEP_LENGTH;
@@ -34,10 +37,20 @@ fn fault_well_formed(kind: u8, fault: u8) -> bool
     fault == 0
 }
 
+// The number is a train's: a train's own step, or a caution form for one.
+fn is_for_a_train(kind: u8) -> bool
+    ensures { λ r. ⌜ r ≡ (isTrainKind kind || eqb kind cautionKind) ⌝ }
+{
+    if is_within(kinds::START, kinds::LEAVE, kind) {
+        return true;
+    }
+    kind == kinds::CAUTION
+}
+
 fn number_well_formed(kind: u8, number: u16) -> bool
     ensures { λ r. ⌜ r ≡ numberWellFormed kind number ⌝ }
 {
-    if is_within(kinds::START, kinds::LEAVE, kind) {
+    if is_for_a_train(kind) {
         return is_train(number);
     }
     if kind == kinds::RELEASE {

@@ -3,18 +3,39 @@ use Prim.Native.Nat.{_-_, _<_}
 use mathlib.Core.Bool.{_&&_}
 use mathlib.Core.Path.{_≡_, sym, _∙_}
 use native.Mathlib.Omega.{arith}
-use Rattle.section.specs.Range.{sealsInRange, numbersInRange}
-use Rattle.section.proofs.Laws.{seals-over, seals-go-on, cells, cells-stop, cells-go-on}
+use Rattle.section.specs.Range.{postsInRange, numbersInRange}
+use Rattle.section.proofs.Laws.{posts-stop, posts-go-on, cells, cells-stop, cells-go-on}
 use Rattle.section.proofs.Told.{told-false, told-true}
 use Rattle.ranges.proofs.cells_in_range.Statement.{statement}
 use Rattle.ranges.proofs.cells_in_range.Tie as tie
 
 abbrev Inv-loop : tie.InvT-loop
-Inv-loop n t i₀ i =
-    (i < n) × ((sealsInRange n (t .posts) && (numbersInRange (n - 1) (t .trains) && numbersInRange (n - 1) (t .last))) ≡ cells t i)
+Inv-loop n t end i₀ i =
+    (i < n) × ((postsInRange n (t .posts) && (numbersInRange (n - 1) (t .trains) && numbersInRange (n - 1) (t .last))) ≡ cells t i)
 
 abbrev μ-loop : tie.MeasureT-loop
-μ-loop n t i₀ i = i
+μ-loop n t end i₀ i = i
+
+sub-end : tie.Need-sub-end Inv-loop μ-loop
+sub-end c = omega arith
+
+cast-end : tie.Need-cast-end Inv-loop μ-loop
+cast-end c = omega arith
+
+mul-post-in-range : tie.Need-mul-post-in-range Inv-loop μ-loop
+mul-post-in-range c = omega arith
+
+element-copy-out-post-in-range : tie.Need-element-copy-out-post-in-range Inv-loop μ-loop
+element-copy-out-post-in-range c = omega arith
+
+post-in-range-requires : tie.Need-post-in-range-requires Inv-loop μ-loop
+post-in-range-requires c κs = tt
+
+returns : tie.Need-returns Inv-loop μ-loop
+returns c =
+    let a = c .before .before .before .args in
+    let failed = told-false (c .before .post-in-range .ensures) (c .if1 .taken) in
+    rw (posts-stop (a .t2 .posts) (a .n) (a .n - 1) (omega arith) failed)
 
 sub-i : tie.Need-sub-i Inv-loop μ-loop
 sub-i c = omega arith
@@ -22,21 +43,11 @@ sub-i c = omega arith
 cast-i : tie.Need-cast-i Inv-loop μ-loop
 cast-i c = omega arith
 
-mul-if1 : tie.Need-mul-if1 Inv-loop μ-loop
-mul-if1 c = omega arith
-
-element-copy-out-if1 : tie.Need-element-copy-out-if1 Inv-loop μ-loop
-element-copy-out-if1 c = omega arith
-
-returns : tie.Need-returns Inv-loop μ-loop
-returns c =
-    let a = c .before .args in
-    rw (seals-over (a .t2 .posts) (a .n) _ _ (omega arith) (omega arith) (c .if1 .taken))
-
 loop-holds : tie.Need-loop-holds Inv-loop μ-loop
 loop-holds c =
-    let a = c .before .args in
-    (omega arith, rw (seals-go-on (a .t2 .posts) (a .n) (omega arith) (omega arith)))
+    let a = c .before .before .before .args in
+    let passed = told-true (c .before .post-in-range .ensures) (c .if1 .left) in
+    (omega arith, rw (posts-go-on (a .t2 .posts) (a .n) (omega arith) passed))
 
 sub-i-2 : tie.Need-sub-i-2 Inv-loop μ-loop
 sub-i-2 c = omega arith
@@ -66,22 +77,22 @@ post-and-block-in-range-requires c κs = tt
 
 returns-2 : tie.Need-returns-2 Inv-loop μ-loop
 returns-2 c =
-    let b = c .before .before .before .before in
+    let b = c .before .before .before .before .before in
     let failed = told-false (c .before .post-and-block-in-range .ensures) (c .if2 .taken) in
-    sym (b .before .loop .inv .1 ∙ cells-stop (b .before .before .before .args .t2) (b .before .loop .i) (b .loop-test .taken) failed)
+    sym (b .before .loop .inv .1 ∙ cells-stop (b .before .before .before .before .before .args .t2) (b .before .loop .i) (b .loop-test .taken) failed)
 
 loop-less : tie.Need-loop-less Inv-loop μ-loop
 loop-less c = omega arith
 
 loop-again : tie.Need-loop-again Inv-loop μ-loop
 loop-again c =
-    let b = c .before .before .before .before in
+    let b = c .before .before .before .before .before in
     let passed = told-true (c .before .post-and-block-in-range .ensures) (c .if2 .left) in
-    let rest = cells-go-on (b .before .before .before .args .t2) (b .before .loop .i) (b .loop-test .taken) passed in
+    let rest = cells-go-on (b .before .before .before .before .before .args .t2) (b .before .loop .i) (b .loop-test .taken) passed in
     (omega arith, b .before .loop .inv .1 ∙ rest)
 
 returns-3 : tie.Need-returns-3 Inv-loop μ-loop
-unfolding sealsInRange numbersInRange
+unfolding postsInRange numbersInRange
 returns-3 c =
     let e : c .before .loop .i ≡ 0 = omega arith in
     sym (c .before .loop .inv .1 ∙ rw e)
@@ -92,11 +103,14 @@ cells-in-range-spec =
     (tie.spec
     Inv-loop
     μ-loop
+    sub-end
+    cast-end
+    mul-post-in-range
+    element-copy-out-post-in-range
+    post-in-range-requires
+    returns
     sub-i
     cast-i
-    mul-if1
-    element-copy-out-if1
-    returns
     loop-holds
     sub-i-2
     mul-post-and-block-in-range

@@ -1,21 +1,19 @@
-use native.Mathlib.Omega.{arith}
+use borrow.Author.Needs.{needs}
 use borrow.Author.Tests.{le-leb, lt-leb}
-use Rattle.section.specs.Numbers.{mostSeals, largestTrain}
+use Rattle.section.proofs.Told.{told-false, told-true}
 use Rattle.ranges.proofs.post_and_block_in_range.Statement.{statement}
 use Rattle.ranges.proofs.post_and_block_in_range.Tie as tie
 
 returns : tie.Need-returns
-returns c = rw (lt-leb (c .before .args .seals) mostSeals (omega arith))
+returns c = rw (told-false (c .before .post-in-range .ensures) (c .if1 .taken))
 
 returns-2 : tie.Need-returns-2
-returns-2 c =
-    let a = c .before .before .args in
-    rw (le-leb (a .seals) mostSeals (omega arith), lt-leb (a .train) largestTrain (omega arith))
+returns-2 c = let b = c .before in
+    rw (told-true (b .before .post-in-range .ensures) (b .if1 .left), lt-leb _ _ (c .if2 .taken))
 
 returns-3 : tie.Need-returns-3
-returns-3 c =
-    let a = c .before .before .args in
-    rw (le-leb (a .seals) mostSeals (omega arith), le-leb (a .train) largestTrain (omega arith))
+returns-3 c = let b = c .before in
+    rw (told-true (b .before .post-in-range .ensures) (b .if1 .left), le-leb _ _ (c .if2 .left))
 
 pub post-and-block-in-range-spec : {M : Type 1} → statement M
-post-and-block-in-range-spec = tie.close (tie.spec returns returns-2 returns-3)
+post-and-block-in-range-spec = tie.close (tie.spec (λ c κs. search needs) returns returns-2 returns-3)

@@ -88,7 +88,7 @@ returns-7 c = let six = c .before .before in
 
 returns-8 : tie.Need-returns-8
 unfolding settingsInRange within
-returns-8 c = let seven = c .before in
+returns-8 c = let seven = c .before .before in
     let six = seven .before .before in
     let five = six .before .before in
     let four = five .before .before in
@@ -103,7 +103,30 @@ returns-8 c = let seven = c .before in
       told-true (five .before .is-signalled2 .ensures) (five .if5 .left),
       told-true (six .before .none-from .ensures) (six .if6 .left),
       le-leb _ _ (seven .if7 .left),
+      lt-leb _ _ (c .if8 .taken),
     )
+
+returns-9 : tie.Need-returns-9
+unfolding settingsInRange within
+returns-9 c = let eight = c .before .before .before in
+    let seven = eight .before .before in
+    let six = seven .before .before in
+    let five = six .before .before in
+    let four = five .before .before in
+    let three = four .before .before in
+    let two = three .before .before in
+    let one = two .before in
+    rw (
+      le-leb _ _ (one .if1 .left),
+      le-leb _ _ (two .if2 .left),
+      le-leb _ _ (three .if3 .left),
+      told-true (four .before .is-signalled .ensures) (four .if4 .left),
+      told-true (five .before .is-signalled2 .ensures) (five .if5 .left),
+      told-true (six .before .none-from .ensures) (six .if6 .left),
+      le-leb _ _ (seven .if7 .left),
+      le-leb _ _ (eight .if8 .left),
+    )
+    (c .crossings-in-range .ensures)
 
 pub settings-in-range-spec : {M : Type 1} → statement M
 settings-in-range-spec =
@@ -120,4 +143,6 @@ settings-in-range-spec =
     (λ c κs. search needs)
     returns-6
     returns-7
-    returns-8)
+    returns-8
+    (λ c κs. search needs)
+    returns-9)
