@@ -21,9 +21,9 @@ use Rattle.section.specs.declared.TrackStep.{TrackStep}
 use Rattle.section.specs.declared.Verdict.{Verdict}
 use Rattle.section.specs.declared.Verdict.the-variants.{Accepted, Refused}
 use Rattle.section.proofs.Codec.{decoded-post-below}
-use Rattle.section.specs.Numbers.{mostSeals, largestTrain}
+use Rattle.section.specs.Numbers.{largestTrain}
 use Rattle.section.specs.Post.{blank}
-use Rattle.section.specs.Range.{sealsInRange, numbersInRange, trackInRange, inRange}
+use Rattle.section.specs.Range.{postInRange, postsInRange, numbersInRange, trackInRange, inRange}
 use Rattle.section.specs.Step.{decoded, postOf, numberOf}
 use Rattle.section.specs.Store.{trackOf, postOn, withTrack}
 use Rattle.section.proofs.Laws.{rank-lt, block-lt, and-right}
@@ -50,9 +50,9 @@ AlikeFirst m l k = (i : ℕ) → i < m → getD l i 0 ≡ getD k i 0
 abbrev AlikeBelow : ℕ → List ℕ → List ℕ → Type 0
 AlikeBelow n l k = (i : ℕ) → suc i < n → getD l i 0 ≡ getD k i 0
 
-seals-alike : (m : ℕ) (l k : List Post) → ((p : ℕ) → p < m → getD l p blank ≡ getD k p blank) → sealsInRange m l ≡ sealsInRange m k
-unfolding sealsInRange
-seals-alike = first-cells sealsInRange blank (λ o rest. leb (o .seals) mostSeals && rest) (λ l k. refl) (λ m l. refl)
+posts-alike : (m : ℕ) (l k : List Post) → ((p : ℕ) → p < m → getD l p blank ≡ getD k p blank) → postsInRange m l ≡ postsInRange m k
+unfolding postsInRange
+posts-alike = first-cells postsInRange blank (λ o rest. postInRange o && rest) (λ l k. refl) (λ m l. refl)
 
 numbers-alike : (m : ℕ) (l k : List ℕ) → AlikeFirst m l k → numbersInRange m l ≡ numbersInRange m k
 unfolding numbersInRange
@@ -141,7 +141,7 @@ track-alike : (n : ℕ) (b : Bool) (t u : Track) → SameBelow n t u → trackIn
 unfolding trackInRange
 track-alike n b t u a =
     rw (
-      seals-alike n (t .posts) (u .posts) (a .cells .posts),
+      posts-alike n (t .posts) (u .posts) (a .cells .posts),
       numbers-alike (n - 1) (t .trains) (u .trains) (λ i h. a .cells .trains i (omega arith)),
       numbers-alike (n - 1) (t .last) (u .last) (λ i h. a .cells .last i (omega arith)),
       a .cvt,

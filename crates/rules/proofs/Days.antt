@@ -16,17 +16,18 @@ use Rattle.section.specs.declared.TrackStep.{TrackStep}
 use Rattle.section.specs.declared.Verdict.{Verdict}
 use Rattle.section.specs.declared.Verdict.the-variants.{Accepted, Refused}
 use Rattle.section.specs.Bytes.{le16, within, truthNumber}
+use Rattle.section.specs.Crossings.{noCrossings, crossingsInRange}
 use Rattle.section.specs.Fresh.{freshTrack, freshSection}
 use Rattle.section.specs.Geometry.{upward, rank, block, isFirst, isLast}
-use Rattle.section.specs.Numbers.{mostBlocks}
+use Rattle.section.specs.Numbers.{mostBlocks, mostCrossings, unused}
 use Rattle.section.specs.Post.{sealed}
-use Rattle.section.specs.Range.{sealsInRange, numbersInRange, actInRange, walkInRange, trackInRange, inRange}
+use Rattle.section.specs.Range.{postInRange, postsInRange, numbersInRange, actInRange, walkInRange, trackInRange, inRange}
 use Rattle.section.specs.Settings.{isSignalled, noneFrom, isMaterialised, settingsInRange}
 use Rattle.section.specs.Step.{faultWellFormed, numberWellFormed, placeWellFormed, fieldsWellFormed, wellFormed, faultOf, stepOf, stepSaid, decoded}
 use Rattle.section.specs.Step.{postOf, faultNumber, numberOf, bytesOf, encoded}
 use Rattle.section.specs.Store.{trackOf, withTrack, postOn, withPost}
 use Rattle.section.specs.Words.{refusalOf}
-use Rattle.rules.specs.Site.{reach, anyOf, stretchEnds, watchedOccupied, trainBefore, lastEntered, occupancyAt}
+use Rattle.rules.specs.Site.{reach, anyOf, stretchEnds, crossingAhead, zonesLackAhead, watchedOccupied, trainBefore, lastEntered, occupancyAt}
 use Rattle.rules.specs.Table.{checks, effect, cellsAfter, trackAfter}
 use Rattle.rules.specs.Judge.{verdictOf, answerOf, verdictOn, sectionAfter, judgeStep, judgeDecoded, judgeInRange, judge}
 
@@ -44,12 +45,22 @@ VNS = false
 abbrev pub CVT : Bool
 CVT = true
 
--- n posts, with that mask; line 1
+-- n posts, with that mask; line 1, no level crossing
 abbrev pub telephone : ℕ → ℕ → Settings
-telephone n mask = record { posts = n; form = 0; mask = mask; line = 1 }
+telephone n mask = record { posts = n; form = 0; mask = mask; line = 1; crossings = noCrossings }
 
 abbrev pub materialised : ℕ → ℕ → Settings
-materialised n mask = record { posts = n; form = 1; mask = mask; line = 1 }
+materialised n mask = record { posts = n; form = 1; mask = mask; line = 1; crossings = noCrossings }
+
+-- a line with these bytes of level crossings, the others unused
+abbrev pub withCrossings : List ℕ → Settings → Settings
+withCrossings bytes c = record {
+  posts = c .posts;
+  form = c .form;
+  mask = c .mask;
+  line = c .line;
+  crossings = bytes ++ replicate (mostCrossings - length bytes) unused;
+}
 
 unfoldable pub fresh : Settings → Section
 unfolding freshSection freshTrack
@@ -123,8 +134,9 @@ offeredAs steps = map encoded steps
 -- the answers to a day, 0 or the refusal; unfolded, judging computes
 unfoldable pub refusals : Section → List (List ℕ) → List ℕ
 unfolding judge judgeInRange judgeDecoded judgeStep sectionAfter verdictOn answerOf verdictOf refusalOf
-    checks effect cellsAfter trackAfter reach anyOf stretchEnds watchedOccupied trainBefore lastEntered occupancyAt
-    inRange trackInRange walkInRange actInRange numbersInRange sealsInRange settingsInRange noneFrom isSignalled isMaterialised upward rank block isFirst isLast
+    checks effect cellsAfter trackAfter reach anyOf stretchEnds crossingAhead zonesLackAhead watchedOccupied trainBefore lastEntered occupancyAt
+    inRange trackInRange walkInRange actInRange numbersInRange postsInRange postInRange settingsInRange crossingsInRange noneFrom isSignalled isMaterialised
+    upward rank block isFirst isLast
     decoded stepSaid stepOf faultOf wellFormed fieldsWellFormed placeWellFormed numberWellFormed faultWellFormed le16 within postOf numberOf
 refusals s [] = []
 refusals s (bytes ∷ offered) = refusalOf (judge s bytes .verdict) ∷ refusals (judge s bytes .section) offered

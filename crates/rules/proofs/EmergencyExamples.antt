@@ -3,7 +3,7 @@
 use mathlib.Core.Path.{refl}
 use mathlib.Core.List.{[], _∷_, _++_}
 use Rattle.section.specs.declared.Section.{Section}
-use Rattle.section.specs.declared.Fault.the-variants.{One, Two, Three}
+use Rattle.section.specs.declared.Fault.the-variants.{One, Two, Three, Four}
 use Rattle.section.specs.declared.Step.the-variants.{Order, Set, Announce, Acknowledge, Start, Pass, Leave, MeasuresOn, FaultOn, FaultOff, Release, Key}
 use Rattle.rules.proofs.Days.{A, B, telephone, materialised, fresh, changedTrack, holdingLast, sealedAt, on, reversalToCvt}
 use Rattle.rules.proofs.Rows.{_gives_, Holds, judged, judgedFrom, accepted, refused, _before_}
@@ -51,7 +51,7 @@ release-refused-12 = refl
 pub release-refused-21 :
     Holds
     ((judged (telephone 2 3) (on A (Release 0 0 ∷ [])) gives refused 21)
-    ∷ (judged (materialised 3 7) (on B (FaultOn 2 Two ∷ FaultOn 2 Three ∷ Release 2 0 ∷ [])) gives refused 21)
+    ∷ (judged (materialised 3 7) (on B (FaultOn 2 Two ∷ FaultOn 2 Three ∷ FaultOn 2 Four ∷ Release 2 0 ∷ [])) gives refused 21)
     ∷ (judged (telephone 2 3) (on A (FaultOn 0 One ∷ Release 0 0 ∷ FaultOff 0 One ∷ Release 0 0 ∷ [])) gives refused 21)
     ∷ [])
 unfolding judged
@@ -137,7 +137,7 @@ key-refused-15 = refl
 pub key-refused-21 :
     Holds
     ((judged (telephone 3 7) (on A (MeasuresOn 0 ∷ Order 0 ∷ Key 0 ∷ [])) gives refused 21)
-    ∷ (judged (materialised 3 7) (on B (MeasuresOn 2 ∷ FaultOn 2 Three ∷ FaultOn 1 Two ∷ Order 2 ∷ Key 2 ∷ [])) gives refused 21)
+    ∷ (judged (materialised 3 7) (on B (MeasuresOn 2 ∷ FaultOn 2 Three ∷ FaultOn 2 Four ∷ FaultOn 1 Two ∷ Order 2 ∷ Key 2 ∷ [])) gives refused 21)
     ∷ [])
 unfolding judged
 key-refused-21 = refl

@@ -12,7 +12,7 @@ use Rattle.section.specs.Store.{trackOf, withTrack}
 use Rattle.rules.specs.Site.{isSettled, settledOnVns, siteOn, otherSettledOnVns, watchedOccupied, trainBefore, lastEntered, occupancyAt}
 use Rattle.rules.specs.Table.{checks, trackAfter}
 use Rattle.rules.proofs.Facts.{by-track}
-use Rattle.rules.proofs.View.{Motion, start, pass, leave, Condition, measures, fault, View}
+use Rattle.rules.proofs.View.{Motion, start, pass, leave, Condition, measures, fault, caution, View}
 use Rattle.rules.proofs.View.{walks, runs, notes, releases, flat, Seen, on}
 use Rattle.rules.proofs.Frame.{movesNoTrain, keepsRunning, onward, running-kept}
 use Rattle.rules.proofs.Accept.{AcceptedOn, trackAfterStep, AcceptedIn, saidIn, sectionAfterStep}
@@ -76,6 +76,7 @@ module _ (c : Settings) where
   accepted-vns v v′ b p (notes (measures false)) t i h = record { fits = h .fits; held = h .held }
   accepted-vns v v′ b p (notes (fault true f)) t i h = record { fits = h .fits; held = h .held }
   accepted-vns v v′ b p (notes (fault false f)) t i h = record { fits = h .fits; held = h .held }
+  accepted-vns v v′ b p (notes (caution z)) t i h = record { fits = h .fits; held = h .held }
   accepted-vns v v′ b p (releases z) t i h = record { fits = h .fits; held = h .held }
 
   -- ## The change of places
@@ -93,10 +94,11 @@ module _ (c : Settings) where
   on-one-track true s q l p x w = record { x-first = w .x-first; l-then = w .l-then; same-end = ap (withTrack s true) (w .same-end); l-says = w .l-says }
 
   pub exchange-note : (b : Bool) (s : Section) (q : ℕ) (l : View) (p : ℕ) (k : Condition) → q ≢ p
+      → trackOf (sectionAfterStep c s (on b q l)) b .cvt ≡ trackOf s b .cvt
       → AcceptedIn c s (on b q l) → AcceptedIn c (sectionAfterStep c s (on b q l)) (on b p (notes k)) → Exchanged s (on b q l) (on b p (notes k))
   unfolding AcceptedIn sectionAfterStep
-  exchange-note false s q l p k h hl hx = on-one-track false s q l p (notes k) (swap-note c (otherSettledOnVns s false) false q l p k (s .a) h hl hx)
-  exchange-note true s q l p k h hl hx = on-one-track true s q l p (notes k) (swap-note c (otherSettledOnVns s true) true q l p k (s .b) h hl hx)
+  exchange-note false s q l p k h ec hl hx = on-one-track false s q l p (notes k) (swap-note c (otherSettledOnVns s false) false q l p k (s .a) h ec hl hx)
+  exchange-note true s q l p k h ec hl hx = on-one-track true s q l p (notes k) (swap-note c (otherSettledOnVns s true) true q l p k (s .b) h ec hl hx)
 
   pub exchange-onward : 2 ≤ c .posts → (b : Bool) (s : Section) (q : ℕ) (l : View) (p : ℕ) (m : Motion) (z : ℕ) → onward m ≡ true → movesNoTrain l ≡ true → q ≢ p
       → trackOf (sectionAfterStep c s (on b q l)) b .cvt ≡ trackOf s b .cvt

@@ -8,7 +8,7 @@ use lib.ListN.{length, length-set}
 use lib.Dec.{eqb}
 use borrow.Author.Tests.{eqb-true}
 use Rattle.section.specs.declared.Settings.{Settings}
-use Rattle.section.specs.declared.Fault.the-variants.{One, Two, Three}
+use Rattle.section.specs.declared.Fault.the-variants.{One, Two, Three, Four}
 use Rattle.section.specs.declared.Act.{Act}
 use Rattle.section.specs.declared.Act.the-variants as act
 use Rattle.section.specs.declared.Walk.{Walk}
@@ -21,7 +21,7 @@ use Rattle.rules.specs.declared.Movement.{Movement}
 use Rattle.rules.specs.declared.Movement.the-variants.{Stays, Enters, Moves, Leaves}
 use Rattle.rules.specs.Site.{sameAct, isTurn, isSettled, blockAhead, blockBefore}
 use Rattle.rules.specs.Table.{effect, vacated, cellsAfter}
-use Rattle.rules.proofs.View.{order, setDevice, announce, acknowledge, key, Motion, start, pass, leave, measures, fault, View, walks, runs}
+use Rattle.rules.proofs.View.{order, setDevice, announce, acknowledge, key, Motion, start, pass, leave, measures, fault, caution, View, walks, runs}
 use Rattle.rules.proofs.View.{notes, releases, flat}
 
 -- moves no train
@@ -94,6 +94,7 @@ module _ (c : Settings) where
   no-movement p (notes (measures false)) e i = refl
   no-movement p (notes (fault true f)) e i = refl
   no-movement p (notes (fault false f)) e i = refl
+  no-movement p (notes (caution z)) e i = refl
   no-movement p (releases z) e i = refl
 
   pub record KeepsRunning (e : Site) (x : Effect) : Type 0 where
@@ -111,10 +112,10 @@ module _ (c : Settings) where
   running-kept p (runs leave z) e i = record { walk = refl; cvt = refl; said = refl; permission = refl; seals = refl }
   running-kept p (notes (measures true)) e i = record { walk = refl; cvt = refl; said = refl; permission = refl; seals = refl }
   running-kept p (notes (measures false)) e i = record { walk = refl; cvt = refl; said = refl; permission = refl; seals = refl }
-  running-kept p (notes (fault true One)) e i = record { walk = refl; cvt = refl; said = refl; permission = refl; seals = refl }
-  running-kept p (notes (fault true Two)) e i = record { walk = refl; cvt = refl; said = refl; permission = refl; seals = refl }
-  running-kept p (notes (fault true Three)) e i = record { walk = refl; cvt = refl; said = refl; permission = refl; seals = refl }
+  running-kept p (notes (fault true f)) e i = record { walk = refl; cvt = refl; said = refl; permission = refl; seals = refl }
   running-kept p (notes (fault false One)) e i = record { walk = refl; cvt = refl; said = refl; permission = refl; seals = refl }
   running-kept p (notes (fault false Two)) e i = record { walk = refl; cvt = refl; said = refl; permission = refl; seals = refl }
   running-kept p (notes (fault false Three)) e i = record { walk = refl; cvt = refl; said = refl; permission = refl; seals = refl }
+  running-kept p (notes (fault false Four)) e i = record { walk = refl; cvt = refl; said = refl; permission = refl; seals = refl }
+  running-kept p (notes (caution z)) e i = record { walk = refl; cvt = refl; said = refl; permission = refl; seals = refl }
   running-kept p (releases z) e i = record { walk = refl; cvt = refl; said = refl; permission = refl; seals = refl }

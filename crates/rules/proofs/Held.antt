@@ -14,10 +14,11 @@ use Rattle.section.specs.Geometry.{upward}
 use Rattle.section.specs.Numbers.{mostSeals}
 use Rattle.section.specs.Post.{hasFault}
 use Rattle.rules.specs.declared.Site.{Site}
-use Rattle.rules.specs.Site.{isSettled, isTurn, siteOn, Occupancy, atSendingEnd, atReceivingEnd, blockBefore, occupancyAt}
-use Rattle.rules.specs.Table.{orderAllowed, measuresSuffice, orderOccupied, passOccupied, releaseInTurn, fault1Confirmed, checks}
+use Rattle.rules.specs.Site.{isSettled, isTurn, siteOn, Occupancy, atSendingEnd, atReceivingEnd, blockBefore, crossingAhead, occupancyAt}
+use Rattle.rules.specs.Table.{orderAllowed, measuresSuffice, orderOccupied, passOccupied, releaseInTurn, fault1Confirmed, cautionHeld, checks}
 use Rattle.rules.proofs.Facts.{nor-l, nor-r, before-is, last-not-first}
-use Rattle.rules.proofs.View.{order, setDevice, announce, acknowledge, key, start, pass, leave, measures, fault, walks, runs, notes, releases, flat}
+use Rattle.rules.proofs.View.{order, setDevice, announce, acknowledge, key, start, pass, leave, measures, fault, caution, walks, runs, notes}
+use Rattle.rules.proofs.View.{releases, flat}
 use Rattle.rules.proofs.Reading.{Fits}
 use Rattle.rules.proofs.Accept.{occupancyOn, AcceptedOn}
 
@@ -51,18 +52,20 @@ module _ (c : Settings) (e : Site) (g : Occupancy) where
   pub record AcknowledgeHeld : Type 0 where
     pub in-turn : isTurn (e .walk) (e .post) act.Acknowledge ≡ true
 
-  pub record StartHeld : Type 0 where
+  pub record StartHeld (z : ℕ) : Type 0 where
     pub settled : isSettled (e .walk) ≡ true
     pub first : atSendingEnd c e ≡ true
     pub number-new : g .numberOnTrack ≡ false
     pub free : g .stretchOccupied ≡ false
     pub fault1-confirmed : fault1Confirmed c e ≡ true
+    pub caution-suffices : cautionHeld c z e ≡ true
 
   pub record PassHeld (z : ℕ) : Type 0 where
     pub not-first : atSendingEnd c e ≡ false
     pub not-last : atReceivingEnd c e ≡ false
     pub train : eqb (g .trainBefore) z ≡ true
     pub free : passOccupied c e g ≡ false
+    pub caution-suffices : cautionHeld c z e ≡ true
 
   pub record LeaveHeld (z : ℕ) : Type 0 where
     pub last : atReceivingEnd c e ≡ true
@@ -80,6 +83,9 @@ module _ (c : Settings) (e : Site) (g : Occupancy) where
 
   pub record FaultOffHeld (f : Fault) : Type 0 where
     pub present : hasFault f (e .own) ≡ true
+
+  pub record CautionHeld : Type 0 where
+    pub crossing : crossingAhead c e ≡ true
 
   pub record ReleaseHeld (z : ℕ) : Type 0 where
     pub in-turn : releaseInTurn c e ≡ true
@@ -124,7 +130,7 @@ module _ {c : Settings} {v b : Bool} {p : ℕ} {t : Track} where
   unfolding checks flat
   acknowledge-held h = record { in-turn = h .held .0 }
 
-  pub start-held : {z : ℕ} → AcceptedOn c v b p (runs start z) t → StartHeld c (siteOn b p t) (occupancyOn c v b p (runs start z) t)
+  pub start-held : {z : ℕ} → AcceptedOn c v b p (runs start z) t → StartHeld c (siteOn b p t) (occupancyOn c v b p (runs start z) t) z
   unfolding checks flat
   start-held h = record {
     settled = h .held .0;
@@ -132,6 +138,7 @@ module _ {c : Settings} {v b : Bool} {p : ℕ} {t : Track} where
     number-new = not-true _ (h .held .1 .1 .0);
     free = not-true _ (h .held .1 .1 .1 .0);
     fault1-confirmed = h .held .1 .1 .1 .1 .0;
+    caution-suffices = h .held .1 .1 .1 .1 .1 .0;
   }
 
   pub pass-held : {z : ℕ} → AcceptedOn c v b p (runs pass z) t → PassHeld c (siteOn b p t) (occupancyOn c v b p (runs pass z) t) z
@@ -141,6 +148,7 @@ module _ {c : Settings} {v b : Bool} {p : ℕ} {t : Track} where
     not-last = nor-r (atSendingEnd c (siteOn b p t)) (atReceivingEnd c (siteOn b p t)) (not-true _ (h .held .0));
     train = h .held .1 .0;
     free = not-true _ (h .held .1 .1 .0);
+    caution-suffices = h .held .1 .1 .1 .0;
   }
 
   pub leave-held : {z : ℕ} → AcceptedOn c v b p (runs leave z) t → LeaveHeld c (siteOn b p t) (occupancyOn c v b p (runs leave z) t) z
@@ -166,6 +174,10 @@ module _ {c : Settings} {v b : Bool} {p : ℕ} {t : Track} where
       → FaultOffHeld c (siteOn b p t) (occupancyOn c v b p (notes (fault false f)) t) f
   unfolding checks flat
   fault-off-held h = record { present = h .held .0 }
+
+  pub caution-held : {z : ℕ} → AcceptedOn c v b p (notes (caution z)) t → CautionHeld c (siteOn b p t) (occupancyOn c v b p (notes (caution z)) t)
+  unfolding checks flat
+  caution-held h = record { crossing = h .held .0 }
 
   pub release-held : {z : ℕ} → AcceptedOn c v b p (releases z) t → ReleaseHeld c (siteOn b p t) (occupancyOn c v b p (releases z) t) z
   unfolding checks flat

@@ -8,7 +8,7 @@ use Rattle.section.specs.declared.Settings.{Settings}
 use Rattle.section.specs.declared.Section.{Section}
 use Rattle.section.specs.declared.Indications.{Indications}
 use Rattle.section.specs.declared.TrackStep.{TrackStep}
-use Rattle.section.specs.declared.Fault.the-variants.{One, Two, Three}
+use Rattle.section.specs.declared.Fault.the-variants.{One, Two, Three, Four}
 use Rattle.section.specs.declared.Step.the-variants.{Order, Set, Announce, Acknowledge, Start, Pass, MeasuresOn, FaultOn, Release}
 use Rattle.section.specs.Bytes.{truthNumber}
 use Rattle.rules.specs.Indications.{setCount, isNextToSet, circulation, troncon, shown, lampsAt, dark, indicationsOn, indications}
@@ -93,7 +93,7 @@ pub dark-by-fault-3 :
     ((shownAfter (telephone 2 3) (on A (FaultOn 0 Three ∷ [])) A 0 gives some (lamps 0 1 1))
     ∷ (shownAfter (materialised 3 7) (on B (FaultOn 1 Three ∷ MeasuresOn 2 ∷ Order 2 ∷ Set 2 ∷ [])) B 1 gives some (lamps 0 1 0))
     ∷ (shownAfter (telephone 2 3) (on A (FaultOn 0 Two ∷ [])) A 0 gives some (lamps 1 1 1))
-    ∷ (shownAfter (telephone 2 3) (on A (FaultOn 1 One ∷ FaultOn 1 Two ∷ [])) A 1 gives some (lamps 1 0 0))
+    ∷ (shownAfter (telephone 2 3) (on A (FaultOn 1 One ∷ FaultOn 1 Two ∷ FaultOn 1 Four ∷ [])) A 1 gives some (lamps 1 0 0))
     ∷ [])
 unfolding shownAfter
 dark-by-fault-3 = refl
@@ -111,7 +111,7 @@ pub red :
     ∷ (shownAfter (telephone 3 7) (on A (Start 0 7 ∷ [])) A 1 gives some (lamps 1 1 0))
     ∷ (shownAfter (telephone 3 5) (on A (Start 0 7 ∷ Pass 1 7 ∷ [])) A 0 gives some (lamps 1 1 1))
     ∷ (shownAfter (telephone 3 5) (on A (Start 0 7 ∷ Pass 1 7 ∷ [])) A 1 gives some (lamps 1 2 0))
-    ∷ (shownAfter (telephone 3 7) (on A (FaultOn 0 Two ∷ FaultOn 0 Three ∷ [])) A 0 gives some (lamps 0 1 1))
+    ∷ (shownAfter (telephone 3 7) (on A (FaultOn 0 Two ∷ FaultOn 0 Three ∷ FaultOn 0 Four ∷ [])) A 0 gives some (lamps 0 1 1))
     ∷ [])
 unfolding shownAfter
 red = refl

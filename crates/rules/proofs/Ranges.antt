@@ -1,4 +1,4 @@
--- The ranges of a track, as facts, and that every accepted step keeps them: it stores a number and a seal count that were tested, and its turn
+-- The ranges of a track, as facts, and that every accepted step keeps them: it stores numbers and a seal count that were tested, and its turn
 -- goes to a post that the section has.
 use Prim.Native.Nat.{ℕ, suc, _-_, _≤_, _<_}
 use mathlib.Core.Bool.{Bool, true, false, cond, not}
@@ -6,9 +6,10 @@ use mathlib.Core.Path.{_≡_, refl, ap, subst}
 use mathlib.Core.List.{List}
 use native.Mathlib.Omega.{arith}
 use lib.ListN.{getD, set}
-use lib.Dec.{ltb}
+use lib.Dec.{eqb, ltb}
 use borrow.Author.Tests.{ltb-true, eqb-false, lt-ltb, not-true}
 use Rattle.section.specs.declared.Settings.{Settings}
+use Rattle.section.specs.declared.Fault.the-variants.{One, Two, Three, Four}
 use Rattle.section.specs.declared.Post.{Post}
 use Rattle.section.specs.declared.Act.the-variants as act
 use Rattle.section.specs.declared.Walk.{Walk}
@@ -17,16 +18,17 @@ use Rattle.section.specs.declared.Track.{Track}
 use Rattle.section.specs.Geometry.{upward, rank, isFirst, isLast}
 use Rattle.section.specs.Numbers.{mostSeals, largestTrain}
 use Rattle.section.specs.Post.{blank}
-use Rattle.section.specs.Range.{actInRange, walkInRange, trackInRange}
+use Rattle.section.specs.Range.{postInRange, actInRange, walkInRange, trackInRange}
 use Rattle.section.specs.Store.{postOn}
-use Rattle.section.proofs.Laws.{track-ranges, ranges-hold, set-keeps, and-left, and-right, both}
+use Rattle.section.proofs.Laws.{track-ranges, ranges-hold, seals-right, caution-right, post-in-range, set-keeps, and-left, and-right, both}
 use Rattle.rules.specs.declared.Site.{Site}
 use Rattle.rules.specs.declared.Movement.{Movement}
 use Rattle.rules.specs.declared.Movement.the-variants.{Stays, Enters, Moves, Leaves}
 use Rattle.rules.specs.Site.{siteOn, isTurn, atReceivingEnd}
 use Rattle.rules.specs.Table.{checks, effect, vacated, cellsAfter, trackAfter}
 use Rattle.rules.proofs.Facts.{next-rank, next-lt, not-first-rank, rank-not-first, not-last-rank, rank-not-last}
-use Rattle.rules.proofs.View.{order, setDevice, announce, acknowledge, key, start, pass, leave, View, walks, runs, notes, releases, flat}
+use Rattle.rules.proofs.View.{order, setDevice, announce, acknowledge, key, start, pass, leave, measures, fault, caution, View, walks, runs, notes}
+use Rattle.rules.proofs.View.{releases, flat}
 use Rattle.rules.proofs.Frame.{is-turn, running-kept, no-movement}
 use Rattle.rules.proofs.Accept.{AcceptedOn, trackAfterStep}
 use Rattle.rules.proofs.Held.{key-held, announce-held}
@@ -68,7 +70,7 @@ module _ (c : Settings) (b : Bool) where
   -- ## The track
 
   pub record InRange (t : Track) : Type 0 where
-    pub seals : (p : ℕ) → p < c .posts → postOn t p .seals ≤ mostSeals
+    pub posts : (p : ℕ) → p < c .posts → postInRange (postOn t p) ≡ true
     pub trains : (i : ℕ) → i < c .posts - 1 → getD (t .trains) i 0 ≤ largestTrain
     pub last : (i : ℕ) → i < c .posts - 1 → getD (t .last) i 0 ≤ largestTrain
     pub turn : TurnFits (t .cvt) (t .walk)
@@ -76,12 +78,12 @@ module _ (c : Settings) (b : Bool) where
   pub track-in : (t : Track) → trackInRange (c .posts) b t ≡ true → InRange t
   track-in t h =
       let r = track-ranges (c .posts) b t h in
-      record { seals = r .seals; trains = r .trains; last = r .last; turn = turn-in (t .cvt) (t .walk) (r .walk) }
+      record { posts = r .posts; trains = r .trains; last = r .last; turn = turn-in (t .cvt) (t .walk) (r .walk) }
 
   pub track-out : (t : Track) → InRange t → trackInRange (c .posts) b t ≡ true
   track-out t r =
       ranges-hold (c .posts) b t
-      (record { seals = r .seals; trains = r .trains; last = r .last; walk = turn-out (t .cvt) (t .walk) (r .turn) })
+      (record { posts = r .posts; trains = r .trains; last = r .last; walk = turn-out (t .cvt) (t .walk) (r .turn) })
 
   -- ## Kept by an accepted step
 
@@ -135,6 +137,33 @@ module _ (c : Settings) (b : Bool) where
     seals-fit (notes k) h o = rw (running-kept c p (notes k) e refl .seals) o
     seals-fit (releases z) h o = o
 
+    caution-used : (used : Bool) (z : ℕ) → z ≤ largestTrain → cond used 0 z ≤ largestTrain
+    caution-used true z h = omega arith
+    caution-used false z h = h
+
+    caution-fits : (k : View) → AcceptedOn c v b p k t → e .own .caution ≤ largestTrain → effect c (flat p k) e .own .caution ≤ largestTrain
+    unfolding effect flat
+    caution-fits (walks order) h o = o
+    caution-fits (walks setDevice) h o = omega arith
+    caution-fits (walks announce) h o = o
+    caution-fits (walks acknowledge) h o = o
+    caution-fits (walks key) h o = omega arith
+    caution-fits (runs start z) h o = caution-used (eqb (e .own .caution) z) (e .own .caution) o
+    caution-fits (runs pass z) h o = caution-used (eqb (e .own .caution) z) (e .own .caution) o
+    caution-fits (runs leave z) h o = o
+    caution-fits (notes (measures true)) h o = o
+    caution-fits (notes (measures false)) h o = o
+    caution-fits (notes (fault true f)) h o = o
+    caution-fits (notes (fault false One)) h o = o
+    caution-fits (notes (fault false Two)) h o = o
+    caution-fits (notes (fault false Three)) h o = o
+    caution-fits (notes (fault false Four)) h o = o
+    caution-fits (notes (caution z)) h o = h .fits .number .1
+    caution-fits (releases z) h o = o
+
+    post-fits : (k : View) → AcceptedOn c v b p k t → postInRange (e .own) ≡ true → postInRange (effect c (flat p k) e .own) ≡ true
+    post-fits k h o = post-in-range _ (seals-fit k h (seals-right _ o)) (caution-fits k h (caution-right _ o))
+
     -- set or key: announce is next, unless it was at the last post
     set-turn : (last : Bool) → isLast (c .posts) (upward b (t .cvt)) p ≡ last → p < c .posts
         → TurnFits (cond last (not (t .cvt)) (t .cvt)) (cond last Settled (Turn p act.Announce))
@@ -161,8 +190,8 @@ module _ (c : Settings) (b : Bool) where
     pub in-range-kept : (k : View) → AcceptedOn c v b p k t → InRange t → InRange (trackAfterStep c b p k t)
     unfolding trackAfter AllFit
     in-range-kept k h r = record {
-      seals = λ q q<n. set-keeps (λ (o : Post). o .seals ≤ mostSeals) (t .posts) p q (effect c (flat p k) e .own) blank (r .seals q q<n)
-          (seals-fit k h (r .seals p (h .fits .below)));
+      posts = λ q q<n. set-keeps (λ (o : Post). postInRange o ≡ true) (t .posts) p q (effect c (flat p k) e .own) blank (r .posts q q<n)
+          (post-fits k h (r .posts p (h .fits .below)));
       trains = cells-in-range true (effect c (flat p k) e .train) e (t .trains) (movement-fits k h) (r .trains);
       last = cells-in-range false (effect c (flat p k) e .train) e (t .last) (movement-fits k h) (r .last);
       turn = turn-kept k h (r .turn);

@@ -16,9 +16,9 @@ use Rattle.section.specs.declared.Track.{Track}
 use Rattle.section.specs.declared.Section.{Section}
 use Rattle.section.specs.Fresh.{freshTrack, freshSection}
 use Rattle.section.specs.Geometry.{upward, rank}
-use Rattle.section.specs.Numbers.{leastPosts, mostPosts, mostBlocks, mostSeals, largestTrain}
+use Rattle.section.specs.Numbers.{leastPosts, mostPosts, mostBlocks, largestTrain}
 use Rattle.section.specs.Post.{blank, permitted}
-use Rattle.section.specs.Range.{inRange}
+use Rattle.section.specs.Range.{postInRange, inRange}
 use Rattle.section.specs.Settings.{settingsInRange}
 use Rattle.section.specs.Store.{trackOf}
 use Rattle.section.proofs.Laws.{posts-right, set-keeps}
@@ -115,14 +115,14 @@ module _ (c : Settings) where
     fresh-permits true p p<n h = omega (arith, fresh-only (c .posts - 1) p (permitted true blank) (omega arith) h)
 
     fresh-sound : (b : Bool) → Sound c b (freshTrack (c .posts) b)
-    unfolding freshTrack
+    unfolding freshTrack postInRange
     fresh-sound b = record {
       clear = λ j h k. absurd (none-below j _ (cleared-settled c b false) h);
       permits = λ p p<n h. fresh-permits b p p<n h;
       sizes = record { posts = length-set (replicate mostPosts blank) (cond b (c .posts - 1) 0) (permitted true blank); trains = refl; last = refl };
       ranges = record {
-        seals = λ p p<n. set-keeps (λ (o : Post). o .seals ≤ mostSeals) (replicate mostPosts blank) (cond b (c .posts - 1) 0) p (permitted true blank) blank
-            (replicate-keeps (λ (o : Post). o .seals ≤ mostSeals) mostPosts p blank (omega arith)) (omega arith);
+        posts = λ p p<n. set-keeps (λ (o : Post). postInRange o ≡ true) (replicate mostPosts blank) (cond b (c .posts - 1) 0) p (permitted true blank) blank
+            (replicate-keeps (λ (o : Post). postInRange o ≡ true) mostPosts p blank refl) refl;
         trains = λ i h. replicate-keeps (λ (w : ℕ). w ≤ largestTrain) mostBlocks i 0 (omega arith);
         last = λ i h. replicate-keeps (λ (w : ℕ). w ≤ largestTrain) mostBlocks i 0 (omega arith);
         turn = tt;

@@ -14,14 +14,16 @@ use Rattle.section.specs.Numbers.{largestTrain}
 use Rattle.section.specs.Step.{decoded, numberWellFormed, kindOf, postOf, numberOf}
 use Rattle.section.proofs.Codec.{decoded-track, decoded-kind, decoded-post, decoded-number, decoded-post-below, decoded-number-well-formed}
 use Rattle.rules.proofs.Facts.{within→}
-use Rattle.rules.proofs.View.{start, pass, leave, View, walks, runs, notes, releases, flat, view, flat-view}
+use Rattle.rules.proofs.View.{start, pass, leave, measures, fault, caution, View, walks, runs, notes, releases, flat, view, flat-view}
 
 -- ## A step whose post is below n, and whose number is in the range of its kind
 
 abbrev pub NumberFits : View → Type 0
 NumberFits (walks r) = Unit {0}
 NumberFits (runs m z) = (0 < z) × (z ≤ largestTrain)
-NumberFits (notes k) = Unit {0}
+NumberFits (notes (measures x)) = Unit {0}
+NumberFits (notes (fault x f)) = Unit {0}
+NumberFits (notes (caution z)) = (0 < z) × (z ≤ largestTrain)
 NumberFits (releases z) = z ≤ largestTrain
 
 pub record Fits (n p : ℕ) (k : View) : Type 0 where
@@ -34,7 +36,9 @@ number-fits p (walks r) h = tt
 number-fits p (runs start z) h = within→ 1 largestTrain z h
 number-fits p (runs pass z) h = within→ 1 largestTrain z h
 number-fits p (runs leave z) h = within→ 1 largestTrain z h
-number-fits p (notes k) h = tt
+number-fits p (notes (measures x)) h = tt
+number-fits p (notes (fault x f)) h = tt
+number-fits p (notes (caution z)) h = within→ 1 largestTrain z h
 number-fits p (releases z) h = leb-true z largestTrain h
 
 -- ## Bytes

@@ -5,7 +5,7 @@ use mathlib.Core.List.{[], _∷_, _++_}
 use Rattle.section.specs.declared.Section.{Section}
 use Rattle.section.specs.declared.Act.the-variants as act
 use Rattle.section.specs.declared.Walk.the-variants.{Settled, Turn}
-use Rattle.section.specs.declared.Fault.the-variants.{One, Two, Three}
+use Rattle.section.specs.declared.Fault.the-variants.{One, Two, Three, Four}
 use Rattle.section.specs.declared.Step.the-variants.{Order, Set, Announce, Acknowledge, Start, Pass, Leave, MeasuresOn, FaultOn, Release}
 use Rattle.section.specs.declared.Said.the-variants.{Cvt, Cvtz, Vns, Vnsz}
 use Rattle.rules.proofs.Days.{A, B, VNS, CVT, telephone, materialised, fresh, changedTrack, running, holding, on, reversal, reversalToCvt}
@@ -192,12 +192,12 @@ pub set-refused-16 :
 unfolding bothOnCvt judged
 set-refused-16 = refl
 
--- "fault 2 stops set"; fault 3 does not
+-- "fault 2 stops set"; faults 3 and 4 do not
 pub set-refused-19 :
     Holds
     ((judged (telephone 3 7) (on A (MeasuresOn 0 ∷ FaultOn 0 Two ∷ Order 0 ∷ Set 0 ∷ [])) gives refused 19)
     ∷ (judged (materialised 2 3) (on B (reversalToCvt (1 ∷ 0 ∷ []) ++ FaultOn 0 Two ∷ Order 0 ∷ Set 0 ∷ [])) gives refused 19)
-    ∷ (judged (telephone 3 7) (on A (MeasuresOn 0 ∷ FaultOn 0 Three ∷ Order 0 ∷ Set 0 ∷ [])) gives accepted)
+    ∷ (judged (telephone 3 7) (on A (MeasuresOn 0 ∷ FaultOn 0 Three ∷ FaultOn 0 Four ∷ Order 0 ∷ Set 0 ∷ [])) gives accepted)
     ∷ [])
 unfolding judged
 set-refused-19 = refl

@@ -1,6 +1,6 @@
 -- The accepted steps put in the new order: the steps of a reversal under way are held back, all else goes before them. A train that rolls on is
--- past the turn's post, a condition concerns its own post, so each changes places with the steps held back. At the last set the track is empty,
--- and they are performed.
+-- past the turn's post, a condition concerns its own post and the direction, so each changes places with the steps held back. At the last set
+-- the track is empty, and they are performed.
 use Prim.Native.Nat.{ℕ, _≤_, _<_}
 use mathlib.Core.Bool.{Bool, true, false, cond, not, _&&_, _||_, Bool·beq, or-false, false≢true, true≢false}
 use mathlib.Core.Path.{_≡_, refl, sym, ap, ap₂, _∙_, subst}
@@ -352,7 +352,7 @@ module _ (c : Settings) where
                   (cvt-kept c (g .track) q (x .kind) (trackOf s (g .track)) (rw e refl)) (omega arith) le
               decide (no nle) =
                   before (notes n) e refl (omega arith)
-                  (λ s₀ i u st. exchange-note c (g .track) s₀ (i .post) (i .kind) q n (differ (omega arith) i u) (st .ok))
+                  (λ s₀ i u st. exchange-note c (g .track) s₀ (i .post) (i .kind) q n (differ (omega arith) i u) (st .cvt-kept) (st .ok))
           go (actsInTurn j eq p′ a′ ew ec le) = held-back s ds g x j h said p′ a′ ew ec le (omega (arith, ap (rk s ds g) eq))
           go (endsReversal ew free) = closes x h said ew free
 

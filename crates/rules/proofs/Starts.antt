@@ -23,7 +23,7 @@ use Rattle.rules.specs.Table.{checks}
 use Rattle.rules.specs.Judge.{judge}
 use Rattle.rules.specs.Demand3.{AcceptedStep, track, post, kind, sendingEnd, MayStart, permission, start}
 use Rattle.rules.proofs.Facts.{first-rank}
-use Rattle.rules.proofs.View.{order, setDevice, announce, acknowledge, key, pass, leave, measures, fault, View, walks, runs, notes, releases}
+use Rattle.rules.proofs.View.{order, setDevice, announce, acknowledge, key, pass, leave, measures, fault, caution, View, walks, runs, notes, releases}
 use Rattle.rules.proofs.View.{flat, post-flat, Seen, shown}
 use Rattle.rules.proofs.View as view
 use Rattle.rules.proofs.Reading.{Says, decoded-says}
@@ -50,6 +50,7 @@ module _ (c : Settings) where
   start-first v b p (notes (measures false)) t e h = absurd (omega arith)
   start-first v b p (notes (fault true f)) t e h = absurd (omega arith)
   start-first v b p (notes (fault false f)) t e h = absurd (omega arith)
+  start-first v b p (notes (caution z)) t e h = absurd (omega arith)
   start-first v b p (releases z) t e h = absurd (omega arith)
 
   abbrev Sends : Section → Bool → ℕ → Type 0

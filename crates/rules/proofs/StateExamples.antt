@@ -10,14 +10,16 @@ use Rattle.section.specs.declared.Act.the-variants as act
 use Rattle.section.specs.declared.Walk.{Walk}
 use Rattle.section.specs.declared.Walk.the-variants.{Settled, Turn}
 use Rattle.section.specs.declared.Section.{Section}
+use Rattle.section.specs.declared.Step.{Step}
 use Rattle.section.specs.declared.TrackStep.{TrackStep}
-use Rattle.section.specs.declared.Fault.the-variants.{One, Two, Three}
+use Rattle.section.specs.declared.Fault.the-variants.{One, Two, Three, Four}
 use Rattle.section.specs.declared.Step.the-variants.{Order, Set, Announce, Acknowledge, Start, Pass, Leave, MeasuresOn, MeasuresOff}
-use Rattle.section.specs.declared.Step.the-variants.{FaultOn, FaultOff, Release, Key}
-use Rattle.section.specs.Post.{blank, turned, permitted, measured, faulty, marked, sealed}
+use Rattle.section.specs.declared.Step.the-variants.{FaultOn, FaultOff, Release, Key, Caution}
+use Rattle.section.specs.Post.{blank, turned, permitted, measured, faulty, marked, sealed, cautioned}
 use Rattle.section.specs.Store.{trackOf, postOn}
 use Rattle.rules.specs.Demand3.{stateAfter}
-use Rattle.rules.proofs.Days.{A, B, VNS, CVT, telephone, materialised, fresh, changedPost, cells, on, reversal, reversalToCvt, offeredAs}
+use Rattle.rules.proofs.Days.{A, B, VNS, CVT, telephone, materialised, withCrossings, fresh, changedPost, cells, on, reversal, reversalToCvt}
+use Rattle.rules.proofs.Days.{offeredAs}
 use Rattle.rules.proofs.Rows.{_gives_, Holds, seenFrom, seen}
 use Rattle.rules.proofs.ReversalExamples.{bothOnCvt}
 use Rattle.rules.proofs.TrainExamples.{twoInOneStretch}
@@ -138,9 +140,71 @@ pub conditions-kept :
     gives some (faulty One true (faulty Three true blank)))
     ∷ (postAfter (telephone 3 7) (on B (FaultOn 1 One ∷ FaultOn 1 Two ∷ FaultOn 1 Three ∷ FaultOff 1 Three ∷ [])) B 1
     gives some (faulty One true (faulty Two true blank)))
+    ∷ (postAfter (telephone 3 7) (on B (FaultOn 1 Three ∷ FaultOn 1 Four ∷ [])) B 1 gives some (faulty Three true (faulty Four true blank)))
+    ∷ (postAfter (telephone 3 7) (on B (FaultOn 1 Three ∷ FaultOn 1 Four ∷ FaultOff 1 Four ∷ [])) B 1 gives some (faulty Three true blank))
     ∷ [])
 unfolding seen
 conditions-kept = refl
+
+-- a caution form "for that train, handed out at that post": "A newer form replaces the older"; it changes nothing else
+pub caution-form-kept :
+    Holds
+    ((postAfter (withCrossings (0 ∷ []) (telephone 3 7)) (on A (Caution 0 7 ∷ [])) A 0 gives some (cautioned 7 (permitted true blank)))
+    ∷ (postAfter (withCrossings (0 ∷ []) (telephone 3 7)) (on A (Caution 0 7 ∷ [])) B 0 gives some blank)
+    ∷ (postAfter (withCrossings (1 ∷ []) (telephone 3 7)) (on A (Caution 1 7 ∷ MeasuresOn 1 ∷ FaultOn 1 Four ∷ [])) A 1
+    gives some (cautioned 7 (faulty Four true (measured true blank))))
+    ∷ (postAfter (withCrossings (1 ∷ []) (telephone 3 7)) (on A (Caution 1 7 ∷ Caution 1 9999 ∷ [])) A 1 gives some (cautioned 9999 blank))
+    -- order, announce, acknowledge, release, the end of a fault and a train's leave leave it
+    ∷ (postAfter (withCrossings (0 ∷ []) (telephone 2 3)) (on A (Caution 0 7 ∷ FaultOn 0 One ∷ Order 0 ∷ Release 0 0 ∷ FaultOff 0 One ∷ [])) A 0
+    gives some (cautioned 7 blank))
+    ∷ (postAfter (withCrossings (1 ∷ []) (telephone 3 7)) (on A (MeasuresOn 0 ∷ Caution 1 7 ∷ Order 0 ∷ Set 0 ∷ Announce 0 ∷ Acknowledge 1 ∷ [])) A 1
+    gives some (cautioned 7 blank))
+    ∷ [])
+unfolding seen
+caution-form-kept = refl
+
+-- "used up by that train's entry, needed or not": by start and pass, not by the entry of another train
+pub caution-form-used-up :
+    Holds
+    ((postAfter (withCrossings (0 ∷ []) (telephone 2 3)) (on A (FaultOn 0 Four ∷ Caution 0 7 ∷ Start 0 7 ∷ [])) A 0
+    gives some (faulty Four true (permitted true blank)))
+    ∷ (postAfter (withCrossings (0 ∷ []) (telephone 2 3)) (on A (Caution 0 7 ∷ Start 0 7 ∷ [])) A 0 gives some (permitted true blank))
+    ∷ (postAfter (withCrossings (0 ∷ []) (telephone 2 3)) (on A (Caution 0 8 ∷ Start 0 7 ∷ [])) A 0 gives some (cautioned 8 (permitted true blank)))
+    ∷ (postAfter (withCrossings (0 ∷ []) (materialised 3 7)) (on B (FaultOn 1 Four ∷ Caution 1 7 ∷ Start 2 7 ∷ Pass 1 7 ∷ [])) B 1
+    gives some (faulty Four true blank))
+    ∷ (postAfter (withCrossings (0 ∷ []) (materialised 3 7)) (on B (Caution 1 7 ∷ Start 2 7 ∷ Pass 1 7 ∷ [])) B 1 gives some blank)
+    ∷ (postAfter (withCrossings (0 ∷ []) (materialised 3 7)) (on B (Caution 1 8 ∷ Start 2 7 ∷ Pass 1 7 ∷ [])) B 1 gives some (cautioned 8 blank))
+    -- that at another post stays
+    ∷ (postAfter (withCrossings (0 ∷ 1 ∷ []) (telephone 3 7)) (on A (Caution 0 7 ∷ Caution 1 7 ∷ Start 0 7 ∷ [])) A 1 gives some (cautioned 7 blank))
+    ∷ [])
+unfolding seen
+caution-form-used-up = refl
+
+-- "set or key removes it"
+pub caution-form-removed :
+    Holds
+    ((postAfter (withCrossings (0 ∷ []) (telephone 2 3)) (on A (MeasuresOn 0 ∷ Caution 0 7 ∷ Order 0 ∷ Set 0 ∷ [])) A 0
+    gives some (turned CVT (measured true blank)))
+    ∷ (postAfter (withCrossings (0 ∷ []) (telephone 2 3)) (on B (MeasuresOn 1 ∷ FaultOn 1 Two ∷ Caution 1 7 ∷ Order 1 ∷ Key 1 ∷ [])) B 1
+    gives some (sealed (turned CVT (faulty Two true (measured true blank)))))
+    ∷ [])
+unfolding seen
+caution-form-removed = refl
+
+-- handed out after the post's own set, it is there when the direction has turned: at the receiving end, until that post sets again
+abbrev pub toCvtAndAForm : List Step
+toCvtAndAForm = MeasuresOn 0 ∷ MeasuresOn 1 ∷ Order 0 ∷ Set 0 ∷ Caution 0 7 ∷ Announce 0 ∷ Acknowledge 1 ∷ Set 1 ∷ []
+
+pub caution-form-at-the-receiving-end :
+    Holds
+    ((postAfter (withCrossings (0 ∷ []) (telephone 2 3)) (on A toCvtAndAForm) A 0 gives some (cautioned 7 (turned CVT (measured true blank))))
+    ∷ (postAfter (withCrossings (0 ∷ []) (telephone 2 3)) (on A (toCvtAndAForm ++ Start 1 7 ∷ Leave 0 7 ∷ [])) A 0
+    gives some (cautioned 7 (turned CVT (measured true blank))))
+    ∷ (postAfter (withCrossings (0 ∷ []) (telephone 2 3)) (on A (toCvtAndAForm ++ reversal (1 ∷ 0 ∷ []))) A 0
+    gives some (permitted true (measured true blank)))
+    ∷ [])
+unfolding seen
+caution-form-at-the-receiving-end = refl
 
 -- ## What a track keeps
 

@@ -1,5 +1,6 @@
--- Two steps on one track at different posts change places, where the first moves no train and the second notes a condition, passes or leaves.
--- The second sees nothing that the first changes. The first finds the same or fewer trains where it looks, so its checks still hold.
+-- Two steps on one track at different posts change places, where the first moves no train and leaves the direction, and the second notes a
+-- condition, passes or leaves. The second sees nothing that the first changes: the direction, the trains and its own post's record. The first
+-- finds the same or fewer trains where it looks, so its checks still hold.
 use Prim.Native.Nat.{ℕ, suc, _-_, _≤_, _<_}
 use mathlib.Core.Bool.{Bool, true, false, cond, not, _&&_, false≢true}
 use mathlib.Core.Path.{_≡_, refl, sym, ap, ap₂, _∙_}
@@ -7,7 +8,7 @@ use mathlib.Core.Logic.{_≢_}
 use mathlib.Core.List.{List}
 use native.Mathlib.Omega.{arith}
 use lib.ListN.{getD, set}
-use lib.Seq.{getD-set-other, set-comm, set-getD}
+use lib.Seq.{getD-set-other, set-comm}
 use lib.Dec.{eqb}
 use borrow.Author.Tests.{eqb-true, not-false, eq-eqb}
 use Rattle.section.specs.declared.Settings.{Settings}
@@ -20,10 +21,10 @@ use Rattle.section.specs.Store.{postOn, withPost}
 use Rattle.section.proofs.Laws.{rank-lt, rank-inj, block-inj, block-lt}
 use Rattle.rules.specs.declared.Site.{Site}
 use Rattle.rules.specs.Site.{siteOn, Occupancy, isTrain, anyOf, occupancyAt, watchedOccupied, atReceivingEnd, blockAhead, blockBefore}
-use Rattle.rules.specs.Site.{trainAt, trainBefore}
+use Rattle.rules.specs.Site.{trainAt, crossingAhead, zonesLackAhead, trainBefore}
 use Rattle.rules.specs.Table.{checks, effect, cellsAfter, trackAfter}
 use Rattle.rules.proofs.Facts.{not-first-rank, not-last-rank, entered-is, set-zero, any-zero}
-use Rattle.rules.proofs.View.{order, setDevice, announce, acknowledge, key, Motion, start, pass, leave, Condition, measures, fault, View}
+use Rattle.rules.proofs.View.{order, setDevice, announce, acknowledge, key, Motion, start, pass, leave, Condition, measures, fault, caution, View}
 use Rattle.rules.proofs.View.{walks, runs, notes, releases, flat}
 use Rattle.rules.proofs.Frame.{movesNoTrain, onward, running-kept, no-movement}
 use Rattle.rules.proofs.Accept.{AllHold, occupancyOn, AcceptedOn, trackAfterStep}
@@ -64,15 +65,16 @@ module _ (c : Settings) (v b : Bool) where
   unfolding trackAfter
   own-kept l t q p h = own-other t p q (effect c (flat q l) (siteOn b q t) .own) (λ e. h (sym e))
 
-  -- ## A condition noted at p: it looks at the post's own record alone
+  -- ## A condition noted at p: it looks at the direction and the post's own record alone
 
-  note-checks : (k : Condition) (p : ℕ) (e e′ : Site) (g g′ : Occupancy) → e .own ≡ e′ .own
-      → AllHold (checks c (flat p (notes k)) e g) → AllHold (checks c (flat p (notes k)) e′ g′)
-  unfolding checks flat
-  note-checks (measures true) p e e′ g g′ q h = rw q at h
-  note-checks (measures false) p e e′ g g′ q h = rw q at h
-  note-checks (fault true f) p e e′ g g′ q h = rw q at h
-  note-checks (fault false f) p e e′ g g′ q h = rw q at h
+  note-checks : (k : Condition) (p : ℕ) (t t′ : Track) (g g′ : Occupancy) → t .cvt ≡ t′ .cvt → postOn t p ≡ postOn t′ p
+      → AllHold (checks c (flat p (notes k)) (siteOn b p t) g) → AllHold (checks c (flat p (notes k)) (siteOn b p t′) g′)
+  unfolding checks crossingAhead flat
+  note-checks (measures true) p t t′ g g′ ec eo h = rw eo at h
+  note-checks (measures false) p t t′ g g′ ec eo h = rw eo at h
+  note-checks (fault true f) p t t′ g g′ ec eo h = rw eo at h
+  note-checks (fault false f) p t t′ g g′ ec eo h = rw eo at h
+  note-checks (caution z) p t t′ g g′ ec eo h = rw ec at h
 
   note-own : (k : Condition) (p : ℕ) (e e′ : Site) → e .own ≡ e′ .own → effect c (flat p (notes k)) e .own ≡ effect c (flat p (notes k)) e′ .own
   unfolding effect flat
@@ -80,6 +82,7 @@ module _ (c : Settings) (v b : Bool) where
   note-own (measures false) p e e′ q = rw q refl
   note-own (fault true f) p e e′ q = rw q refl
   note-own (fault false f) p e e′ q = rw q refl
+  note-own (caution z) p e e′ q = rw q refl
 
   abbrev noted : Condition → ℕ → Track → Post
   noted k p t = effect c (flat p (notes k)) (siteOn b p t) .own
@@ -90,13 +93,10 @@ module _ (c : Settings) (v b : Bool) where
       let same = running-kept c p (notes k) (siteOn b p t) refl in
       rw (no-movement c p (notes k) (siteOn b p t) refl, same .walk, same .cvt) refl
 
-  pub swap-note : (q : ℕ) (l : View) (p : ℕ) (k : Condition) (t : Track) → q ≢ p
+  pub swap-note : (q : ℕ) (l : View) (p : ℕ) (k : Condition) (t : Track) → q ≢ p → trackAfterStep c b q l t .cvt ≡ t .cvt
       → AcceptedOn c v b q l t → AcceptedOn c v b p (notes k) (trackAfterStep c b q l t) → Swapped q l p (notes k) t
-  swap-note q l p k t h hl hx = record {
-    x-first = record {
-      fits = hx .fits;
-      held = note-checks k p (siteOn b p (trackAfterStep c b q l t)) (siteOn b p t) _ _ (own-kept l t q p h) (hx .held);
-    };
+  swap-note q l p k t h ec hl hx = record {
+    x-first = record { fits = hx .fits; held = note-checks k p (trackAfterStep c b q l t) t _ _ ec (own-kept l t q p h) (hx .held) };
     l-then = rw (note-moved k p t) (accepted-own l t q p (noted k p t) h hl);
     same-end =
         ap (trackAfterStep c b q l) (note-moved k p t) ∙ track-own l t q p (noted k p t) h
@@ -105,14 +105,14 @@ module _ (c : Settings) (v b : Bool) where
     l-says = ap (λ u. effect c (flat q l) (siteOn b q u) .said) (note-moved k p t) ∙ says-own l t q p (noted k p t) h;
   }
 
-  -- ## A pass or a leave at p: it looks at the direction and the trains alone
+  -- ## A pass or a leave at p: it looks at the direction, the trains and the post's own record, and changes the trains and that record
 
-  onward-checks : (m : Motion) (z p : ℕ) (t t′ : Track) → onward m ≡ true → t .cvt ≡ t′ .cvt → t .trains ≡ t′ .trains
+  onward-checks : (m : Motion) (z p : ℕ) (t t′ : Track) → onward m ≡ true → t .cvt ≡ t′ .cvt → t .trains ≡ t′ .trains → postOn t p ≡ postOn t′ p
       → AcceptedOn c v b p (runs m z) t → AcceptedOn c v b p (runs m z) t′
-  unfolding checks occupancyAt trainBefore flat
-  onward-checks start z p t t′ i ec et h = absurd (false≢true i)
-  onward-checks pass z p t t′ i ec et h = record { fits = h .fits; held = rw (ec, et) at (h .held) }
-  onward-checks leave z p t t′ i ec et h = record { fits = h .fits; held = rw (ec, et) at (h .held) }
+  unfolding checks occupancyAt crossingAhead zonesLackAhead trainBefore flat
+  onward-checks start z p t t′ i ec et eo h = absurd (false≢true i)
+  onward-checks pass z p t t′ i ec et eo h = record { fits = h .fits; held = rw (ec, et, eo) at (h .held) }
+  onward-checks leave z p t t′ i ec et eo h = record { fits = h .fits; held = rw (ec, et) at (h .held) }
 
   abbrev trainsOf : Motion → ℕ → ℕ → Track → List ℕ
   trainsOf m z p t = trackAfterStep c b p (runs m z) t .trains
@@ -120,11 +120,24 @@ module _ (c : Settings) (v b : Bool) where
   abbrev lastOf : Motion → ℕ → ℕ → Track → List ℕ
   lastOf m z p t = trackAfterStep c b p (runs m z) t .last
 
-  onward-moved : (m : Motion) (z p : ℕ) (t : Track) → onward m ≡ true → trackAfterStep c b p (runs m z) t ≡ withTrains t (trainsOf m z p t) (lastOf m z p t)
+  abbrev ownOf : Motion → ℕ → ℕ → Track → Post
+  ownOf m z p t = effect c (flat p (runs m z)) (siteOn b p t) .own
+
+  -- its trains moved on, its post's record not yet stored
+  abbrev rolled : Motion → ℕ → ℕ → Track → Track
+  rolled m z p t = withTrains t (trainsOf m z p t) (lastOf m z p t)
+
+  onward-moved : (m : Motion) (z p : ℕ) (t : Track) → onward m ≡ true → trackAfterStep c b p (runs m z) t ≡ withPost (rolled m z p t) p (ownOf m z p t)
   unfolding trackAfter effect flat
   onward-moved start z p t i = absurd (false≢true i)
-  onward-moved pass z p t i = rw (set-getD (t .posts) p blank) refl
-  onward-moved leave z p t i = rw (set-getD (t .posts) p blank) refl
+  onward-moved pass z p t i = refl
+  onward-moved leave z p t i = refl
+
+  onward-own : (m : Motion) (z p : ℕ) (t t′ : Track) → onward m ≡ true → postOn t p ≡ postOn t′ p → ownOf m z p t ≡ ownOf m z p t′
+  unfolding effect flat
+  onward-own start z p t t′ i eo = absurd (false≢true i)
+  onward-own pass z p t t′ i eo = rw eo refl
+  onward-own leave z p t t′ i eo = eo
 
   onward-cells : (clears : Bool) (m : Motion) (z p : ℕ) (t t′ : Track) (l l′ : List ℕ) → onward m ≡ true → t .cvt ≡ t′ .cvt → l ≡ l′
       → cellsAfter c clears (effect c (flat p (runs m z)) (siteOn b p t) .train) (siteOn b p t) l
@@ -188,7 +201,7 @@ module _ (c : Settings) (v b : Bool) where
       })
   fewer-trains (runs m z) p t trains last i f h = absurd (false≢true i)
   fewer-trains (notes k) p t trains last i f h =
-      record { fits = h .fits; held = note-checks k p (siteOn b p t) (siteOn b p t) _ _ refl (h .held) }
+      record { fits = h .fits; held = note-checks k p t (withTrains t trains last) _ _ refl refl (h .held) }
   fewer-trains (releases z) p t trains last i f h =
       let k = release-held h in
       release-accepted (h .fits) (record {
@@ -284,7 +297,7 @@ module _ (c : Settings) (v b : Bool) where
         (stays-empty m z p t (blockAhead c (siteOn b q t)) o (elsewhere q<n (hx .fits .below) e) hx
         (eqb-true (getD (t .trains) (blockAhead c (siteOn b q t)) 0) 0 (not-false (eqb (getD (t .trains) (blockAhead c (siteOn b q t)) 0) 0) u))))
 
-    onward-light : AcceptedOn c v b q l t → AcceptedOn c v b p (runs m z) t → AcceptedOn c v b q l (withTrains t (trainsOf m z p t) (lastOf m z p t))
+    onward-light : AcceptedOn c v b q l t → AcceptedOn c v b p (runs m z) t → AcceptedOn c v b q l (rolled m z p t)
     unfolding occupancyAt watchedOccupied
     onward-light hl hx = fewer-trains l q t (trainsOf m z p t) (lastOf m z p t) i (record {
       watched = watched-less (atReceivingEnd c (siteOn b q t)) refl (hl .fits .below) hx;
@@ -293,17 +306,24 @@ module _ (c : Settings) (v b : Bool) where
           (stays-last m z p t (blockAhead c (siteOn b q t)) o (elsewhere (hl .fits .below) (hx .fits .below) u) hx);
     }) hl
 
+    rolled-then : trackAfterStep c b q l t .cvt ≡ t .cvt → trackAfterStep c b q l (rolled m z p t) ≡ rolled m z p (trackAfterStep c b q l t)
+    rolled-then ec =
+        unmoved-with l q t (trainsOf m z p t) (lastOf m z p t) i
+        ∙ ap₂ (withTrains (trackAfterStep c b q l t)) (onward-trains m z p t (trackAfterStep c b q l t) o (sym ec) (sym (trains-unmoved l q t i)))
+        (onward-last m z p t (trackAfterStep c b q l t) o (sym ec) (sym (last-unmoved l q t i)))
+
     pub swap-onward : trackAfterStep c b q l t .cvt ≡ t .cvt → AcceptedOn c v b q l t → AcceptedOn c v b p (runs m z) (trackAfterStep c b q l t)
         → Swapped q l p (runs m z) t
     swap-onward ec hl hx =
-        let x1 : AcceptedOn c v b p (runs m z) t = onward-checks m z p (trackAfterStep c b q l t) t o ec (trains-unmoved l q t i) hx in
+        let eo : postOn (trackAfterStep c b q l t) p ≡ postOn t p = own-kept l t q p apart in
+        let x1 : AcceptedOn c v b p (runs m z) t = onward-checks m z p (trackAfterStep c b q l t) t o ec (trains-unmoved l q t i) eo hx in
         record {
           x-first = x1;
-          l-then = rw (onward-moved m z p t o) (onward-light hl x1);
+          l-then = rw (onward-moved m z p t o) (accepted-own l (rolled m z p t) q p (ownOf m z p t) apart (onward-light hl x1));
           same-end =
-              ap (trackAfterStep c b q l) (onward-moved m z p t o) ∙ unmoved-with l q t (trainsOf m z p t) (lastOf m z p t) i
-              ∙ ap₂ (withTrains (trackAfterStep c b q l t)) (onward-trains m z p t (trackAfterStep c b q l t) o (sym ec) (sym (trains-unmoved l q t i)))
-              (onward-last m z p t (trackAfterStep c b q l t) o (sym ec) (sym (last-unmoved l q t i)))
+              ap (trackAfterStep c b q l) (onward-moved m z p t o) ∙ track-own l (rolled m z p t) q p (ownOf m z p t) apart
+              ∙ ap₂ (λ u. withPost u p) (rolled-then ec) (onward-own m z p t (trackAfterStep c b q l t) o (sym eo))
               ∙ sym (onward-moved m z p (trackAfterStep c b q l t) o);
-          l-says = ap (λ u. effect c (flat q l) (siteOn b q u) .said) (onward-moved m z p t o);
+          l-says = ap (λ u. effect c (flat q l) (siteOn b q u) .said) (onward-moved m z p t o)
+              ∙ says-own l (rolled m z p t) q p (ownOf m z p t) apart;
         }

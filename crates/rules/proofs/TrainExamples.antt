@@ -4,12 +4,12 @@ use mathlib.Core.Path.{refl}
 use mathlib.Core.List.{[], _∷_, _++_}
 use Rattle.section.specs.declared.Section.{Section}
 use Rattle.section.specs.declared.Walk.the-variants.{Settled}
-use Rattle.section.specs.declared.Fault.the-variants.{One, Two, Three}
-use Rattle.section.specs.declared.Step.the-variants.{Order, Start, Pass, Leave, FaultOn, FaultOff, Release}
-use Rattle.rules.proofs.Days.{A, B, CVT, telephone, materialised, fresh, changedTrack, running, holding, on, reversalToCvt}
+use Rattle.section.specs.declared.Fault.the-variants.{One, Two, Three, Four}
+use Rattle.section.specs.declared.Step.the-variants.{Order, Start, Pass, Leave, FaultOn, FaultOff, Release, Caution}
+use Rattle.rules.proofs.Days.{A, B, CVT, telephone, materialised, withCrossings, fresh, changedTrack, running, holding, on, reversalToCvt}
 use Rattle.rules.proofs.Rows.{_gives_, Holds, judged, judgedFrom, accepted, refused, _before_}
 
--- ## Kind 5, start: "11; 12 not the sending end; 17; 13; 18"
+-- ## Kind 5, start: "11; 12 not the sending end; 17; 13; 18", then 22, "last check of start and pass"
 
 -- "train enters", at the sending end of each track in each direction
 pub start-accepted :
@@ -127,6 +127,67 @@ pub start-after-a-fault :
 unfolding judged
 start-after-a-fault = refl
 
+-- "Start or pass into a block section with a crossing, under fault 4 .., needs an E.S. 379 form for that train": upward and downward, in VNS
+-- and in CVT
+pub start-refused-22-under-fault-4 :
+    Holds
+    ((judged (withCrossings (0 ∷ []) (telephone 3 7)) (on A (FaultOn 0 Four ∷ Start 0 7 ∷ [])) gives refused 22)
+    ∷ (judged (withCrossings (1 ∷ []) (materialised 3 7)) (on B (FaultOn 2 Four ∷ Start 2 7 ∷ [])) gives refused 22)
+    ∷ (judged (withCrossings (0 ∷ []) (telephone 2 3)) (on A (reversalToCvt (0 ∷ 1 ∷ []) ++ FaultOn 1 Four ∷ Start 1 7 ∷ [])) gives refused 22)
+    ∷ (judged (withCrossings (0 ∷ []) (telephone 3 7)) (on A (FaultOn 0 Four ∷ Caution 0 7 ∷ Start 0 7 ∷ [])) gives accepted)
+    ∷ (judged (withCrossings (1 ∷ []) (materialised 3 7)) (on B (Caution 2 7 ∷ FaultOn 2 Four ∷ Start 2 7 ∷ [])) gives accepted)
+    -- the form of another train, of another post, of the other track
+    ∷ (judged (withCrossings (0 ∷ []) (telephone 3 7)) (on A (FaultOn 0 Four ∷ Caution 0 8 ∷ Start 0 7 ∷ [])) gives refused 22)
+    ∷ (judged (withCrossings (0 ∷ 1 ∷ []) (telephone 3 7)) (on A (FaultOn 0 Four ∷ Caution 1 7 ∷ Start 0 7 ∷ [])) gives refused 22)
+    ∷ (judged (withCrossings (0 ∷ []) (telephone 2 3)) (on B (Caution 1 7 ∷ []) ++ on A (FaultOn 0 Four ∷ Start 0 7 ∷ [])) gives refused 22)
+    ∷ [])
+unfolding judged
+start-refused-22-under-fault-4 = refl
+
+-- without fault 4, or without a crossing ahead, none is needed
+pub start-without-a-caution-form :
+    Holds
+    ((judged (withCrossings (0 ∷ []) (telephone 3 7)) (on A (FaultOn 0 Two ∷ FaultOn 0 Three ∷ Start 0 7 ∷ [])) gives accepted)
+    ∷ (judged (withCrossings (0 ∷ []) (telephone 3 7)) (on A (FaultOn 0 Four ∷ FaultOff 0 Four ∷ Start 0 7 ∷ [])) gives accepted)
+    -- fault 4 of another post, of the other track
+    ∷ (judged (withCrossings (0 ∷ 1 ∷ []) (telephone 3 7)) (on A (FaultOn 1 Four ∷ FaultOn 2 Four ∷ Start 0 7 ∷ [])) gives accepted)
+    ∷ (judged (withCrossings (0 ∷ []) (telephone 2 3)) (on B (FaultOn 0 Four ∷ []) ++ on A (Start 0 7 ∷ [])) gives accepted)
+    -- no crossing, or one further ahead
+    ∷ (judged (telephone 3 7) (on A (FaultOn 0 Four ∷ Start 0 7 ∷ [])) gives accepted)
+    ∷ (judged (withCrossings (1 ∷ []) (telephone 3 7)) (on A (FaultOn 0 Four ∷ Start 0 7 ∷ [])) gives accepted)
+    ∷ (judged (withCrossings (0 ∷ 128 ∷ []) (materialised 3 7)) (on B (FaultOn 2 Four ∷ Start 2 7 ∷ [])) gives accepted)
+    ∷ [])
+unfolding judged
+start-without-a-caution-form = refl
+
+-- "or in CVT without zones": A runs downward in CVT, B upward
+pub start-refused-22-without-zones :
+    Holds
+    ((judged (withCrossings (129 ∷ []) (telephone 3 7)) (on A (reversalToCvt (0 ∷ 1 ∷ 2 ∷ []) ++ Start 2 7 ∷ [])) gives refused 22)
+    ∷ (judged (withCrossings (128 ∷ []) (materialised 3 7)) (on B (reversalToCvt (2 ∷ 1 ∷ 0 ∷ []) ++ Start 0 7 ∷ [])) gives refused 22)
+    ∷ (judged (withCrossings (129 ∷ []) (telephone 3 7)) (on A (reversalToCvt (0 ∷ 1 ∷ 2 ∷ []) ++ Caution 2 7 ∷ Start 2 7 ∷ [])) gives accepted)
+    -- two crossings in one block section, of which the second is without
+    ∷ (judged (withCrossings (1 ∷ 129 ∷ []) (telephone 3 7)) (on A (reversalToCvt (0 ∷ 1 ∷ 2 ∷ []) ++ Start 2 7 ∷ [])) gives refused 22)
+    -- with zones, or without them elsewhere
+    ∷ (judged (withCrossings (1 ∷ 1 ∷ []) (telephone 3 7)) (on A (reversalToCvt (0 ∷ 1 ∷ 2 ∷ []) ++ Start 2 7 ∷ [])) gives accepted)
+    ∷ (judged (withCrossings (128 ∷ 1 ∷ []) (telephone 3 7)) (on A (reversalToCvt (0 ∷ 1 ∷ 2 ∷ []) ++ Start 2 7 ∷ [])) gives accepted)
+    -- in VNS they are not asked for
+    ∷ (judged (withCrossings (128 ∷ []) (telephone 3 7)) (on A (Start 0 7 ∷ [])) gives accepted)
+    ∷ (judged (withCrossings (128 ∷ 129 ∷ []) (materialised 3 7)) (on B (Start 2 7 ∷ [])) gives accepted)
+    ∷ [])
+unfolding judged
+start-refused-22-without-zones = refl
+
+-- A in CVT with the devices at VNS, a crossing without zones in block section 1: no day reaches it
+unfoldable pub withoutZones : Section
+unfolding fresh
+withoutZones = changedTrack A (running CVT Settled) (fresh (withCrossings (129 ∷ []) (telephone 3 7)))
+
+-- the running direction asks for the form, not the device
+pub caution-form-looks-at-no-device : Holds ((judgedFrom withoutZones (on A (Start 2 7 ∷ [])) gives refused 22) ∷ [])
+unfolding withoutZones judged
+caution-form-looks-at-no-device = refl
+
 -- "checks in order"
 pub start-checks-in-order :
     Holds
@@ -134,11 +195,13 @@ pub start-checks-in-order :
     ∷ (judged (telephone 3 7) (on A (Start 0 7 ∷ Start 2 7 ∷ [])) gives 12 before (17 ∷ []))
     ∷ (judged (telephone 3 7) (on B (Start 2 7 ∷ FaultOn 2 One ∷ Start 2 7 ∷ [])) gives 17 before (13 ∷ 18 ∷ []))
     ∷ (judged (telephone 3 7) (on B (Start 2 7 ∷ FaultOn 2 One ∷ Start 2 8 ∷ [])) gives 13 before (18 ∷ []))
+    ∷ (judged (withCrossings (0 ∷ []) (telephone 3 7)) (on A (Start 0 7 ∷ FaultOn 0 Four ∷ Start 0 8 ∷ [])) gives 13 before (22 ∷ []))
+    ∷ (judged (withCrossings (0 ∷ []) (telephone 3 7)) (on A (FaultOn 0 One ∷ FaultOn 0 Four ∷ Start 0 7 ∷ [])) gives 18 before (22 ∷ []))
     ∷ [])
 unfolding judged
 start-checks-in-order = refl
 
--- ## Kind 6, pass: "12 an end post; 17; 13"
+-- ## Kind 6, pass: "12 an end post; 17; 13", then 22
 
 -- "train moves one block section on"
 pub pass-accepted :
@@ -212,7 +275,64 @@ pub pass-elsewhere : Holds ((judgedFrom twoInOneStretch (on A (Pass 1 7 ∷ []))
 unfolding twoInOneStretch judged
 pass-elsewhere = refl
 
--- a pass looks at no fault, no walk and no device: a train runs on in a reversal behind it
+-- "Start or pass into a block section with a crossing, under fault 4 .."
+pub pass-refused-22-under-fault-4 :
+    Holds
+    ((judged (withCrossings (1 ∷ []) (telephone 3 7)) (on A (FaultOn 1 Four ∷ Start 0 7 ∷ Pass 1 7 ∷ [])) gives refused 22)
+    ∷ (judged (withCrossings (0 ∷ []) (materialised 3 7)) (on B (FaultOn 1 Four ∷ Start 2 7 ∷ Pass 1 7 ∷ [])) gives refused 22)
+    ∷ (judged (withCrossings (0 ∷ []) (telephone 3 5)) (on A (reversalToCvt (0 ∷ 1 ∷ 2 ∷ []) ++ Start 2 7 ∷ FaultOn 1 Four ∷ Pass 1 7 ∷ [])) gives refused 22)
+    ∷ (judged (withCrossings (1 ∷ []) (telephone 3 7)) (on A (FaultOn 1 Four ∷ Start 0 7 ∷ Caution 1 7 ∷ Pass 1 7 ∷ [])) gives accepted)
+    -- the form of another train, of another post
+    ∷ (judged (withCrossings (1 ∷ []) (telephone 3 7)) (on A (FaultOn 1 Four ∷ Start 0 7 ∷ Caution 1 8 ∷ Pass 1 7 ∷ [])) gives refused 22)
+    ∷ (judged (withCrossings (0 ∷ 1 ∷ []) (telephone 3 7)) (on A (FaultOn 1 Four ∷ Start 0 7 ∷ Caution 0 7 ∷ Pass 1 7 ∷ [])) gives refused 22)
+    -- no crossing ahead, or one behind the train
+    ∷ (judged (telephone 3 7) (on A (FaultOn 1 Four ∷ Start 0 7 ∷ Pass 1 7 ∷ [])) gives accepted)
+    ∷ (judged (withCrossings (0 ∷ []) (telephone 3 7)) (on A (FaultOn 1 Four ∷ Start 0 7 ∷ Pass 1 7 ∷ [])) gives accepted)
+    ∷ [])
+unfolding judged
+pass-refused-22-under-fault-4 = refl
+
+-- "or in CVT without zones": at a post that begins no stretch too
+pub pass-refused-22-without-zones :
+    Holds
+    ((judged (withCrossings (128 ∷ []) (telephone 3 5)) (on A (reversalToCvt (0 ∷ 1 ∷ 2 ∷ []) ++ Start 2 7 ∷ Pass 1 7 ∷ [])) gives refused 22)
+    ∷ (judged (withCrossings (129 ∷ []) (materialised 3 7)) (on B (reversalToCvt (2 ∷ 1 ∷ 0 ∷ []) ++ Start 0 7 ∷ Pass 1 7 ∷ [])) gives refused 22)
+    ∷ (judged (withCrossings (128 ∷ []) (telephone 3 5)) (on A (reversalToCvt (0 ∷ 1 ∷ 2 ∷ []) ++ Start 2 7 ∷ Caution 1 7 ∷ Pass 1 7 ∷ [])) gives accepted)
+    -- two crossings in one block section, of which the second is without
+    ∷ (judged (withCrossings (0 ∷ 128 ∷ []) (telephone 3 7)) (on A (reversalToCvt (0 ∷ 1 ∷ 2 ∷ []) ++ Start 2 7 ∷ Pass 1 7 ∷ [])) gives refused 22)
+    -- with zones, and in VNS
+    ∷ (judged (withCrossings (0 ∷ []) (telephone 3 7)) (on A (reversalToCvt (0 ∷ 1 ∷ 2 ∷ []) ++ Start 2 7 ∷ Pass 1 7 ∷ [])) gives accepted)
+    ∷ (judged (withCrossings (129 ∷ []) (telephone 3 7)) (on A (Start 0 7 ∷ Pass 1 7 ∷ [])) gives accepted)
+    ∷ [])
+unfolding judged
+pass-refused-22-without-zones = refl
+
+-- "checks in order"
+pub pass-checks-in-order :
+    Holds
+    ((judged (withCrossings (0 ∷ []) (telephone 3 7)) (on A (FaultOn 0 Four ∷ Pass 0 7 ∷ [])) gives 12 before (17 ∷ 22 ∷ []))
+    ∷ (judged (withCrossings (1 ∷ []) (telephone 3 7)) (on A (FaultOn 1 Four ∷ Start 0 7 ∷ Pass 1 8 ∷ [])) gives 17 before (22 ∷ []))
+    ∷ (judged (withCrossings (1 ∷ []) (telephone 3 7)) (on A (Start 0 7 ∷ Pass 1 7 ∷ Start 0 8 ∷ FaultOn 1 Four ∷ Pass 1 8 ∷ [])) gives 13 before (22 ∷ []))
+    ∷ [])
+unfolding judged
+pass-checks-in-order = refl
+
+-- ## A caution form is "used up by that train's entry, needed or not"
+
+pub caution-form-serves-once :
+    Holds
+    ((judged (withCrossings (0 ∷ []) (telephone 2 3)) (on A (FaultOn 0 Four ∷ Caution 0 7 ∷ Start 0 7 ∷ Leave 1 7 ∷ Start 0 7 ∷ [])) gives refused 22)
+    ∷ (judged (withCrossings (0 ∷ []) (telephone 2 3)) (on A (Caution 0 7 ∷ Start 0 7 ∷ Leave 1 7 ∷ FaultOn 0 Four ∷ Start 0 7 ∷ [])) gives refused 22)
+    -- the entry of another train leaves it
+    ∷ (judged (withCrossings (0 ∷ []) (telephone 2 3)) (on A (Caution 0 8 ∷ Start 0 7 ∷ Leave 1 7 ∷ FaultOn 0 Four ∷ Start 0 8 ∷ [])) gives accepted)
+    -- "A newer form replaces the older"
+    ∷ (judged (withCrossings (0 ∷ []) (telephone 2 3)) (on A (FaultOn 0 Four ∷ Caution 0 7 ∷ Caution 0 8 ∷ Start 0 7 ∷ [])) gives refused 22)
+    ∷ (judged (withCrossings (0 ∷ []) (telephone 2 3)) (on A (FaultOn 0 Four ∷ Caution 0 7 ∷ Caution 0 8 ∷ Start 0 8 ∷ [])) gives accepted)
+    ∷ [])
+unfolding judged
+caution-form-serves-once = refl
+
+-- a pass looks at no walk and no device, and of the faults at fault 4 alone: a train runs on in a reversal behind it
 pub pass-in-a-reversal :
     Holds
     ((judged (materialised 4 15) (on A (FaultOn 2 One ∷ Start 0 7 ∷ Pass 1 7 ∷ Order 0 ∷ Pass 2 7 ∷ [])) gives accepted)

@@ -8,7 +8,7 @@ use lib.Dec.{eqb}
 use Rattle.section.specs.Bytes.{within}
 use Rattle.section.specs.Step.{isTrainKind, kindOf, numberOf}
 use Rattle.rules.specs.Demand3.{AcceptedStep, kind, post, number, isStepOfTrain, isOfTrain, Run, noteStep}
-use Rattle.rules.proofs.View.{order, setDevice, announce, acknowledge, key, Motion, start, pass, leave, measures, fault}
+use Rattle.rules.proofs.View.{order, setDevice, announce, acknowledge, key, Motion, start, pass, leave, measures, fault, caution}
 use Rattle.rules.proofs.View.{View, walks, runs, notes, releases, flat, post-flat, Seen, shown}
 use Rattle.rules.proofs.Reading.{Says}
 use Rattle.rules.proofs.Runs.{noteMotion}
@@ -48,6 +48,7 @@ train-kind p z number (notes (measures true)) e = refl
 train-kind p z number (notes (measures false)) e = refl
 train-kind p z number (notes (fault true f)) e = refl
 train-kind p z number (notes (fault false f)) e = refl
+train-kind p z number (notes (caution y)) e = refl
 train-kind p z number (releases y) e = refl
 
 module _ (n : ℕ) (d : AcceptedStep) (x : Seen) (h : Says n (d .bytes) (shown x)) where

@@ -25,7 +25,7 @@ use Rattle.rules.specs.Site.{isSettled, isTurn, siteOn, otherSettledOnVn
 use Rattle.rules.specs.Table.{checks, effect, trackAfter}
 use Rattle.rules.specs.Demand3.{AcceptedStep, track, post, kind, isOnTrack, keep, otherEnd, endsAt, noteReversal, reversalFrom, runs?, underWay}
 use Rattle.rules.proofs.Facts.{by-track, beq-same, beq-other, first-rank, last-rank, not-last-rank}
-use Rattle.rules.proofs.View.{order, setDevice, announce, acknowledge, key, start, pass, leave, measures, fault, View, walks, runs, notes}
+use Rattle.rules.proofs.View.{order, setDevice, announce, acknowledge, key, start, pass, leave, measures, fault, caution, View, walks, runs, notes}
 use Rattle.rules.proofs.View.{releases, flat, post-flat, Seen, shown}
 use Rattle.rules.proofs.Reading.{Says}
 use Rattle.rules.proofs.Frame.{is-turn, keepsRunning}
@@ -99,6 +99,7 @@ module _ (c : Settings) where
     running-noted (notes (measures false)) i = refl
     running-noted (notes (fault true f)) i = refl
     running-noted (notes (fault false f)) i = refl
+    running-noted (notes (caution z)) i = refl
     running-noted (releases z) i = refl
 
     running-agrees : (k : View) → keepsRunning k ≡ true

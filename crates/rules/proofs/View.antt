@@ -1,4 +1,4 @@
--- A nested view of the thirteen kinds of steps, for proofs: facts about what walks, what moves a train, what a post notes of itself and a
+-- A nested view of the fourteen kinds of steps, for proofs: facts about what walks, what moves a train, what a post notes of itself and a
 -- release are proved once each. The table is read through `flat`, which gives the step back.
 use Prim.Native.Nat.{ℕ}
 use mathlib.Core.Bool.{Bool, true, false}
@@ -17,10 +17,11 @@ pub data Reversal : Type 0 where
 pub data Motion : Type 0 where
   start pass leave : Motion
 
--- kinds 8 to 11: in place or lifted, standing or gone
+-- kinds 8 to 11: in place or lifted, standing or gone; kind 14: a caution form for a train
 pub data Condition : Type 0 where
   measures : Bool → Condition
   fault : Bool → Fault → Condition
+  caution : ℕ → Condition
 
 pub data View : Type 0 where
   walks : Reversal → View
@@ -42,6 +43,7 @@ flat p (notes (measures true)) = step.MeasuresOn p
 flat p (notes (measures false)) = step.MeasuresOff p
 flat p (notes (fault true f)) = step.FaultOn p f
 flat p (notes (fault false f)) = step.FaultOff p f
+flat p (notes (caution z)) = step.Caution p z
 flat p (releases z) = step.Release p z
 
 unfoldable pub view : Step → View
@@ -58,6 +60,7 @@ view (step.FaultOn p f) = notes (fault true f)
 view (step.FaultOff p f) = notes (fault false f)
 view (step.Release p z) = releases z
 view (step.Key p) = walks key
+view (step.Caution p z) = notes (caution z)
 
 pub flat-view : (x : Step) → flat (postOf x) (view x) ≡ x
 unfolding flat view postOf
@@ -74,6 +77,7 @@ flat-view (step.FaultOn p f) = refl
 flat-view (step.FaultOff p f) = refl
 flat-view (step.Release p z) = refl
 flat-view (step.Key p) = refl
+flat-view (step.Caution p z) = refl
 
 -- what is proved of a view at a post holds of every step there
 pub by-view {κ} : (P : ℕ → Step → Type κ) → ((p : ℕ) (k : View) → P p (flat p k)) → (x : Step) → P (postOf x) x
@@ -93,6 +97,7 @@ post-flat p (notes (measures true)) = refl
 post-flat p (notes (measures false)) = refl
 post-flat p (notes (fault true f)) = refl
 post-flat p (notes (fault false f)) = refl
+post-flat p (notes (caution z)) = refl
 post-flat p (releases z) = refl
 
 -- ## A step with its track

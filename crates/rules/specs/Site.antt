@@ -1,5 +1,5 @@
--- What a step looks at (document 01, "The section", "Steps, checks in order"; document 02, request 1): the site, where it is taken, and the occupancy, the trains
--- that it asks for and the other track. An effect takes the site alone.
+-- What a step looks at (document 01, "The section", "Steps, checks in order"; document 02, request 1): the site, where it is taken, and the
+-- occupancy, the trains that it asks for and the other track. An effect takes the site alone.
 use Prim.Native.Nat.{ℕ, zero, suc, _-_}
 use mathlib.Core.Bool.{Bool, true, false, cond, not, _&&_, _||_}
 use mathlib.Core.List.{List}

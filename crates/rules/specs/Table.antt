@@ -1,4 +1,5 @@
--- The table of steps (document 01, "Steps, checks in order"; document 02, request 1): for each kind its checks in the paper's order, and its effect.
+-- The table of steps (document 01, "Steps, checks in order"; document 02, request 1): for each kind its checks in the paper's order, and its
+-- effect.
 use Prim.Native.Nat.{ℕ}
 use mathlib.Core.Bool.{Bool, true, false, cond, not, _&&_, _||_}
 use mathlib.Core.List.{List, [], _∷_}
@@ -97,8 +98,8 @@ module _ (c : Settings) where
       (isSettled (e .walk) else 11) ∷ (atSendingEnd c e else 12) ∷ (not (g .numberOnTrack) else 17) ∷ (not (g .stretchOccupied) else 13)
       ∷ (fault1Confirmed e else 18) ∷ (cautionHeld number e else 22) ∷ []
   checks (Pass p number) e g =
-      (not (atSendingEnd c e || atReceivingEnd c e) else 12) ∷ (eqb (g .trainBefore) number else 17) ∷ (not (passOccupied e g) else 13)
-      ∷ (cautionHeld number e else 22) ∷ []
+      (not (atSendingEnd c e || atReceivingEnd c e) else 12)
+      ∷ (eqb (g .trainBefore) number else 17) ∷ (not (passOccupied e g) else 13) ∷ (cautionHeld number e else 22) ∷ []
   checks (Leave p number) e g = (atReceivingEnd c e else 12) ∷ (eqb (g .trainBefore) number else 17) ∷ []
   checks (MeasuresOn p) e g = (not (e .own .measures) else 21) ∷ []
   checks (MeasuresOff p) e g = (e .own .measures else 21) ∷ (not (e .own .device) else 16) ∷ []
@@ -115,7 +116,8 @@ module _ (c : Settings) where
 
   -- ## Effects
 
-  -- "device turned, release mark gone"; "set or key removes" the caution form; "the running direction changes, and the last post gets permission, at that last set"
+  -- "device turned, release mark gone"; "set or key removes" the caution form; "the running direction changes, and the last post gets
+  -- permission, at that last set"
   abbrev pub setting : Site → Post → Effect
   setting e own = record {
     own = permitted (atReceivingEnd c e || own .permission) (cautioned 0 (marked false (turned (not (e .cvt)) own)));
