@@ -1,4 +1,4 @@
--- The length of settings, the first number that fails a test, and the first malformed step.
+-- The length of settings, a trailer that fits its file, the first number that fails a test, and the first malformed step.
 use mathlib.Core.Path.{_≡_, refl, sym, _∙_, ap}
 use mathlib.Core.Bool.{Bool, true, false, cond, true≢false}
 use mathlib.Core.List.{List}
@@ -11,17 +11,42 @@ use borrow.Author.Tests.{eqb-true, ltb-false, leb-true, leb-false, ne-eqb}
 use Rattle.section.specs.Numbers.{stepLength}
 use Rattle.section.specs.Settings.{settingsInRange}
 use Rattle.section.specs.Step.{wellFormed}
-use Rattle.section.proofs.Laws.{and-right}
-use Rattle.layout.specs.Layout.{settingsLength, settingsOf, stepAt, stepCount}
-use Rattle.file_tests.specs.Tests.{zerosWellFormed, settingsWellFormed, leading, wellAt, firstMalformed, someMalformed}
+use Rattle.section.proofs.Laws.{and-parts, and-right}
+use Rattle.layout.specs.Layout.{mostSteps, settingsLength, settingsDistance, stepsDistance, tailOf, stepCount, trailerIn, tailIn, stepsIn, settingsOf, stepAt}
+use Rattle.layout.proofs.Parts.{steps-length}
+use Rattle.file_tests.specs.Tests.{lengthSuits, trailerWellFormed, trailerFits, zerosWellFormed, settingsWellFormed}
+use Rattle.file_tests.specs.Tests.{leading, wellAt, firstMalformed, someMalformed}
 
 -- ## Settings
 
-pub settings-eight : (s : List ℕ) → settingsWellFormed s ≡ true → length s ≡ settingsLength
+-- they are as long as a file has them
+pub settings-length : (s : List ℕ) → settingsWellFormed s ≡ true → length s ≡ settingsLength + tailOf (settingsOf s)
 unfolding settingsWellFormed
-settings-eight s e =
+settings-length s e =
     let h = and-right (settingsInRange (settingsOf s)) _ e in
-    eqb-true _ _ (and-right (zerosWellFormed s) (eqb (length s) settingsLength) h)
+    eqb-true _ _ (and-right (zerosWellFormed s) (eqb (length s) (settingsLength + tailOf (settingsOf s))) h)
+
+pub settings-enough : (s : List ℕ) → settingsWellFormed s ≡ true → settingsLength ≤ length s
+settings-enough s e = omega (arith, settings-length s e)
+
+-- ## The trailer
+
+-- what a file has whose trailer is what its length demands
+pub record TrailerFits (file : List ℕ) : Type 0 where
+  pub least : settingsDistance (tailIn file) ≤ length file
+  pub most : length file ≤ stepsDistance (tailIn file) mostSteps
+  pub trailer-well : trailerWellFormed (tailIn file) (stepCount (stepsIn file)) (trailerIn file) ≡ true
+
+pub few-steps : (file : List ℕ) → length file ≤ stepsDistance (tailIn file) mostSteps → stepCount (stepsIn file) ≤ mostSteps
+unfolding stepCount
+few-steps file h = omega (arith, steps-length file)
+
+pub trailer-fits : (file : List ℕ) → trailerFits file ≡ true → TrailerFits file
+unfolding trailerFits lengthSuits
+trailer-fits file e =
+    let a = and-parts (lengthSuits (tailIn file) (length file)) _ e in
+    let b = and-parts (leb (settingsDistance (tailIn file)) (length file)) (leb (length file) (stepsDistance (tailIn file) mostSteps)) (a .0) in
+    record { least = leb-true _ _ (b .0); most = leb-true _ _ (b .1); trailer-well = a .1 }
 
 -- ## The first number that fails a test
 

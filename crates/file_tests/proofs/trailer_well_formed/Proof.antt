@@ -8,19 +8,25 @@ use Rattle.file_tests.proofs.trailer_well_formed.Tie as tie
 
 returns : tie.Need-returns
 unfolding trailerWellFormed
-returns c = rw (told-false (c .before .mark-well-formed .ensures) (c .if1 .taken))
+returns c = rw (← c .before .before .mark-of .ensures, told-false (c .before .has-mark .ensures) (c .if1 .taken))
 
 returns-2 : tie.Need-returns-2
 unfolding trailerWellFormed
 returns-2 c = let b = c .before .before in
-    rw (told-true (b .before .mark-well-formed .ensures) (b .if1 .left), ← c .before .le32-at .ensures, ne-eqb _ _ (c .if2 .taken))
+    rw (
+      ← b .before .before .mark-of .ensures,
+      told-true (b .before .has-mark .ensures) (b .if1 .left),
+      ← c .before .le32-at .ensures,
+      ne-eqb _ _ (c .if2 .taken),
+    )
 
 returns-3 : tie.Need-returns-3
 unfolding trailerWellFormed
 returns-3 c = let e = c .before .before in
     let b = e .before .before in
     rw (
-      told-true (b .before .mark-well-formed .ensures) (b .if1 .left),
+      ← b .before .before .mark-of .ensures,
+      told-true (b .before .has-mark .ensures) (b .if1 .left),
       ← e .before .le32-at .ensures,
       eq-eqb _ _ (e .if2 .left),
       ← c .before .le32-at2 .ensures,
@@ -33,7 +39,8 @@ returns-4 c = let g = c .before in
     let e = g .before .before in
     let b = e .before .before in
     rw (
-      told-true (b .before .mark-well-formed .ensures) (b .if1 .left),
+      ← b .before .before .mark-of .ensures,
+      told-true (b .before .has-mark .ensures) (b .if1 .left),
       ← e .before .le32-at .ensures,
       eq-eqb _ _ (e .if2 .left),
       ← g .before .le32-at2 .ensures,
@@ -46,11 +53,14 @@ trailer-well-formed-spec =
     tie.close
     (tie.spec
     (λ c κs. search needs)
+    (λ c κs. search needs)
     returns
     (λ c κs. search needs)
     (λ c. search needs)
+    (λ c. search needs)
     returns-2
     (λ c κs. search needs)
+    (λ c. search needs)
     (λ c. search needs)
     (λ c. search needs)
     (λ c. search needs)

@@ -1,4 +1,4 @@
--- The two numbers are those of their bytes.
+-- The two numbers are those of their bytes, the crossings those of the tail.
 use Rattle.layout.specs.Layout.{settingsOf}
 use borrow.Author.Needs.{needs}
 use Rattle.layout.proofs.settings_of.Statement.{statement}
@@ -6,7 +6,7 @@ use Rattle.layout.proofs.settings_of.Tie as tie
 
 returns : tie.Need-returns
 unfolding settingsOf
-returns c = rw (← c .le16-of2 .ensures, ← c .before .before .before .le16-of .ensures)
+returns c = rw (← c .crossings-of .ensures, ← c .before .le16-of2 .ensures, ← c .before .before .before .before .le16-of .ensures)
 
 pub settings-of-spec : {M : Type 1} → statement M
 settings-of-spec =
@@ -19,5 +19,6 @@ settings-of-spec =
     (λ c κs. search needs)
     (λ c. search needs)
     (λ c. search needs)
+    (λ c κs. search needs)
     (λ c κs. search needs)
     returns)

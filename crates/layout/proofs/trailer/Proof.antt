@@ -5,13 +5,18 @@ use Rattle.layout.proofs.trailer.Statement.{statement}
 use Rattle.layout.proofs.trailer.Tie as tie
 
 returns : tie.Need-returns
-returns c = trailer-is _ _ _ _ (c .before .before .le32-bytes .ensures) (c .before .le32-bytes2 .ensures) (c .le32-bytes3 .ensures)
+returns c =
+    trailer-is _ _ _ _ _ _ (c .before .before .before .mark-of .ensures) (c .before .before .le32-bytes .ensures) (c .before .le32-bytes2 .ensures)
+    (c .le32-bytes3 .ensures)
 
 pub trailer-spec : {M : Type 1} → statement M
 trailer-spec =
     tie.close
     (tie.spec
     (λ c κs. search needs)
+    (λ c. search needs)
+    (λ c κs. search needs)
+    (λ c. search needs)
     (λ c. search needs)
     (λ c. search needs)
     (λ c κs. search needs)
