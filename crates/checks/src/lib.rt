@@ -40,5 +40,6 @@ pub fn verdict(
         Step::FaultOff { post: _, fault } => post::fault_off(e, fault),
         Step::Release { post: _, number } => emergency::release(c, e, number, trains, last),
         Step::Key { post: _ } => emergency::key(c, e, trains),
+        Step::Caution { post: _, number: _ } => post::caution(c, e),
     }
 }

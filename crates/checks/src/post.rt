@@ -1,14 +1,19 @@
-// The steps that a post takes for itself: measures and faults. They look at no train, and hold under any settings.
+// The steps that a post takes for itself: measures, faults, caution forms. They look at no train; those of measures and faults hold under any
+// settings.
 ghost use mathlib.Core.Bool.{false};
 ghost use mathlib.Core.List.{[]};
 ghost use mathlib.Core.Path.{_≡_};
+ghost use Prim.Native.Nat.{ℕ};
 ghost use Rattle.section.specs.declared.Settings.{Settings};
-ghost use Rattle.section.specs.declared.Step.the-variants.{MeasuresOn, MeasuresOff, FaultOn, FaultOff};
+ghost use Rattle.section.specs.declared.Step.the-variants.{MeasuresOn, MeasuresOff, FaultOn, FaultOff, Caution};
+ghost use Rattle.site.specs.OnTheLine.{OnTheLine};
 ghost use Rattle.site.specs.VerdictAt.{verdictAt};
 use rules::Site;
 use section::Fault;
 use section::Said;
+use section::Settings;
 use section::Verdict;
+use site::crossings::crossing_ahead;
 
 pub fn measures_on(e: Site) -> Verdict
     ensures { λ r. ⌜ ((c : Settings) → r ≡ verdictAt c false (MeasuresOn (e .post)) e [] []) ⌝ }
@@ -47,4 +52,15 @@ pub fn fault_off(e: Site, fault: Fault) -> Verdict
         return Verdict::Refused(21);
     }
     Verdict::Accepted(Said::Nothing)
+}
+
+// For any train.
+pub fn caution(c: Settings, e: Site) -> Verdict
+    requires { ⌜ OnTheLine c e ⌝ }
+    ensures { λ r. ⌜ ((number : ℕ) → r ≡ verdictAt c false (Caution (e .post) number) e [] []) ⌝ }
+{
+    if !crossing_ahead(c, e) {
+        return Verdict::Refused(12);
+    }
+    Verdict::Accepted(Said::Nothing) // handed out
 }

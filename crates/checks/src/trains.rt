@@ -18,6 +18,7 @@ use section::Verdict;
 use site::conditions::at_end;
 use site::conditions::fault1_confirmed;
 use site::conditions::is_settled;
+use site::crossings::caution_held;
 use site::place::at_receiving_end;
 use site::place::at_sending_end;
 
@@ -41,6 +42,9 @@ pub fn start(c: Settings, e: Site, number: u16, trains: &Trains) -> Verdict
     if !fault1_confirmed(c, e) {
         return Verdict::Refused(18);
     }
+    if !caution_held(c, e, number) {
+        return Verdict::Refused(22); // at its start
+    }
     Verdict::Accepted(Said::Nothing)
 }
 
@@ -55,7 +59,10 @@ pub fn pass(c: Settings, e: Site, number: u16, trains: &Trains) -> Verdict
         return Verdict::Refused(17);
     }
     if pass_occupied(c, e, trains) {
-        return Verdict::Refused(13);
+        return Verdict::Refused(13); // also without a caution form
+    }
+    if !caution_held(c, e, number) {
+        return Verdict::Refused(22); // on its way
     }
     Verdict::Accepted(Said::Nothing)
 }

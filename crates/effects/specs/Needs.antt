@@ -3,7 +3,7 @@ use Prim.Native.Nat.{_<_}
 use Rattle.section.specs.declared.Settings.{Settings}
 use Rattle.section.specs.declared.Step.{Step}
 use Rattle.section.specs.declared.Step.the-variants.{Order, Set, Announce, Acknowledge, Start, Pass, Leave, MeasuresOn, MeasuresOff, FaultOn}
-use Rattle.section.specs.declared.Step.the-variants.{FaultOff, Release, Key}
+use Rattle.section.specs.declared.Step.the-variants.{FaultOff, Release, Key, Caution}
 use Rattle.section.specs.Numbers.{mostSeals}
 use Rattle.rules.specs.declared.Site.{Site}
 use Rattle.rules.specs.declared.Movement.{Movement}
@@ -27,6 +27,7 @@ module _ (c : Settings) (e : Site) where
   EffectNeeds (FaultOff p f) = Unit {0}
   EffectNeeds (Release p number) = Unit {0}
   EffectNeeds (Key p) = e .own .seals < mostSeals
+  EffectNeeds (Caution p number) = Unit {0}
 
   -- the block sections of a movement
   unfoldable pub HasBlocks : Movement → Type 0

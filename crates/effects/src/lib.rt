@@ -4,7 +4,7 @@ pub mod movement;
 pub mod reversal;
 
 ghost use mathlib.Core.Path.{_≡_};
-ghost use Rattle.rules.specs.Table.{withoutFault, effect};
+ghost use Rattle.rules.specs.Table.{withoutFault, usedUp, effect};
 ghost use Rattle.site.specs.OnTheLine.{OnTheLine};
 ghost use Rattle.effects.specs.Moving.{moving};
 ghost use Rattle.effects.specs.Needs.{EffectNeeds};
@@ -45,7 +45,18 @@ fn without_fault(own: Post, fault: Fault) -> Post
         Fault::One => own.faulty(Fault::One, false).marked(false),
         Fault::Two => own.faulty(Fault::Two, false),
         Fault::Three => own.faulty(Fault::Three, false),
+        Fault::Four => own.faulty(Fault::Four, false),
     }
+}
+
+// A caution form for that train is used up.
+fn used_up(own: Post, number: u16) -> Post
+    ensures { λ r. ⌜ r ≡ usedUp number own ⌝ }
+{
+    if own.caution == number {
+        return own.cautioned(0);
+    }
+    own
 }
 
 // The effect of each kind.
@@ -76,8 +87,14 @@ pub fn effect_of(c: Settings, x: Step, e: Site) -> Effect
         Step::Acknowledge { post: _ } => {
             message(e, own, Walk::Turn(e.post, Act::Set), Said::Vnsz, Said::Cvtz)
         }
-        Step::Start { post: _, number } => moving(e, own.marked(false), Movement::Enters(number)),
-        Step::Pass { post: _, number } => moving(e, own, Movement::Moves(number)),
+        Step::Start { post: _, number } => {
+            moving(
+                e,
+                used_up(own.marked(false), number),
+                Movement::Enters(number),
+            )
+        }
+        Step::Pass { post: _, number } => moving(e, used_up(own, number), Movement::Moves(number)),
         Step::Leave { post: _, number: _ } => moving(e, own, Movement::Leaves),
         Step::MeasuresOn { post: _ } => moving(e, own.measured(true), Movement::Stays),
         Step::MeasuresOff { post: _ } => moving(e, own.measured(false), Movement::Stays),
@@ -85,5 +102,6 @@ pub fn effect_of(c: Settings, x: Step, e: Site) -> Effect
         Step::FaultOff { post: _, fault } => moving(e, without_fault(own, fault), Movement::Stays),
         Step::Release { post: _, number: _ } => moving(e, own.marked(true), Movement::Stays),
         Step::Key { post: _ } => setting(c, e, own.sealed()),
+        Step::Caution { post: _, number } => moving(e, own.cautioned(number), Movement::Stays),
     }
 }

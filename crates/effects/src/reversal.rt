@@ -35,7 +35,7 @@ pub fn setting(c: Settings, e: Site, own: Post) -> Effect
     ensures { λ r. ⌜ r ≡ setting c e own ⌝ }
 {
     let cvt = e.cvt;
-    let turned = own.turned(!cvt).marked(false);
+    let turned = own.turned(!cvt).marked(false).cautioned(0);
     if place::at_receiving_end(c, e) {
         return Effect {
             own: turned.permitted(true),

@@ -1,3 +1,4 @@
+pub mod Crossings
 pub mod OnTheLine
 pub mod VerdictAt
 pub mod InItsRanges

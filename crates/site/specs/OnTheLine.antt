@@ -4,10 +4,12 @@ use Rattle.section.specs.declared.Settings.{Settings}
 use Rattle.section.specs.Numbers.{leastPosts, mostPosts}
 use Rattle.rules.specs.declared.Site.{Site}
 use Rattle.rules.specs.Site.{rankAt}
+use Rattle.site.specs.Crossings.{UnusedLast}
 
 pub record OnTheLine (c : Settings) (e : Site) : Type 0 where
   pub least : leastPosts ≤ c .posts
   pub most : c .posts ≤ mostPosts
+  pub crossings : UnusedLast (c .crossings)
   pub post : e .post < c .posts
 
 -- a block section ahead of the post

@@ -42,6 +42,7 @@ pub fn post_of(x: Step) -> u8
         Step::FaultOff { post, fault: _ } => post,
         Step::Release { post, number: _ } => post,
         Step::Key { post } => post,
+        Step::Caution { post, number: _ } => post,
     }
 }
 

@@ -45,6 +45,9 @@ release-requires c κs = c .before .before .before .pre
 key-requires : tie.Need-key-requires
 key-requires c κs = c .before .before .pre
 
+caution-requires : tie.Need-caution-requires
+caution-requires c κs = c .before .before .pre
+
 returns : tie.Need-returns
 unfolding checks occupancyAt numberOf effect
 returns c = rw (c .before .enum-told .given .1) (c .order .ensures)
@@ -97,6 +100,10 @@ returns-13 : tie.Need-returns-13
 unfolding checks occupancyAt numberOf effect
 returns-13 c = rw (c .before .enum-told7 .given .1) (c .key .ensures)
 
+returns-14 : tie.Need-returns-14
+unfolding checks occupancyAt numberOf effect
+returns-14 c = rw (c .before .enum-told8 .given .1) (c .caution .ensures (c .before .enum-told8 .given .0 .1 .0))
+
 pub verdict-spec : {M : Type 1} → statement M
 verdict-spec =
     tie.close
@@ -127,6 +134,8 @@ verdict-spec =
     release-requires
     (λ c. search needs)
     key-requires
+    (λ c. search needs)
+    caution-requires
     returns
     returns-2
     returns-3
@@ -139,4 +148,5 @@ verdict-spec =
     returns-10
     returns-11
     returns-12
-    returns-13)
+    returns-13
+    returns-14)

@@ -32,11 +32,11 @@ returns-4 c = rw (c .message2 .ensures, c .before .enum-told4 .given .1)
 
 returns-5 : tie.Need-returns-5
 unfolding effect
-returns-5 c = rw (c .moving .ensures, c .before .marked .ensures, c .before .before .before .x .given .1)
+returns-5 c = rw (c .moving .ensures, c .before .used-up .ensures, c .before .before .marked .ensures, c .before .before .before .before .x .given .1)
 
 returns-6 : tie.Need-returns-6
 unfolding effect
-returns-6 c = rw (c .moving2 .ensures, c .before .before .x2 .given .1)
+returns-6 c = rw (c .moving2 .ensures, c .before .used-up2 .ensures, c .before .before .before .x2 .given .1)
 
 returns-7 : tie.Need-returns-7
 unfolding effect
@@ -66,6 +66,10 @@ returns-13 : tie.Need-returns-13
 unfolding effect
 returns-13 c = rw (c .setting2 .ensures, c .before .sealed .ensures, c .before .before .enum-told9 .given .1)
 
+returns-14 : tie.Need-returns-14
+unfolding effect
+returns-14 c = rw (c .moving9 .ensures, c .before .cautioned .ensures, c .before .before .before .x5 .given .1)
+
 pub effect-of-spec : {M : Type 1} → statement M
 effect-of-spec =
     tie.close
@@ -83,7 +87,9 @@ effect-of-spec =
     (λ c. search needs)
     (λ c κs. search needs)
     (λ c κs. search needs)
+    (λ c κs. search needs)
     (λ c. search needs)
+    (λ c κs. search needs)
     (λ c κs. search needs)
     (λ c. search needs)
     (λ c κs. search needs)
@@ -105,6 +111,9 @@ effect-of-spec =
     (λ c. search needs)
     sealed-requires
     (λ c κs. search needs)
+    (λ c. search needs)
+    (λ c κs. search needs)
+    (λ c κs. search needs)
     returns
     returns-2
     returns-3
@@ -117,4 +126,5 @@ effect-of-spec =
     returns-10
     returns-11
     returns-12
-    returns-13)
+    returns-13
+    returns-14)

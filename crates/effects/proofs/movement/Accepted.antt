@@ -13,7 +13,7 @@ use Rattle.section.specs.declared.Walk.the-variants.{Settled, Turn}
 use Rattle.section.specs.declared.Said.{Said}
 use Rattle.section.specs.declared.Step.{Step}
 use Rattle.section.specs.declared.Step.the-variants.{Order, Set, Announce, Acknowledge, Start, Pass, Leave, MeasuresOn, MeasuresOff, FaultOn}
-use Rattle.section.specs.declared.Step.the-variants.{FaultOff, Release, Key}
+use Rattle.section.specs.declared.Step.the-variants.{FaultOff, Release, Key, Caution}
 use Rattle.section.specs.declared.Verdict.the-variants.{Accepted}
 use Rattle.section.specs.Geometry.{isLast}
 use Rattle.section.specs.Numbers.{mostSeals}
@@ -94,3 +94,4 @@ module _
       let five = passed _ _ _ _ _ (passed _ _ _ _ _ (passed _ _ _ _ _ (passed _ _ _ _ _ (passed _ _ _ _ _ h .1) .1) .1) .1) .1 in
       let more = eqb-false (e .own .seals) mostSeals (not-true (eqb (e .own .seals) mostSeals) (passed _ _ _ _ _ five .0)) in
       record { effectNeeds = omega (arith, more); blocks = tt }
+  accepted-has (Caution p number) h = record { effectNeeds = tt; blocks = tt }

@@ -1,5 +1,5 @@
 -- Each check is asked past those that held; the return on it is its refusal, the last return is past them all.
-use mathlib.Core.Bool.{false}
+use mathlib.Core.Bool.{false, not}
 use mathlib.Core.List.{List, []}
 use Rattle.section.specs.declared.Step.the-variants.{Pass}
 use Rattle.section.proofs.Told.{told}
@@ -7,7 +7,7 @@ use Rattle.rules.specs.Site.{occupancyAt}
 use Rattle.rules.specs.Table.{Check, checks, effect}
 use Rattle.site.specs.VerdictAt.{rowAt}
 use Rattle.site.proofs.place.Laws.{or-false}
-use Rattle.checks.proofs.Row.{AskedAt, AskedEqual, none, accepted, unless-equal, when}
+use Rattle.checks.proofs.Row.{AskedAt, AskedEqual, none, accepted, unless, unless-equal, when}
 use Rattle.checks.proofs.trains.pass.Statement.{statement}
 use Rattle.checks.proofs.trains.pass.Tie as tie
 
@@ -23,6 +23,9 @@ from-train c = from-between (c .before .before)
 
 abbrev from-free : tie.After-pass-occupied → tie.Start
 from-free c = from-train (c .before .before)
+
+abbrev from-cautioned : tie.After-caution-held → tie.Start
+from-cautioned c = from-free (c .before .before)
 
 between : (c : tie.After-at-end) → AskedAt 1 12 (row (from-between c)) (c .at-end .result)
 unfolding checks occupancyAt
@@ -40,9 +43,13 @@ free : (c : tie.After-pass-occupied) → AskedAt 3 13 (row (from-free c)) (c .pa
 unfolding checks occupancyAt
 free c = when (train (c .before .before) .left (c .before .if2 .left)) (c .pass-occupied .ensures)
 
-accepts : tie.Need-returns-4
+cautioned : (c : tie.After-caution-held) → AskedAt 4 22 (row (from-cautioned c)) (not (c .caution-held .result))
+unfolding checks occupancyAt
+cautioned c = unless (free (c .before .before) .left (c .before .if3 .left)) (c .caution-held .ensures)
+
+accepts : tie.Need-returns-5
 unfolding checks effect
-accepts c = accepted _ (free (c .before) .left (c .if3 .left))
+accepts c = accepted _ (cautioned (c .before) .left (c .if4 .left))
 
 pub pass-spec : {M : Type 1} → statement M
 pass-spec =
@@ -54,4 +61,6 @@ pass-spec =
     (λ c. train (c .before) .taken _ (c .if2 .taken))
     (λ c κs. from-train (c .before) .pre)
     (λ c. free (c .before) .taken _ (c .if3 .taken))
+    (λ c κs. from-free (c .before) .pre)
+    (λ c. cautioned (c .before) .taken _ (c .if4 .taken))
     accepts)

@@ -30,6 +30,9 @@ from-free c = from-unknown (c .before .before)
 abbrev from-fault1-confirmed : tie.After-fault1-confirmed → tie.Start
 from-fault1-confirmed c = from-free (c .before .before)
 
+abbrev from-cautioned : tie.After-caution-held → tie.Start
+from-cautioned c = from-fault1-confirmed (c .before .before)
+
 settled : (c : tie.After-is-settled) → AskedAt 1 11 (row (from-settled c)) (not (c .is-settled .result))
 unfolding checks occupancyAt numberOf
 settled c = unless none (c .is-settled .ensures)
@@ -50,9 +53,13 @@ fault1-confirmed : (c : tie.After-fault1-confirmed) → AskedAt 5 18 (row (from-
 unfolding checks occupancyAt numberOf
 fault1-confirmed c = unless (free (c .before .before) .left (c .before .if4 .left)) (c .fault1-confirmed .ensures)
 
-accepts : tie.Need-returns-6
+cautioned : (c : tie.After-caution-held) → AskedAt 6 22 (row (from-cautioned c)) (not (c .caution-held .result))
+unfolding checks occupancyAt numberOf
+cautioned c = unless (fault1-confirmed (c .before .before) .left (c .before .if5 .left)) (c .caution-held .ensures)
+
+accepts : tie.Need-returns-7
 unfolding checks effect
-accepts c = accepted _ (fault1-confirmed (c .before) .left (c .if5 .left))
+accepts c = accepted _ (cautioned (c .before) .left (c .if6 .left))
 
 pub start-spec : {M : Type 1} → statement M
 start-spec =
@@ -69,4 +76,6 @@ start-spec =
     (λ c. free (c .before) .taken _ (c .if4 .taken))
     (λ c κs. from-free (c .before) .pre)
     (λ c. fault1-confirmed (c .before) .taken _ (c .if5 .taken))
+    (λ c κs. from-fault1-confirmed (c .before) .pre)
+    (λ c. cautioned (c .before) .taken _ (c .if6 .taken))
     accepts)

@@ -7,18 +7,19 @@ returns : tie.Need-returns
 returns c =
     let b = c .before .before in
     let h = sym (b .at-receiving-end .ensures) ∙ c .before .if1 .taken in
-    rw (c .permitted .ensures, b .before .marked .ensures, b .before .before .turned .ensures, h)
+    rw (c .permitted .ensures, b .before .cautioned .ensures, b .before .before .marked .ensures, b .before .before .before .turned .ensures, h)
 
 returns-2 : tie.Need-returns-2
 returns-2 c =
     let b = c .before .before in
     let h = sym (b .at-receiving-end .ensures) ∙ c .before .if1 .left in
-    rw (c .walking .ensures, b .before .marked .ensures, b .before .before .turned .ensures, h)
+    rw (c .walking .ensures, b .before .cautioned .ensures, b .before .before .marked .ensures, b .before .before .before .turned .ensures, h)
 
 pub setting-spec : {M : Type 1} → statement M
 setting-spec =
     tie.close
     (tie.spec
+    (λ c κs. search needs)
     (λ c κs. search needs)
     (λ c κs. search needs)
     (λ c κs. search needs)

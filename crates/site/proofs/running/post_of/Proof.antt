@@ -56,10 +56,15 @@ returns-13 : tie.Need-returns-13
 unfolding postOf
 returns-13 c = rw (c .before .x13 .given .1)
 
+returns-14 : tie.Need-returns-14
+unfolding postOf
+returns-14 c = rw (c .before .x14 .given .1)
+
 pub post-of-spec : {M : Type 1} → statement M
 post-of-spec =
     tie.close
     (tie.spec
+    (λ c. search needs)
     (λ c. search needs)
     (λ c. search needs)
     (λ c. search needs)
@@ -85,4 +90,5 @@ post-of-spec =
     returns-10
     returns-11
     returns-12
-    returns-13)
+    returns-13
+    returns-14)

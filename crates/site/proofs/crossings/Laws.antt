@@ -1,0 +1,179 @@
+-- The bytes of the crossings: in their ranges the unused ones are last. A search from the first byte on. When a caution form is needed.
+use Prim.Native.Nat.{ℕ, zero, suc, _-_, _≤_, _<_}
+use mathlib.Core.Bool.{Bool, true, false, not, _&&_, _||_, false≢true}
+use mathlib.Core.List.{List}
+use mathlib.Core.Path.{_≡_, refl, sym, _∙_, ap, subst}
+use native.Mathlib.Nat.{not-suc-le-zero}
+use native.Mathlib.Numerals.{add-one}
+use native.Mathlib.Omega.{arith}
+use lib.Dec.{eqb, ltb, leb}
+use borrow.Author.Count.{below-more}
+use borrow.Author.Tests.{eqb-true, leb-true, leb-false, ltb-true, ltb-false, not-false}
+use Rattle.section.specs.declared.Settings.{Settings}
+use Rattle.section.specs.Bytes.{byte, within}
+use Rattle.section.specs.Crossings.{isUsed, crossingBlock, liesIn, lacksZones, crossingInRange, crossingOrder, neverFalls, crossingsInRange}
+use Rattle.section.specs.Numbers.{leastPosts, mostPosts, mostCrossings, unused, largestLine}
+use Rattle.section.specs.Settings.{isSignalled, noneFrom, settingsInRange}
+use Rattle.section.proofs.Laws.{and-parts, and-left, and-right, posts-right}
+use Rattle.rules.specs.declared.Site.{Site}
+use Rattle.rules.specs.Site.{anyOf, atReceivingEnd, blockAhead}
+use Rattle.site.specs.declared.crossings.Sought.{Sought}
+use Rattle.site.specs.declared.crossings.Sought.the-variants.{AnyCrossing, WithoutZones}
+use Rattle.site.specs.Crossings.{UnusedLast, isSought, soughtAhead}
+
+-- ## Two tests
+
+or-second : (a b : Bool) → a ≡ false → (a || b) ≡ true → b ≡ true
+or-second true b e h = absurd (false≢true (sym e))
+or-second false b e h = h
+
+or-true : (a b : Bool) → b ≡ true → (a || b) ≡ true
+or-true true b h = refl
+or-true false b h = h
+
+or-false : (a b : Bool) → a ≡ false → b ≡ false → (a || b) ≡ false
+or-false true b e h = e
+or-false false b e h = h
+
+or-implies : (a b x y : Bool) → (a ≡ true → x ≡ true) → (b ≡ true → y ≡ true) → (a || b) ≡ true → (x || y) ≡ true
+or-implies true b x y f g h = ap (λ (t : Bool). t || y) (f refl)
+or-implies false b x y f g h = or-true x y (g h)
+
+and-implies : (a x y : Bool) → (x ≡ true → y ≡ true) → (a && x) ≡ true → (a && y) ≡ true
+and-implies true x y f h = f h
+and-implies false x y f h = h
+
+-- ## Unused bytes are last
+
+module _ (n : ℕ) (l : List ℕ) where
+  crossings-each :
+      (m : ℕ) → crossingsInRange n m l ≡ true → (i : ℕ) → i < m → (crossingInRange n (byte l i) ≡ true) × (neverFalls l i ≡ true)
+  unfolding crossingsInRange
+  crossings-each zero h i k = absurd (not-suc-le-zero k)
+  crossings-each (suc m) h i k =
+      let here = crossingInRange n (byte l m) in
+      let falls = neverFalls l m in
+      let parts = and-parts (here && falls) (crossingsInRange n m l) h in
+      below-more (λ (j : ℕ). (crossingInRange n (byte l j) ≡ true) × (neverFalls l j ≡ true)) m
+      (crossings-each m (parts .1)) (and-parts here falls (parts .0)) i (rw add-one k)
+
+-- the byte of a crossing on a line of at most 16 posts stands before an unused one
+used-before : (n b : ℕ) → n ≤ mostPosts → crossingInRange n b ≡ true → isUsed b ≡ true → crossingOrder b < crossingOrder unused
+used-before n b few fits used =
+    let parts = and-parts (ltb b 256) (leb (crossingBlock b) (n - 2)) (or-second (not (isUsed b)) _ (ap not used) fits) in
+    omega (arith, few, ltb-true b 256 (parts .0), leb-true (crossingBlock b) (n - 2) (parts .1))
+
+module _ (n : ℕ) (l : List ℕ) (few : n ≤ mostPosts) (right : crossingsInRange n mostCrossings l ≡ true) where
+  next-unused : (i : ℕ) → suc i < mostCrossings → byte l i ≡ unused → byte l (suc i) ≡ unused
+  next-unused i h e = go (isUsed (byte l (suc i))) refl
+    where
+      go : (b : Bool) → isUsed (byte l (suc i)) ≡ b → byte l (suc i) ≡ unused
+      go true used =
+          let next = crossings-each n l mostCrossings right (suc i) h in
+          let falls = leb-true (crossingOrder (byte l i)) (crossingOrder (byte l (suc i))) (next .1) in
+          let from : crossingOrder unused ≤ crossingOrder (byte l (suc i)) =
+          subst (λ (b : ℕ). crossingOrder b ≤ crossingOrder (byte l (suc i))) e falls in
+          absurd (omega (arith, from, used-before n (byte l (suc i)) few (next .0) used))
+      go false free = eqb-true (byte l (suc i)) unused (not-false (eqb (byte l (suc i)) unused) free)
+
+  onward : (i k : ℕ) → i ≤ suc k → (i ≤ k → byte l (suc k) ≡ unused) → byte l i ≡ unused → byte l (suc k) ≡ unused
+  onward i k h below e = go (leb i k) refl
+    where
+      go : (b : Bool) → leb i k ≡ b → byte l (suc k) ≡ unused
+      go true q = below (leb-true i k q)
+      go false q = let same : i ≡ suc k = omega (arith, h, leb-false i k q) in subst (λ (j : ℕ). byte l j ≡ unused) same e
+
+  all-unused : UnusedLast l
+  all-unused i zero h b e = let same : i ≡ zero = omega (arith, h) in subst (λ (j : ℕ). byte l j ≡ unused) same e
+  all-unused i (suc k) h b e = onward i k h (λ p. next-unused k b (all-unused i k p (omega (arith, b)) e)) e
+
+pub unused-last : (c : Settings) → settingsInRange c ≡ true → UnusedLast (c .crossings)
+unfolding settingsInRange
+unused-last c h =
+    let crossings = crossingsInRange (c .posts) mostCrossings (c .crossings) in
+    let line = within 1 largestLine (c .line) in
+    let none = noneFrom (c .mask) (c .posts) in
+    let last = isSignalled (c .mask) (c .posts - 1) in
+    let first = isSignalled (c .mask) 0 in
+    let kind = leb (c .form) 1 in
+    let past-posts = and-right (within leastPosts mostPosts (c .posts)) (kind && (first && (last && (none && (line && crossings))))) h in
+    let past-kind = and-right kind (first && (last && (none && (line && crossings)))) past-posts in
+    let past-first = and-right first (last && (none && (line && crossings))) past-kind in
+    let past-last = and-right last (none && (line && crossings)) past-first in
+    let past-none = and-right none (line && crossings) past-last in
+    all-unused (c .posts) (c .crossings) (posts-right c h .1) (and-right line crossings past-none)
+
+-- ## A search from the first byte on
+
+module _ (test : ℕ → Bool) (l : List ℕ) where
+  pub any-found : (m i : ℕ) → i < m → test (byte l i) ≡ true → anyOf test m l ≡ true
+  unfolding anyOf
+  any-found zero i k e = absurd (not-suc-le-zero k)
+  any-found (suc m) i k e =
+      below-more (λ (j : ℕ). test (byte l j) ≡ true → anyOf test (suc m) l ≡ true) m
+      (λ j h t. or-true (test (byte l m)) (anyOf test m l) (any-found m j h t)) (λ t. ap (λ (b : Bool). b || anyOf test m l) t) i
+      (rw add-one k) e
+
+  pub any-none : (m : ℕ) → ((k : ℕ) → k < m → test (byte l k) ≡ false) → anyOf test m l ≡ false
+  unfolding anyOf
+  any-none zero h = refl
+  any-none (suc m) h = or-false (test (byte l m)) (anyOf test m l) (h m (omega arith)) (any-none m (λ k b. h k (omega (arith, b))))
+
+  -- the search ends at an unused byte
+  pub none-ended :
+      UnusedLast l → test unused ≡ false → (i : ℕ) → ((k : ℕ) → k < i → test (byte l k) ≡ false) → byte l i ≡ unused
+      → anyOf test mostCrossings l ≡ false
+  none-ended last other i before e = any-none mostCrossings (λ k b. go k b (ltb k i) refl)
+    where
+      go : (k : ℕ) → k < mostCrossings → (b : Bool) → ltb k i ≡ b → test (byte l k) ≡ false
+      go k b true q = before k (ltb-true k i q)
+      go k b false q = ap test (last i k (ltb-false k i q) b e) ∙ other
+
+-- a crossing that lies elsewhere is none that is looked for
+pub elsewhere : (sought : Sought) (i b : ℕ) → liesIn i b ≡ false → false ≡ isSought sought i b
+elsewhere AnyCrossing i b e = sym e
+elsewhere WithoutZones i b e = rw e
+
+-- an unused byte is none
+pub unused-not-sought : (sought : Sought) (i : ℕ) → isSought sought i unused ≡ false
+unused-not-sought AnyCrossing i = refl
+unused-not-sought WithoutZones i = refl
+
+-- ## Whether a caution form is needed
+
+any-implies :
+    (test other : ℕ → Bool) (l : List ℕ) → ((b : ℕ) → test b ≡ true → other b ≡ true) → (m : ℕ) → anyOf test m l ≡ true
+    → anyOf other m l ≡ true
+unfolding anyOf
+any-implies test other l f zero h = h
+any-implies test other l f (suc m) h =
+    or-implies (test (byte l m)) (anyOf test m l) (other (byte l m)) (anyOf other m l) (f (byte l m)) (any-implies test other l f m) h
+
+-- where one without zones lies ahead, a crossing does
+pub zones-lack-there : (c : Settings) (e : Site) → soughtAhead c e WithoutZones ≡ true → soughtAhead c e AnyCrossing ≡ true
+unfolding soughtAhead
+zones-lack-there c e h =
+    let i = blockAhead c e in
+    and-implies (not (atReceivingEnd c e)) (anyOf (isSought WithoutZones i) mostCrossings (c .crossings)) (anyOf (liesIn i) mostCrossings (c .crossings))
+    (any-implies (isSought WithoutZones i) (liesIn i) (c .crossings) (λ b. and-left (liesIn i b) (lacksZones b)) mostCrossings) h
+
+-- a crossing lies ahead, fault 4 stands, the running direction is CVT, one without zones lies ahead
+pub needed-by-fault : (crossing four cvt lack : Bool) → four ≡ true → crossing ≡ (crossing && (four || (cvt && lack)))
+needed-by-fault crossing false cvt lack e = absurd (false≢true e)
+needed-by-fault true true cvt lack e = refl
+needed-by-fault false true cvt lack e = refl
+
+pub needed-in-cvt :
+    (crossing four cvt lack : Bool) → four ≡ false → cvt ≡ true → (lack ≡ true → crossing ≡ true)
+    → lack ≡ (crossing && (four || (cvt && lack)))
+needed-in-cvt crossing true cvt lack e h f = absurd (false≢true (sym e))
+needed-in-cvt crossing false false lack e h f = absurd (false≢true h)
+needed-in-cvt true false true lack e h f = refl
+needed-in-cvt false false true true e h f = sym (f refl)
+needed-in-cvt false false true false e h f = refl
+
+pub not-needed : (crossing four cvt lack : Bool) → four ≡ false → cvt ≡ false → false ≡ (crossing && (four || (cvt && lack)))
+not-needed crossing true cvt lack e h = absurd (false≢true (sym e))
+not-needed crossing false true lack e h = absurd (false≢true (sym h))
+not-needed true false false lack e h = refl
+not-needed false false false lack e h = refl
