@@ -6,8 +6,8 @@ use Rattle.section.specs.Words.{saidBy, letter, trackLetter}
 use Rattle.section.specs.Step.{wellFormed}
 use Rattle.rules.specs.Indications.{setCount, isNextToSet, circulation, troncon, shown, lampsAt, dark, indicationsOn, indications}
 use Rattle.layout.specs.Layout.{le16Bytes, le32, le32Bytes, le32At, settingsBytes, trailer, stepCount, fileOf, fromEnd, trailerIn, settingsIn}
-use Rattle.layout.specs.Layout.{stepsIn, settingsOf, stepAt}
-use Rattle.file_tests.specs.Tests.{lengthWrong, markWellFormed, trailerWellFormed, zerosWellFormed, settingsWellFormed, wellAt, leading, firstMalformed}
+use Rattle.layout.specs.Layout.{stepsIn, settingsOf, stepAt, hasMark, markOf, tailIn, tailOf, settingsPart}
+use Rattle.file_tests.specs.Tests.{lengthWrong, lengthSuits, trailerFits, trailerWellFormed, zerosWellFormed, settingsWellFormed, wellAt, leading, firstMalformed}
 use Rattle.file_tests.specs.Tests.{someMalformed}
 use Rattle.dayfile.specs.Answers.{refusalNumber, readVerdict, readOf}
 use Rattle.rules.proofs.Days.{offeredAs, refusals, fresh}
@@ -23,7 +23,7 @@ use Rattle.examples.specs.Worked.{settings, steps, day, workedListing, w
 unfoldable listingOf : List ℕ → List ℕ
 unfolding refusedLine header verdictFields fields stepLine sectionBefore answerTo lines printedRead printed listing firstTexts word letter trackLetter
     decimalDigits decimal
-    refusals fresh saidBy readOf readVerdict refusalNumber lengthWrong trailerWellFormed markWellFormed settingsWellFormed zerosWellFormed someMalformed
+    refusals fresh saidBy readOf readVerdict refusalNumber lengthWrong lengthSuits trailerFits trailerWellFormed hasMark markOf tailIn tailOf settingsWellFormed zerosWellFormed someMalformed
     firstMalformed leading wellAt wellFormed trailerIn settingsIn stepsIn fromEnd settingsOf stepAt le32At le32
 listingOf file = listing file
 
@@ -33,7 +33,7 @@ unfolding listingOf panel panelLine panelFields trackName postFields postField
 panelOf file = panel file
 
 unfoldable dayFile : List ℕ
-unfolding day settings steps offeredAs fileOf settingsBytes trailer le16Bytes le32Bytes stepCount
+unfolding day settings steps offeredAs fileOf settingsPart settingsBytes trailer markOf tailOf le16Bytes le32Bytes stepCount
 dayFile = day
 
 pub worked-listing : listing day ≡ workedListing
