@@ -16,7 +16,7 @@ use section::Settings;
 use section::UNUSED;
 
 // What is looked for: any crossing, or one without counter-direction announcing zones.
-pub enum Sought {
+enum Sought {
     AnyCrossing,
     WithoutZones,
 }
