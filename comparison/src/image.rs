@@ -1,26 +1,30 @@
-//! The image of a section, 394 bytes, in which the proved engine takes and gives a state.
+//! The image of a section, 466 bytes, in which the proved engine takes and gives a state.
 
 use reference::generate::Rng;
 use reference::section::{Post, Section, Track, NO_REVERSAL};
-use reference::settings::Settings;
+use reference::settings::{Crossings, Settings};
 
-pub const IMAGE_LENGTH: usize = 394;
+pub const IMAGE_LENGTH: usize = 466;
+/// The length of an image of layout 1.
+pub const LENGTH_OF_LAYOUT_1: usize = 394;
 /// The layout's number, in the first two bytes.
-const LAYOUT: u16 = 1;
+const LAYOUT: u16 = 2;
 const SETTINGS: usize = 2;
-const TRACKS: [usize; 2] = [10, 202];
+const CROSSINGS: usize = 10;
+const TRACKS: [usize; 2] = [18, 242];
 const TURN: usize = 2;
 const POSTS: usize = 4;
-const TRAINS: usize = 132;
-const LAST: usize = 162;
-const POST_LENGTH: usize = 8;
-const ALL_FAULTS: u8 = 7;
+const TRAINS: usize = 164;
+const LAST: usize = 194;
+const POST_LENGTH: usize = 10;
+const ALL_FAULTS: u8 = 15;
 const GREATEST_ACT: u8 = 3;
 
 pub fn image_of(section: &Section) -> [u8; IMAGE_LENGTH] {
     let mut image = [0; IMAGE_LENGTH];
     put_layout(LAYOUT, &mut image);
-    image[SETTINGS..TRACKS[0]].copy_from_slice(&section.settings.encode());
+    image[SETTINGS..CROSSINGS].copy_from_slice(&section.settings.encode());
+    image[CROSSINGS..TRACKS[0]].copy_from_slice(&section.settings.crossings);
     for (track, start) in section.tracks.iter().zip(TRACKS) {
         put_track(track, &mut image[start..]);
     }
@@ -29,15 +33,16 @@ pub fn image_of(section: &Section) -> [u8; IMAGE_LENGTH] {
 
 /// Makes an image one of another layout.
 pub fn put_other_layout(rng: &mut Rng, image: &mut [u8; IMAGE_LENGTH]) {
-    let number = match rng.below(3) {
-        0 => rng.pick(&[0, LAYOUT + 1, 1 << 8, LAYOUT | 1 << 8, u16::MAX]),
-        1 => LAYOUT ^ 1 << rng.below(16),
+    let number = match rng.below(4) {
+        0 => 1,
+        1 => rng.pick(&[0, LAYOUT + 1, LAYOUT << 8, LAYOUT | 1 << 8, u16::MAX]),
+        2 => LAYOUT ^ 1 << rng.below(16),
         _ => LAYOUT.wrapping_add(1 + rng.below(u64::from(u16::MAX)) as u16),
     };
     put_layout(number, image);
 }
 
-fn put_layout(number: u16, image: &mut [u8; IMAGE_LENGTH]) {
+pub fn put_layout(number: u16, image: &mut [u8; IMAGE_LENGTH]) {
     image[..SETTINGS].copy_from_slice(&number.to_le_bytes());
 }
 
@@ -63,6 +68,7 @@ fn put_track(track: &Track, image: &mut [u8]) {
 
 fn post_bytes(post: &Post) -> [u8; POST_LENGTH] {
     let [seals_low, seals_high] = post.seals.to_le_bytes();
+    let [caution_low, caution_high] = post.form_for.to_le_bytes();
     [
         post.device,
         post.permission,
@@ -72,6 +78,8 @@ fn post_bytes(post: &Post) -> [u8; POST_LENGTH] {
         0,
         seals_low,
         seals_high,
+        caution_low,
+        caution_high,
     ]
 }
 
@@ -92,11 +100,16 @@ pub fn section_of(image: &[u8]) -> Option<Section> {
         form: image[SETTINGS + 1],
         mask: word(&image[SETTINGS + 2..]),
         line: word(&image[SETTINGS + 4..]),
+        crossings: crossings_of(&image[CROSSINGS..]),
     };
     tracks
         .iter()
         .all(has_values)
         .then_some(Section { settings, tracks })
+}
+
+fn crossings_of(image: &[u8]) -> Crossings {
+    std::array::from_fn(|place| image[place])
 }
 
 fn track_of(image: &[u8]) -> Track {
@@ -129,6 +142,7 @@ fn post_of(cell: &[u8]) -> Post {
         faults: cell[3],
         mark: cell[4],
         seals: word(&cell[6..]),
+        form_for: word(&cell[8..]),
     }
 }
 
@@ -189,9 +203,10 @@ pub fn cell_name(place: usize) -> String {
         .zip(TRACKS)
         .rfind(|&(_, start)| place >= start)
     else {
-        return match place.checked_sub(SETTINGS) {
-            Some(at) => format!("settings byte {at}"),
-            None => "layout's number".to_string(),
+        return match place {
+            0..SETTINGS => "layout's number".to_string(),
+            SETTINGS..CROSSINGS => format!("settings byte {}", place - SETTINGS),
+            _ => format!("crossing byte {}", place - CROSSINGS),
         };
     };
     let cell = match place - start {
@@ -213,6 +228,8 @@ fn post_cell_name(at: usize) -> String {
         "zero byte",
         "seals",
         "seals",
+        "caution form",
+        "caution form",
     ][at % POST_LENGTH];
     format!("post {} {field}", at / POST_LENGTH)
 }
@@ -251,11 +268,14 @@ mod tests {
         for (place, name) in [
             (1, "layout's number"),
             (6, "settings byte 4"),
-            (10, "track A direction"),
-            (204, "track B turn"),
-            (14 + 8 * 15 + 7, "track A post 15 seals"),
-            (202 + 132, "track B train of block section 0"),
-            (393, "track B last train of block section 14"),
+            (10, "crossing byte 0"),
+            (17, "crossing byte 7"),
+            (18, "track A direction"),
+            (244, "track B turn"),
+            (22 + 10 * 15 + 7, "track A post 15 seals"),
+            (242 + 163, "track B post 15 caution form"),
+            (242 + 164, "track B train of block section 0"),
+            (465, "track B last train of block section 14"),
         ] {
             assert_eq!(cell_name(place), name);
         }

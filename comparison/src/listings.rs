@@ -1,6 +1,7 @@
 //! The bench listing and the panel listing of day files.
 
-use crate::files::Refusals;
+use crate::files::lengths::shapes_at_bounds;
+use crate::files::refusals::{Case, Refusals};
 use crate::lent::{same_buffers, Lent};
 use crate::proved;
 use crate::report::{hex, same, Comparison, Outcome};
@@ -54,7 +55,7 @@ impl Comparison for ListingComparison {
                 self.day_and_damaged_day(count)?;
             }
         }
-        Ok(())
+        self.lengths_at_bounds()
     }
 }
 
@@ -64,6 +65,15 @@ impl ListingComparison {
         self.compare(&file)?;
         damage(&mut self.rng, &mut file);
         self.compare(&file)
+    }
+
+    /// Around the least and the greatest length of either mark.
+    fn lengths_at_bounds(&mut self) -> Outcome {
+        for shape in shapes_at_bounds() {
+            let file = shape.file(&mut self.rng);
+            self.compare(&file)?;
+        }
+        Ok(())
     }
 
     fn compare(&mut self, file: &[u8]) -> Outcome {
@@ -76,7 +86,8 @@ impl ListingComparison {
             }
         }
         let refusal = dayfile::read(file).map_or_else(|refusal| refusal.number, |_| 0);
-        self.seen.count(usize::from(refusal));
+        let refusal = usize::from(refusal);
+        self.seen.count(refusal, Case::of_file(file, refusal));
         Ok(())
     }
 }

@@ -1,7 +1,8 @@
 //! The judging of single steps: the checks in the order of the table, then the effect.
 
 use crate::section::{
-    Post, Section, Track, ACKNOWLEDGE, ANNOUNCE, FAULT_1, FAULT_2, MOST_SEALS, NO_REVERSAL, SET,
+    Post, Section, Track, ACKNOWLEDGE, ANNOUNCE, FAULT_1, FAULT_2, FAULT_4, MOST_SEALS,
+    NO_REVERSAL, SET,
 };
 use crate::settings::{Settings, TELEPHONE};
 use crate::step::{self, Step};
@@ -93,6 +94,7 @@ impl JudgedTrack<'_> {
             Step::FaultOff { post, fault } => self.fault_off(post, fault)?,
             Step::Release { post, train } => self.release(post, train)?,
             Step::Key { post } => self.key(post)?,
+            Step::Form { post, train } => self.form(post, train)?,
         }
         Ok(SAID_NOTHING)
     }
@@ -163,6 +165,7 @@ impl JudgedTrack<'_> {
         let record = self.post(post);
         record.device = direction;
         record.mark = 0;
+        record.form_for = 0;
         if is_last {
             record.permission = 1;
             self.track.direction = direction;
@@ -181,6 +184,7 @@ impl JudgedTrack<'_> {
         refuse_if(self.trains().contains(&train), 17)?;
         refuse_if(self.train_in_stretch(post), 13)?;
         refuse_if(self.unconfirmed_fault_1(post), 18)?;
+        refuse_if(self.form_missing(post, train), 22)?;
         self.enter_ahead(post, train);
         self.post(post).mark = 0;
         Ok(())
@@ -190,6 +194,7 @@ impl JudgedTrack<'_> {
         refuse_if(self.way.is_end(post), 12)?;
         refuse_if(!self.train_before(post, train), 17)?;
         refuse_if(self.begins_stretch(post) && self.train_in_stretch(post), 13)?;
+        refuse_if(self.form_missing(post, train), 22)?;
         self.clear_before(post);
         self.enter_ahead(post, train);
         Ok(())
@@ -202,7 +207,7 @@ impl JudgedTrack<'_> {
         Ok(())
     }
 
-    // Measures, faults and the release mark.
+    // Measures, faults, the release mark and the form.
 
     fn measures_on(&mut self, post: u8) -> Result<(), u8> {
         refuse_if(self.post(post).measures == 1, 21)?;
@@ -242,6 +247,12 @@ impl JudgedTrack<'_> {
         refuse_if(self.track.trains[ahead] != 0, 13)?;
         refuse_if(self.track.last[ahead] != train, 17)?;
         self.post(post).mark = 1;
+        Ok(())
+    }
+
+    fn form(&mut self, post: u8, train: u16) -> Result<(), u8> {
+        refuse_if(!self.crossing_ahead(post), 12)?;
+        self.post(post).form_for = train;
         Ok(())
     }
 
@@ -315,10 +326,36 @@ impl JudgedTrack<'_> {
         self.track.trains[stretch].iter().any(|&train| train != 0)
     }
 
+    fn form_missing(&self, post: u8, train: u16) -> bool {
+        self.form_needed(post) && self.track.posts[usize::from(post)].form_for != train
+    }
+
+    fn form_needed(&self, post: u8) -> bool {
+        let zones_not_adapted = self.has_fault(post, FAULT_4) && self.crossing_ahead(post);
+        zones_not_adapted || self.track.direction == CVT && self.crossing_without_zones_ahead(post)
+    }
+
+    fn crossing_ahead(&self, post: u8) -> bool {
+        self.way
+            .ahead(post)
+            .is_some_and(|ahead| self.settings.crossing_in(ahead))
+    }
+
+    fn crossing_without_zones_ahead(&self, post: u8) -> bool {
+        self.way
+            .ahead(post)
+            .is_some_and(|ahead| self.settings.crossing_without_zones_in(ahead))
+    }
+
+    /// The train's form at the post is used up, needed or not.
     fn enter_ahead(&mut self, post: u8, train: u16) {
         if let Some(ahead) = self.way.ahead(post) {
             self.track.trains[ahead] = train;
             self.track.last[ahead] = train;
+        }
+        let record = self.post(post);
+        if record.form_for == train {
+            record.form_for = 0;
         }
     }
 

@@ -1,14 +1,14 @@
 //! Seeded random settings, sections, steps and days, for tests and comparisons.
 
-use crate::dayfile::{self, GREATEST_LENGTH, MOST_STEPS, TAIL_LENGTH, TRAILER_LENGTH};
+use crate::dayfile::{self, Mark, GREATEST_LENGTH, MOST_STEPS, SETTINGS_LENGTH, TRAILER_LENGTH};
 use crate::engine;
 use crate::section::{
-    Post, Section, Track, ACKNOWLEDGE, ANNOUNCE, FAULT_1, FAULT_2, FAULT_3, MOST_SEALS,
+    Post, Section, Track, ACKNOWLEDGE, ANNOUNCE, FAULT_1, FAULT_2, FAULT_3, FAULT_4, MOST_SEALS,
     NO_REVERSAL, SET,
 };
-use crate::settings::Settings;
-use crate::step::{self, Step, GREATEST_TRAIN, STEP_LENGTH};
-use crate::way::{Way, VNS};
+use crate::settings::{Crossings, Settings, MOST_CROSSINGS, NO_CROSSINGS, UNUSED, WITHOUT_ZONES};
+use crate::step::{self, Step, GREATEST_FAULT, GREATEST_TRAIN, STEP_LENGTH};
+use crate::way::{Way, CVT, VNS};
 
 /// A xorshift generator (64 bits, with a multiplied output).
 #[derive(Clone, Debug)]
@@ -57,9 +57,9 @@ impl Rng {
         self.below(u64::from(n)) as u8
     }
 
-    /// The number of a fault, 1 to 3.
+    /// The number of a fault, 1 to 4.
     pub fn fault(&mut self) -> u8 {
-        1 + self.below(3) as u8
+        1 + self.below(u64::from(GREATEST_FAULT)) as u8
     }
 
     /// From `least` to `most`, both included.
@@ -83,6 +83,7 @@ pub fn random_settings(rng: &mut Rng) -> Settings {
         form: rng.flag(),
         mask: random_mask(rng, n),
         line: random_line(rng),
+        crossings: random_crossings(rng, n),
     }
 }
 
@@ -106,6 +107,30 @@ fn random_line(rng: &mut Rng) -> u16 {
     }
 }
 
+/// None, few or many, from all block sections or two of them.
+fn random_crossings(rng: &mut Rng, n: u8) -> Crossings {
+    let used = match rng.below(3) {
+        0 => return NO_CROSSINGS,
+        1 => 1 + rng.below(3) as usize,
+        _ => 1 + rng.below(MOST_CROSSINGS as u64) as usize,
+    };
+    let favourites = [random_crossing(rng, n), random_crossing(rng, n)];
+    let crowded = rng.chance(1, 3);
+    let mut crossings = NO_CROSSINGS;
+    for byte in &mut crossings[..used] {
+        *byte = match crowded {
+            true => rng.pick(&favourites),
+            false => random_crossing(rng, n),
+        };
+    }
+    crossings[..used].sort_by_key(|byte| (byte & !WITHOUT_ZONES, byte & WITHOUT_ZONES));
+    crossings
+}
+
+fn random_crossing(rng: &mut Rng, n: u8) -> u8 {
+    rng.below(u64::from(n) - 1) as u8 + WITHOUT_ZONES * rng.flag()
+}
+
 // Steps.
 
 /// A well-formed step that each check of the table has a fair chance to meet. A section
@@ -124,13 +149,14 @@ pub fn sensible_step(rng: &mut Rng, section: &Section) -> [u8; STEP_LENGTH] {
     }
 }
 
-/// A step that furthers the reversal under way on the track, or a train movement.
+/// A step that furthers the reversal under way on the track, or a train movement, or hands
+/// out the form that such a movement lacks.
 /// The section must be in range.
 pub fn furthering_step(rng: &mut Rng, section: &Section, track: u8) -> [u8; STEP_LENGTH] {
     let kept = usize::from(track);
     let step = match section.tracks[kept].reversal_under_way() && rng.chance(2, 3) {
         true => turn_step(rng, section, kept),
-        false => movement(rng, section, kept),
+        false => movement_or_its_form(rng, section, kept),
     };
     step::encode(track, &step)
 }
@@ -142,15 +168,19 @@ fn likely_step(rng: &mut Rng, section: &Section, track: usize) -> Step {
     let sending_end = section.way(track).sending_end();
     match rng.below(100) {
         0..=9 => Step::Order { post: sending_end },
-        10..=27 => Step::Start {
+        10..=25 => Step::Start {
             post: sending_end,
-            train: likely_number(rng, section, track),
+            train: starting_number(rng, section, track),
         },
-        28..=59 => movement(rng, section, track),
-        60..=84 => local_step(rng, section, track),
-        85..=90 => release_step(rng, section, track),
-        91..=92 => Step::Key {
+        26..=53 => movement_or_its_form(rng, section, track),
+        54..=76 => local_step(rng, section, track),
+        77..=82 => release_step(rng, section, track),
+        83..=84 => Step::Key {
             post: turn_or_any(rng, section, track),
+        },
+        85..=92 => Step::Form {
+            post: turn_or_any(rng, section, track),
+            train: likely_number(rng, section, track),
         },
         _ => random_step(rng, section.settings.n),
     }
@@ -189,6 +219,30 @@ fn set_step(rng: &mut Rng, section: &Section, track: usize, post: u8) -> Step {
     }
 }
 
+/// A pass or leave, or mostly the form that the pass lacks.
+fn movement_or_its_form(rng: &mut Rng, section: &Section, track: usize) -> Step {
+    match movement(rng, section, track) {
+        Step::Pass { post, train } if lacks_form(section, track, post, train) => {
+            match rng.below(4) {
+                0 => Step::Pass { post, train },
+                _ => Step::Form { post, train },
+            }
+        }
+        step => step,
+    }
+}
+
+fn lacks_form(section: &Section, track: usize, post: u8, train: u16) -> bool {
+    let settings = &section.settings;
+    let kept = &section.tracks[track];
+    let record = &kept.posts[usize::from(post)];
+    section.way(track).ahead(post).is_some_and(|ahead| {
+        let under_fault_4 = record.faults & FAULT_4 != 0 && settings.crossing_in(ahead);
+        let without_zones = kept.direction == CVT && settings.crossing_without_zones_in(ahead);
+        record.form_for != train && (under_fault_4 || without_zones)
+    })
+}
+
 /// A pass or leave of a train that is there, if there is one.
 fn movement(rng: &mut Rng, section: &Section, track: usize) -> Step {
     let way = section.way(track);
@@ -225,7 +279,7 @@ fn local_step(rng: &mut Rng, section: &Section, track: usize) -> Step {
 }
 
 fn standing_fault(rng: &mut Rng, faults: u8) -> Option<u8> {
-    let standing: Vec<u8> = (1..=3)
+    let standing: Vec<u8> = (1..=GREATEST_FAULT)
         .filter(|fault| faults >> (fault - 1) & 1 == 1)
         .collect();
     (!standing.is_empty()).then(|| rng.pick(&standing))
@@ -268,11 +322,20 @@ fn likely_number(rng: &mut Rng, section: &Section, track: usize) -> u16 {
     }
 }
 
+/// Often that of the form at the sending end.
+fn starting_number(rng: &mut Rng, section: &Section, track: usize) -> u16 {
+    let sending_end = section.way(track).sending_end();
+    match section.tracks[track].posts[usize::from(sending_end)].form_for {
+        form_for if form_for != 0 && rng.chance(2, 3) => form_for,
+        _ => likely_number(rng, section, track),
+    }
+}
+
 fn random_step(rng: &mut Rng, n: u8) -> Step {
     let post = rng.post(n);
     let train = 1 + rng.below(30) as u16;
     let fault = rng.fault();
-    match rng.below(13) {
+    match rng.below(14) {
         0 => Step::Order { post },
         1 => Step::Set { post },
         2 => Step::Announce { post },
@@ -288,7 +351,8 @@ fn random_step(rng: &mut Rng, n: u8) -> Step {
             post,
             train: train - 1,
         },
-        _ => Step::Key { post },
+        12 => Step::Key { post },
+        _ => Step::Form { post, train },
     }
 }
 
@@ -345,13 +409,17 @@ fn random_track(rng: &mut Rng, settings: &Settings, track: usize) -> Track {
         kept.trains[i] = number(density);
         kept.last[i] = number(7);
     }
+    for i in 0..n {
+        let beside = i.saturating_sub(1)..(n - 1).min(i + 1);
+        kept.posts[i].form_for = random_form(rng, &kept.trains[beside]);
+    }
     choose_turn(rng, &mut kept, settings.n, track);
     kept
 }
 
 fn random_post(rng: &mut Rng, fault_density: u64) -> Post {
     let mut faults = 0;
-    for bit in [FAULT_1, FAULT_2, FAULT_3] {
+    for bit in [FAULT_1, FAULT_2, FAULT_3, FAULT_4] {
         if rng.chance(fault_density, 10) {
             faults |= bit;
         }
@@ -363,6 +431,16 @@ fn random_post(rng: &mut Rng, fault_density: u64) -> Post {
         faults,
         mark: rng.flag(),
         seals: random_seals(rng),
+        form_for: 0,
+    }
+}
+
+/// None, or for any train, or for one in the block sections beside the post.
+fn random_form(rng: &mut Rng, beside: &[u16]) -> u16 {
+    match rng.below(3) {
+        0 => 0,
+        1 => random_train(rng, 10),
+        _ => rng.pick(beside),
     }
 }
 
@@ -383,6 +461,7 @@ fn garbage_post(rng: &mut Rng) -> Post {
         faults: rng.byte(),
         mark: rng.byte(),
         seals: rng.word(),
+        form_for: rng.word(),
     }
 }
 
@@ -418,7 +497,7 @@ pub fn put_out_of_range(rng: &mut Rng, section: &mut Section) {
     let block_section = rng.below(u64::from(n) - 1) as usize;
     let way = section.way(number);
     let track = &mut section.tracks[number];
-    match rng.below(17) {
+    match rng.below(20) {
         0 => section.settings.n = rng.pick(&[0, 1, 17, 18, 255]),
         1 => section.settings.form = 2 + rng.below(254) as u8,
         2 => section.settings.mask &= !(1 << rng.pick(&[0, n - 1])),
@@ -431,12 +510,28 @@ pub fn put_out_of_range(rng: &mut Rng, section: &mut Section) {
         9 => track.posts[post].device = rng.pick(&[2, 255]),
         10 => track.posts[post].permission = rng.pick(&[2, 255]),
         11 => track.posts[post].measures = rng.pick(&[2, 255]),
-        12 => track.posts[post].faults |= 8 << rng.below(5),
+        12 => track.posts[post].faults |= 16 << rng.below(4),
         13 => track.posts[post].mark = rng.pick(&[2, 255]),
         14 => track.posts[post].seals = rng.pick(&[1_000, 1_023, 65_535]),
         15 => track.trains[block_section] = rng.pick(&[10_000, 65_535]),
-        _ => track.last[block_section] = rng.pick(&[10_000, 65_535]),
+        16 => track.last[block_section] = rng.pick(&[10_000, 65_535]),
+        17 => track.posts[post].form_for = rng.pick(&[10_000, 65_535]),
+        _ => section.settings.crossings = wrong_crossings(rng, n),
     }
+}
+
+/// Crossing bytes of which at least one is wrong for n posts.
+fn wrong_crossings(rng: &mut Rng, n: u8) -> Crossings {
+    let mut crossings = random_crossings(rng, n);
+    let top = n - 2;
+    match rng.below(5) {
+        0 => (crossings[0], crossings[1]) = (UNUSED, random_crossing(rng, n)),
+        1 => (crossings[6], crossings[7]) = (UNUSED, random_crossing(rng, n)),
+        2 => (crossings[0], crossings[1]) = (top + WITHOUT_ZONES, top),
+        3 if top > 0 => (crossings[0], crossings[1]) = (top, rng.pick(&[0, WITHOUT_ZONES])),
+        _ => crossings[0] = rng.pick(&[n - 1, n - 1 + WITHOUT_ZONES, 127, 254]),
+    }
+    crossings
 }
 
 // Days.
@@ -456,16 +551,66 @@ pub fn random_day(rng: &mut Rng, count: usize) -> Vec<u8> {
 
 /// Spoils a file; now and then it stays readable.
 pub fn damage(rng: &mut Rng, file: &mut Vec<u8>) {
-    match rng.below(10) {
+    let longest_tail = Mark::Bsr2.tail_length();
+    match rng.below(14) {
         0 => file.truncate(rng.below(file.len() as u64 + 1) as usize),
         1 => file.truncate(file.len().saturating_sub(STEP_LENGTH)),
         2 => file.extend((0..rng.below(20)).map(|i| i as u8)),
         3 => file.splice(0..0, [0; STEP_LENGTH]).for_each(drop),
         4 => file.resize(GREATEST_LENGTH + rng.pick(&[0, 1, 8]), 0),
         5 => replace_byte(rng, file, TRAILER_LENGTH),
-        6 => replace_byte(rng, file, TAIL_LENGTH),
-        7 => flip_bit(rng, file, TAIL_LENGTH),
+        6 => replace_byte(rng, file, longest_tail),
+        7 => flip_bit(rng, file, longest_tail),
+        8 => exchange_mark(file),
+        9 => put_trailer_of_length(rng, file),
+        10 => put_crossings(rng, file),
+        11 => replace_crossing(rng, file),
         _ => replace_byte(rng, file, usize::MAX),
+    }
+}
+
+/// The other mark over the same distances and count.
+fn exchange_mark(file: &mut [u8]) {
+    if let Some(place) = file.len().checked_sub(TRAILER_LENGTH) {
+        file[place + 3] ^= b'1' ^ b'2';
+    }
+}
+
+/// The trailer that the length demands under either mark, whatever the bytes before it were.
+fn put_trailer_of_length(rng: &mut Rng, file: &mut [u8]) {
+    let mark = rng.pick(&[Mark::Bsr1, Mark::Bsr2]);
+    if let Some(steps_length) = file.len().checked_sub(mark.tail_length()) {
+        let trailer = mark.trailer(steps_length / STEP_LENGTH);
+        let place = file.len() - TRAILER_LENGTH;
+        file[place..].copy_from_slice(&trailer);
+    }
+}
+
+/// Crossing bytes, mostly wrong ones or all unused, and the trailer of "BSR2" behind the
+/// settings of a file of either mark.
+fn put_crossings(rng: &mut Rng, file: &mut Vec<u8>) {
+    let Ok(day) = dayfile::read(file) else { return };
+    let count = day.count;
+    let n = day.settings.n;
+    let crossings = match rng.below(4) {
+        0 => NO_CROSSINGS,
+        1 => random_crossings(rng, n),
+        _ => wrong_crossings(rng, n),
+    };
+    file.truncate(count * STEP_LENGTH + SETTINGS_LENGTH);
+    file.extend_from_slice(&crossings);
+    file.extend_from_slice(&Mark::Bsr2.trailer(count));
+}
+
+/// One byte where a file of mark "BSR2" has its crossings.
+fn replace_crossing(rng: &mut Rng, file: &mut [u8]) {
+    let value = match rng.below(4) {
+        0 => UNUSED,
+        _ => rng.below(17) as u8 + WITHOUT_ZONES * rng.flag(),
+    };
+    let from_end = TRAILER_LENGTH + rng.between(1, MOST_CROSSINGS);
+    if let Some(place) = file.len().checked_sub(from_end) {
+        file[place] = value;
     }
 }
 

@@ -1,5 +1,6 @@
 //! Direction blocking between two end stations: a second implementation, written from
-//! document 01 and the readings that AMBIGUITIES.md names as given beforehand.
+//! document 01, request 1 of document 02 and the readings that AMBIGUITIES.md names as given
+//! beforehand.
 
 pub mod dayfile;
 pub mod engine;

@@ -17,7 +17,8 @@ pub const ACKNOWLEDGE: u8 = 3;
 pub const FAULT_1: u8 = 1;
 pub const FAULT_2: u8 = 2;
 pub const FAULT_3: u8 = 4;
-const ALL_FAULTS: u8 = FAULT_1 | FAULT_2 | FAULT_3;
+pub const FAULT_4: u8 = 8;
+const ALL_FAULTS: u8 = FAULT_1 | FAULT_2 | FAULT_3 | FAULT_4;
 
 #[derive(Clone, Copy, Debug, Default, PartialEq, Eq, Hash)]
 pub struct Post {
@@ -27,6 +28,8 @@ pub struct Post {
     pub faults: u8,
     pub mark: u8,
     pub seals: u16,
+    /// The train that the E.S. 379 form handed out here is for, 0 for no form.
+    pub form_for: u16,
 }
 
 #[derive(Clone, Copy, Debug, Default, PartialEq, Eq, Hash)]
@@ -115,12 +118,17 @@ fn posts_in_range(posts: &[Post]) -> bool {
     let mut two_valued = 0;
     let mut faults = 0;
     let mut most_seals = 0;
+    let mut greatest_form = 0;
     for post in posts {
         two_valued |= post.device | post.permission | post.measures | post.mark;
         faults |= post.faults;
         most_seals = most_seals.max(post.seals);
+        greatest_form = greatest_form.max(post.form_for);
     }
-    two_valued <= 1 && faults <= ALL_FAULTS && most_seals <= MOST_SEALS
+    two_valued <= 1
+        && faults <= ALL_FAULTS
+        && most_seals <= MOST_SEALS
+        && greatest_form <= GREATEST_TRAIN
 }
 
 fn trains_in_range(trains: &[u16]) -> bool {

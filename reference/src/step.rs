@@ -1,7 +1,8 @@
-//! One step of a day: thirteen kinds, eight bytes each.
+//! One step of a day: fourteen kinds, eight bytes each.
 
 pub const STEP_LENGTH: usize = 8;
 pub const GREATEST_TRAIN: u16 = 9_999;
+pub const GREATEST_FAULT: u8 = 4;
 
 #[derive(Clone, Copy, Debug, PartialEq, Eq, Hash)]
 pub enum Step {
@@ -18,6 +19,7 @@ pub enum Step {
     FaultOff { post: u8, fault: u8 },
     Release { post: u8, train: u16 },
     Key { post: u8 },
+    Form { post: u8, train: u16 },
 }
 
 pub fn start(post: u8, train: u16) -> Step {
@@ -34,6 +36,11 @@ pub fn leave(post: u8, train: u16) -> Step {
 
 pub fn release(post: u8, train: u16) -> Step {
     Step::Release { post, train }
+}
+
+/// An E.S. 379 form for the train, handed out at the post.
+pub fn form(post: u8, train: u16) -> Step {
+    Step::Form { post, train }
 }
 
 /// The track and the step, or `None` for a malformed step of a section of n posts.
@@ -64,6 +71,7 @@ pub fn decode(bytes: &[u8], n: u8) -> Option<(u8, Step)> {
         11 => Step::FaultOff { post, fault },
         12 => Step::Release { post, train },
         13 => Step::Key { post },
+        14 => Step::Form { post, train },
         _ => return None,
     };
     Some((track, step))
@@ -71,14 +79,14 @@ pub fn decode(bytes: &[u8], n: u8) -> Option<(u8, Step)> {
 
 fn fault_fits(kind: u8, fault: u8) -> bool {
     match kind {
-        10 | 11 => (1..=3).contains(&fault),
+        10 | 11 => (1..=GREATEST_FAULT).contains(&fault),
         _ => fault == 0,
     }
 }
 
 fn train_fits(kind: u8, train: u16) -> bool {
     match kind {
-        5..=7 => (1..=GREATEST_TRAIN).contains(&train),
+        5..=7 | 14 => (1..=GREATEST_TRAIN).contains(&train),
         12 => train <= GREATEST_TRAIN,
         _ => train == 0,
     }
@@ -99,6 +107,7 @@ pub fn encode(track: u8, step: &Step) -> [u8; STEP_LENGTH] {
         Step::FaultOff { post, fault } => (11, post, fault, 0),
         Step::Release { post, train } => (12, post, 0, train),
         Step::Key { post } => (13, post, 0, 0),
+        Step::Form { post, train } => (14, post, 0, train),
     };
     let [train_low, train_high] = u16::to_le_bytes(train);
     [kind, track, post, fault, train_low, train_high, 0, 0]
@@ -111,11 +120,11 @@ mod tests {
     #[test]
     fn every_kind_goes_there_and_back() {
         for kind in 0..=255u8 {
-            for fault in 0..=4u8 {
+            for fault in 0..=5u8 {
                 for train in [0u16, 1, 9_999, 10_000, 65_535] {
                     let [low, high] = train.to_le_bytes();
                     let bytes = [kind, 1, 4, fault, low, high, 0, 0];
-                    let expected = (1..=13).contains(&kind)
+                    let expected = (1..=14).contains(&kind)
                         && fault_fits(kind, fault)
                         && train_fits(kind, train);
                     let decoded = decode(&bytes, 5);
@@ -138,6 +147,10 @@ mod tests {
         for bad in [
             [0, 0, 0, 0, 0, 0, 0, 0],
             [14, 0, 0, 0, 0, 0, 0, 0],
+            [14, 0, 0, 1, 1, 0, 0, 0],
+            [14, 0, 0, 0, 0x10, 0x27, 0, 0],
+            [15, 0, 0, 0, 0, 0, 0, 0],
+            [15, 0, 0, 0, 1, 0, 0, 0],
             [1, 2, 0, 0, 0, 0, 0, 0],
             [1, 0, 2, 0, 0, 0, 0, 0],
             [1, 0, 0, 1, 0, 0, 0, 0],
@@ -147,7 +160,7 @@ mod tests {
             [5, 0, 0, 0, 0, 0, 0, 0],
             [5, 0, 0, 0, 0x10, 0x27, 0, 0],
             [10, 0, 0, 0, 0, 0, 0, 0],
-            [11, 0, 0, 4, 0, 0, 0, 0],
+            [11, 0, 0, 5, 0, 0, 0, 0],
             [12, 0, 0, 0, 0x10, 0x27, 0, 0],
         ] {
             assert!(decode(&bad, 2).is_none(), "{bad:?}");

@@ -3,6 +3,7 @@
 
 mod bench;
 mod coverage;
+mod crossings;
 mod every_refusal;
 mod lengths;
 mod refused;
@@ -12,7 +13,7 @@ mod written;
 
 use crate::dayfile::MOST_STEPS;
 use crate::listing::{listing, panel};
-use crate::settings::{Settings, MATERIALISED, TELEPHONE};
+use crate::settings::{Settings, MATERIALISED, NO_CROSSINGS, TELEPHONE};
 use bench::{A, B};
 
 pub struct StoredDay {
@@ -36,7 +37,7 @@ const FORMS: [(u8, &str); 2] = [(TELEPHONE, "telephone"), (MATERIALISED, "materi
 const TRACKS: [(u8, &str); 2] = [(A, "a"), (B, "b")];
 
 /// Days kept as text in the folder `days`.
-const WRITTEN: [(&str, &str); 11] = [
+const WRITTEN: [(&str, &str); 12] = [
     ("worked_example", include_str!("../days/worked_example.txt")),
     ("annex_1", include_str!("../days/annex_1.txt")),
     ("annex_2", include_str!("../days/annex_2.txt")),
@@ -49,6 +50,7 @@ const WRITTEN: [(&str, &str); 11] = [
     ),
     ("fault_2_key", include_str!("../days/fault_2_key.txt")),
     ("fault_3_dark", include_str!("../days/fault_3_dark.txt")),
+    ("fault_4_form", include_str!("../days/fault_4_form.txt")),
     (
         "last_train_survives_reversal",
         include_str!("../days/last_train_survives_reversal.txt"),
@@ -66,6 +68,7 @@ pub fn days() -> Vec<StoredDay> {
     add_written(&mut days);
     add_every_refusal(&mut days);
     add_stretches(&mut days);
+    add_crossings(&mut days);
     add_drawn(&mut days);
     add_lengths(&mut days);
     for (name, file) in refused::files() {
@@ -109,6 +112,38 @@ fn add_stretches(days: &mut Vec<StoredDay>) {
     }
 }
 
+fn add_crossings(days: &mut Vec<StoredDay>) {
+    for (form, form_name) in FORMS {
+        for (track, track_name) in TRACKS {
+            let place = format!("{form_name}_{track_name}");
+            for n in [2, 3, 16] {
+                let name = format!("crossings_every_answer_{n}_{place}");
+                add(days, &name, crossings::every_answer(n, form, track));
+            }
+            for (name, file) in [
+                ("crossings_zones", crossings::zones(form, track)),
+                ("crossings_eight", crossings::eight(form, track)),
+                ("crossings_fault_4", crossings::fault_4(form, track)),
+                ("crossings_forms", crossings::forms(form, track)),
+                (
+                    "crossings_set_removes_form",
+                    crossings::set_and_key(form, track, false),
+                ),
+                (
+                    "crossings_key_removes_form",
+                    crossings::set_and_key(form, track, true),
+                ),
+            ] {
+                add(days, &format!("{name}_{place}"), file);
+            }
+        }
+    }
+    for (track, track_name) in TRACKS {
+        let name = format!("crossings_forms_behind_trains_{track_name}");
+        add(days, &name, crossings::forms_behind_trains(track));
+    }
+}
+
 /// The masks leave posts without signals, so that passes go on inside a stretch too.
 fn add_drawn(days: &mut Vec<StoredDay>) {
     for (n, mask) in [(2, 0x3), (3, 0x5), (7, 0x49), (16, 0x9249)] {
@@ -117,6 +152,9 @@ fn add_drawn(days: &mut Vec<StoredDay>) {
             let settings = settings(n, form, mask);
             let seed = u64::from(n) * 2 + u64::from(form);
             add(days, &name, lengths::drawn(settings, 250, seed));
+            let name = format!("drawn_{n}_{form_name}_crossings");
+            let settings = with_crossings(settings);
+            add(days, &name, lengths::drawn(settings, 250, seed + 100));
         }
     }
 }
@@ -124,14 +162,31 @@ fn add_drawn(days: &mut Vec<StoredDay>) {
 fn add_lengths(days: &mut Vec<StoredDay>) {
     let two = settings(2, TELEPHONE, 0x3);
     let sixteen = settings(16, MATERIALISED, 0x8421);
-    add(days, "no_steps_2", lengths::without_steps(two));
-    add(days, "no_steps_16", lengths::without_steps(sixteen));
-    add(
-        days,
-        "steps_4096_16",
-        lengths::drawn(sixteen, MOST_STEPS, 4_096),
-    );
+    for (settings, n, ending) in [
+        (two, 2, ""),
+        (sixteen, 16, ""),
+        (with_crossings(two), 2, "_crossings"),
+        (with_crossings(sixteen), 16, "_crossings"),
+    ] {
+        let name = format!("no_steps_{n}{ending}");
+        add(days, &name, lengths::without_steps(settings));
+    }
+    for (settings, ending, seed) in [
+        (sixteen, "", 4_096),
+        (with_crossings(sixteen), "_crossings", 4_097),
+    ] {
+        let name = format!("steps_4096_16{ending}");
+        add(days, &name, lengths::drawn(settings, MOST_STEPS, seed));
+    }
     add(days, "steps_4096_819_seals", lengths::seals_819());
+}
+
+/// Both kinds in the first, the middle and the last block section.
+fn with_crossings(settings: Settings) -> Settings {
+    Settings {
+        crossings: crossings::both_kinds(settings.n),
+        ..settings
+    }
 }
 
 fn settings(n: u8, form: u8, mask: u16) -> Settings {
@@ -140,5 +195,6 @@ fn settings(n: u8, form: u8, mask: u16) -> Settings {
         form,
         mask,
         line: 1,
+        crossings: NO_CROSSINGS,
     }
 }

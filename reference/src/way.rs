@@ -104,6 +104,7 @@ pub fn ends_stretch(settings: &Settings, direction: u8, post: u8) -> bool {
 #[cfg(test)]
 mod tests {
     use super::*;
+    use crate::settings::NO_CROSSINGS;
 
     #[test]
     fn track_b_runs_the_other_way() {
@@ -135,6 +136,7 @@ mod tests {
             form: 0,
             mask: 0b100101,
             line: 1,
+            crossings: NO_CROSSINGS,
         };
         let up = Way { upward: true, n: 6 };
         let down = Way {

@@ -5,6 +5,7 @@ use reference::generate::{self, Rng};
 use reference::section::Section;
 use reference::settings::{Settings, MATERIALISED};
 use reference::step::{decode, encode, Step};
+use reference::{dayfile, stored};
 use std::collections::BTreeMap;
 
 const DAYS: usize = 6_000;
@@ -37,6 +38,11 @@ struct Tally {
     reversals: usize,
     days_at_rest: usize,
     reordered: usize,
+    days_with_crossings: usize,
+    forms: usize,
+    forms_used: usize,
+    faults_4: usize,
+    days_with_forms_moved: usize,
 }
 
 #[test]
@@ -57,6 +63,15 @@ fn demand_3() {
         tally.days_at_rest,
         tally.reordered
     );
+    println!(
+        "days with crossings {}, forms {} (used {}), fault 4 declared {}, \
+         reordered days in which forms moved {}",
+        tally.days_with_crossings,
+        tally.forms,
+        tally.forms_used,
+        tally.faults_4,
+        tally.days_with_forms_moved
+    );
     assert!(tally.ended_runs > 0, "no run ended");
     assert!(tally.runs > tally.ended_runs, "every run ended");
     assert!(tally.reversals > 0, "no reversal ended");
@@ -65,14 +80,45 @@ fn demand_3() {
         tally.days_at_rest > tally.reordered,
         "every day needed a reordering"
     );
+    assert!(tally.days_with_crossings > 0, "no day had crossings");
+    assert!(tally.days_with_crossings < DAYS, "every day had crossings");
+    assert!(tally.forms > tally.forms_used, "every form was used");
+    assert!(tally.forms_used > 0, "no form was used");
+    assert!(tally.faults_4 > 0, "no fault 4");
+    assert!(
+        tally.days_with_forms_moved > 0,
+        "no reordering moved a form"
+    );
+}
+
+/// The stored days in which forms are handed out to trains ahead of a reversal.
+#[test]
+fn forms_behind_trains_are_put_in_another_order() {
+    let mut tally = Tally::default();
+    let days = stored::days();
+    let shown = days
+        .iter()
+        .filter(|day| day.name.starts_with("crossings_forms_behind_trains"));
+    for day in shown {
+        let day = dayfile::read(&day.file).unwrap();
+        let list: Vec<Vec<u8>> = day.steps.chunks(8).map(<[u8]>::to_vec).collect();
+        check_list(&list, day.settings, &mut tally);
+    }
+    assert_eq!((tally.days_at_rest, tally.reordered), (2, 2));
+    assert_eq!(tally.days_with_forms_moved, 2);
 }
 
 fn check_day(rng: &mut Rng, tally: &mut Tally) {
     let settings = generate::random_settings(rng);
     let list = random_list(rng, settings);
-    let (accepted, end) = walk(&list, settings);
+    check_list(&list, settings, tally);
+}
+
+fn check_list(list: &[Vec<u8>], settings: Settings, tally: &mut Tally) {
+    let (accepted, end) = walk(list, settings);
     tally.offered += list.len();
     tally.accepted += accepted.len();
+    count_forms(&accepted, settings, tally);
     check_runs(&accepted, &end, tally);
     check_starters(&end);
     if at_rest(&end) {
@@ -129,7 +175,7 @@ fn malformed_step(rng: &mut Rng, section: &Section) -> Vec<u8> {
     match rng.below(6) {
         0 => step.truncate(rng.below(8) as usize),
         1 => step.push(0),
-        2 => step[0] = rng.pick(&[0, 14, 255]),
+        2 => step[0] = rng.pick(&[0, 15, 255]),
         3 => step[1] = 2,
         4 => step[2] = section.settings.n,
         _ => step[6 + rng.below(2) as usize] = 1,
@@ -158,6 +204,23 @@ fn walk(list: &[Vec<u8>], settings: Settings) -> (Vec<Accepted>, Section) {
         section = answer.section;
     }
     (accepted, section)
+}
+
+fn count_forms(accepted: &[Accepted], settings: Settings, tally: &mut Tally) {
+    tally.days_with_crossings += usize::from(settings.has_crossings());
+    let mut section = Section::fresh(settings);
+    for one in accepted {
+        let before = section.tracks[one.track].posts[usize::from(post_of(&one.step))].form_for;
+        section = judge(&section, &encode(one.track as u8, &one.step)).section;
+        match one.step {
+            Step::Form { .. } => tally.forms += 1,
+            Step::FaultOn { fault: 4, .. } => tally.faults_4 += 1,
+            Step::Start { train, .. } | Step::Pass { train, .. } if before == train => {
+                tally.forms_used += 1;
+            }
+            _ => {}
+        }
+    }
 }
 
 // Runs.
@@ -260,11 +323,12 @@ fn check_starters(end: &Section) {
     }
 }
 
-/// Fifteen block sections hold at most fifteen numbers, so sixteen tell for all;
-/// some others are tried all the same.
+/// Fifteen block sections hold at most fifteen numbers, so sixteen tell for all where no form
+/// is needed, and the form's own where one is; some others are tried all the same.
 fn start_is_accepted(section: &Section, track: u8, post: u8) -> bool {
+    let form_for = section.tracks[usize::from(track)].posts[usize::from(post)].form_for;
     (1..=16)
-        .chain([500, 9_999])
+        .chain([500, 9_999, form_for])
         .any(|train| judge(section, &encode(track, &Step::Start { post, train })).refusal == 0)
 }
 
@@ -280,11 +344,18 @@ fn check_order_without_trains_in_reversals(
     let new_order = trains_out_of_the_way(accepted, end.settings);
     if needed {
         tally.reordered += 1;
+        tally.days_with_forms_moved += usize::from(form_moved_ahead(&new_order, accepted));
         assert_eq!(end.settings.form, MATERIALISED);
     } else {
         check_new_order(accepted, accepted, end);
     }
     check_new_order(&new_order, accepted, end);
+}
+
+fn form_moved_ahead(new_order: &[Accepted], accepted: &[Accepted]) -> bool {
+    let is_form = |one: &Accepted| matches!(one.step, Step::Form { .. });
+    let mut both = new_order.iter().zip(accepted);
+    both.any(|(new, old)| is_form(new) && new.place > old.place)
 }
 
 fn meets_train_in_reversal(accepted: &[Accepted], settings: Settings) -> bool {
@@ -401,7 +472,8 @@ fn post_of(step: &Step) -> u8 {
         | Step::FaultOn { post, .. }
         | Step::FaultOff { post, .. }
         | Step::Release { post, .. }
-        | Step::Key { post } => post,
+        | Step::Key { post }
+        | Step::Form { post, .. } => post,
     }
 }
 

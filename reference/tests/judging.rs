@@ -4,11 +4,12 @@ use reference::engine::{judge, judge_in_place};
 use reference::generate::{self, Rng};
 use reference::indications::indications;
 use reference::section::{Post, Section};
-use reference::settings::Settings;
+use reference::settings::{Settings, NO_CROSSINGS};
 use std::collections::BTreeMap;
 
-/// Accepted again with the mark already there, so it may change nothing.
+/// Accepted again with the mark or the form already there, so they may change nothing.
 const RELEASE: u8 = 12;
+const FORM: u8 = 14;
 
 #[test]
 fn refusals_of_each_kind_are_those_of_the_table() {
@@ -25,13 +26,13 @@ fn refusals_of_each_kind_are_those_of_the_table() {
                 .or_default() += 1;
         }
     }
-    let table: [&[u8]; 13] = [
+    let table: [&[u8]; 14] = [
         &[0, 11, 12, 13, 14],
         &[0, 13, 15, 16, 18, 19],
         &[0, 15],
         &[0, 15],
-        &[0, 11, 12, 13, 17, 18],
-        &[0, 12, 13, 17],
+        &[0, 11, 12, 13, 17, 18, 22],
+        &[0, 12, 13, 17, 22],
         &[0, 12, 17],
         &[0, 21],
         &[0, 16, 21],
@@ -39,6 +40,7 @@ fn refusals_of_each_kind_are_those_of_the_table() {
         &[0, 21],
         &[0, 12, 13, 15, 17, 21],
         &[0, 13, 15, 16, 18, 20, 21],
+        &[0, 12],
     ];
     println!("kind: refusal: times {met:?}");
     for (kind, refusals) in (1..).zip(table) {
@@ -67,7 +69,7 @@ fn refused_steps_and_far_cells_change_nothing() {
             assert_eq!(after, answer.section);
             if answer.refusal != 0 {
                 assert_eq!((after, answer.said), (section, 0));
-            } else if step[0] != RELEASE {
+            } else if ![RELEASE, FORM].contains(&step[0]) {
                 assert_ne!(after, section, "{step:?}");
             }
             assert_eq!(far_cells(&after), far_cells(&section));
@@ -126,6 +128,7 @@ fn fresh_never_panics() {
             form: 9,
             mask: 0xffff,
             line: 0,
+            crossings: NO_CROSSINGS,
         };
         let section = Section::fresh(settings);
         assert!(!section.in_range());

@@ -3,7 +3,7 @@
 
 use reference::engine::judge;
 use reference::section::{Section, ACKNOWLEDGE, NO_REVERSAL, SET};
-use reference::settings::Settings;
+use reference::settings::{Settings, NO_CROSSINGS};
 use reference::step::{encode, Step};
 
 type Freeing = fn(&mut Section);
@@ -15,7 +15,15 @@ fn fresh() -> Section {
         form: 0,
         mask: 0b101,
         line: 1,
+        crossings: NO_CROSSINGS,
     })
+}
+
+/// A crossing without zones in each block section.
+fn with_crossings() -> Section {
+    let mut section = fresh();
+    section.settings.crossings[..2].copy_from_slice(&[128, 129]);
+    section
 }
 
 /// The step meets each refusal in turn; each is followed by what frees the step of it.
@@ -122,28 +130,32 @@ fn key() {
 
 #[test]
 fn start() {
-    let mut section = fresh();
+    let mut section = with_crossings();
     section.tracks[0].direction = 1;
     section.tracks[0].act = SET;
     section.tracks[0].trains = [8; 15];
-    section.tracks[0].posts[0].faults = 1;
-    let row: [(u8, Freeing); 5] = [
+    section.tracks[0].posts[0].faults = 9;
+    section.tracks[0].posts[0].form_for = 9;
+    let row: [(u8, Freeing); 6] = [
         (11, no_reversal),
         (12, running_vns),
         (17, |section| section.tracks[0].trains[..2].fill(9)),
         (13, no_train),
         (18, release_mark),
+        (22, |section| section.tracks[0].posts[0].form_for = 8),
     ];
     check_row(section, Step::Start { post: 0, train: 8 }, &row);
 }
 
 #[test]
 fn pass() {
-    let mut section = fresh();
+    let mut section = with_crossings();
     section.tracks[0].trains[1] = 9;
-    let row: [(u8, Freeing); 2] = [
+    section.tracks[0].posts[1].faults = 8;
+    let row: [(u8, Freeing); 3] = [
         (17, |section| section.tracks[0].trains[0] = 8),
         (13, |section| section.tracks[0].trains[1] = 0),
+        (22, |section| section.tracks[0].posts[1].form_for = 8),
     ];
     check_row(section, Step::Pass { post: 1, train: 8 }, &row);
     for post in [0, 2] {
@@ -166,6 +178,25 @@ fn pass_elsewhere_is_never_occupied() {
         judge(&section, &encode(0, &Step::Pass { post: 1, train: 8 })).refusal,
         13
     );
+}
+
+#[test]
+fn start_and_pass_in_counter_direction() {
+    let mut section = with_crossings();
+    section.tracks[0].direction = 1;
+    let start: [(u8, Freeing); 1] = [(22, |section| section.tracks[0].posts[2].form_for = 8)];
+    check_row(section, Step::Start { post: 2, train: 8 }, &start);
+    section.tracks[0].trains[1] = 8;
+    let pass: [(u8, Freeing); 1] = [(22, |section| section.tracks[0].posts[1].form_for = 8)];
+    check_row(section, Step::Pass { post: 1, train: 8 }, &pass);
+}
+
+#[test]
+fn form() {
+    let row: [(u8, Freeing); 1] = [(12, |section| section.settings.crossings[0] = 1)];
+    check_row(fresh(), Step::Form { post: 1, train: 8 }, &row);
+    let row: [(u8, Freeing); 1] = [(12, |section| section.tracks[0].direction = 1)];
+    check_row(with_crossings(), Step::Form { post: 2, train: 8 }, &row);
 }
 
 #[test]

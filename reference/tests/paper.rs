@@ -6,7 +6,7 @@ use reference::generate::{self, Rng};
 use reference::indications::indications;
 use reference::listing::{listing, panel};
 use reference::section::Section;
-use reference::settings::Settings;
+use reference::settings::{Settings, NO_CROSSINGS};
 use reference::step::{decode, encode, leave, pass, release, start, Step};
 
 const A: u8 = 0;
@@ -18,6 +18,7 @@ fn settings(n: u8, form: u8, mask: u16) -> Settings {
         form,
         mask,
         line: 1,
+        crossings: NO_CROSSINGS,
     }
 }
 

@@ -8,7 +8,7 @@ use reference::dayfile::MOST_STEPS;
 use reference::engine::{judge_in_place, judge_in_range};
 use reference::generate::{furthering_step, sensible_step, Rng};
 use reference::section::Section;
-use reference::settings::Settings;
+use reference::settings::{Settings, NO_CROSSINGS};
 use reference::step::STEP_LENGTH;
 use std::hint::black_box;
 use std::process::ExitCode;
@@ -27,6 +27,7 @@ fn benchmark_engine(run: &Run) -> Outcome {
                 form,
                 mask,
                 line: 42,
+                crossings: NO_CROSSINGS,
             };
             time_day(run, &settings)?;
         }
@@ -116,11 +117,11 @@ fn busy_day(rng: &mut Rng, settings: &Settings) -> Vec<u8> {
 
 fn kinds_accepted(settings: &Settings, steps: &[u8]) -> String {
     let mut section = Section::fresh(*settings);
-    let mut accepted = [0; 14];
+    let mut accepted = [0; 15];
     for step in steps.chunks_exact(STEP_LENGTH) {
         if judge_in_place(&mut section, step).0 == 0 {
             accepted[usize::from(step[0])] += 1;
         }
     }
-    format!("accepted by kind, 1 to 13: {:?}", &accepted[1..])
+    format!("accepted by kind, 1 to 14: {:?}", &accepted[1..])
 }

@@ -1,12 +1,13 @@
-//! Times reading and writing the longest day file.
+//! Times reading and writing the longest day file without crossings.
 
 use comparison::files::sound_step;
 use comparison::proved;
 use comparison::report::{run, same, same_bytes, Outcome, Run};
 use comparison::timing::{alternate, Times};
-use reference::dayfile::{self, GREATEST_LENGTH, MOST_STEPS};
+use reference::dayfile::{self, Mark, MOST_STEPS};
 use reference::generate::Rng;
-use reference::settings::Settings;
+use reference::settings::{Settings, NO_CROSSINGS};
+use reference::step::STEP_LENGTH;
 use std::hint::black_box;
 use std::process::ExitCode;
 
@@ -16,7 +17,10 @@ const SETTINGS: Settings = Settings {
     form: 1,
     mask: 0x9249,
     line: 42,
+    crossings: NO_CROSSINGS,
 };
+/// Of a file without crossings.
+const GREATEST_LENGTH: usize = MOST_STEPS * STEP_LENGTH + Mark::Bsr1.tail_length();
 
 fn main() -> ExitCode {
     run(benchmark_files)

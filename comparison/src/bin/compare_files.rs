@@ -1,6 +1,7 @@
 //! Compares the readers and writers of day files.
 
 use comparison::files::reader::ReaderComparison;
+use comparison::files::refusals::{Case, CASES};
 use comparison::files::writer::WriterComparison;
 use comparison::report::{run, Outcome, Run};
 use std::process::ExitCode;
@@ -15,7 +16,10 @@ fn compare_files(run: &Run) -> Outcome {
     reader.seen.print("reader, answers by refusal");
     writer.seen.print("writer, answers by refusal");
     reader.seen.are_just(&[0, 1, 2, 3, 4], "reader")?;
+    reader.seen.have(&CASES, "reader")?;
     writer.seen.are_just(&[0, 3, 4, 5], "writer")?;
+    let written = [Case::Bsr1, Case::Bsr2, Case::WrongCrossings];
+    writer.seen.have(&written, "writer")?;
     println!("reader: {} files compared", reader.seen.total());
     println!("writer: {} calls compared", writer.seen.total());
     Ok(())

@@ -5,15 +5,15 @@ use super::notes::{room_for, second_notes};
 use super::offers::offer;
 use super::tally::Tally;
 use crate::files::bounds::settings_bytes_at_bounds;
-use crate::files::{settings_lent, settings_of_other_lengths, sound_step};
-use crate::image::{image_of, IMAGE_LENGTH};
+use crate::files::{settings_bytes, settings_lent, settings_of_other_lengths, sound_step};
+use crate::image::{image_of, IMAGE_LENGTH, LENGTH_OF_LAYOUT_1};
 use crate::lent::{same_buffers, Lent};
 use crate::proved::{self, engine::Way};
 use crate::report::{hex, same, Comparison, Failure, Outcome};
 use reference::engine::judge_in_place;
-use reference::generate::{random_settings, Rng};
+use reference::generate::{furthering_step, random_settings, Rng};
 use reference::section::{Section, MOST_SEALS};
-use reference::settings::Settings;
+use reference::settings::{Settings, NO_CROSSINGS};
 use reference::step::{encode, Step, STEP_LENGTH};
 
 const DAYS: u32 = 800;
@@ -50,7 +50,8 @@ impl Comparison for DayComparison {
         for _ in 0..DAYS {
             self.random_day()?;
         }
-        self.day_of_keys()
+        self.day_of_keys()?;
+        self.day_of_a_late_caution()
     }
 }
 
@@ -68,7 +69,13 @@ impl DayComparison {
 
     /// The fresh section in buffers of several lengths, and the notes of a day of one step.
     fn fresh_and_noted(&mut self, settings: &[u8]) -> Outcome {
-        for room in [0, IMAGE_LENGTH - 1, IMAGE_LENGTH, IMAGE_LENGTH + 40] {
+        for room in [
+            0,
+            LENGTH_OF_LAYOUT_1,
+            IMAGE_LENGTH - 1,
+            IMAGE_LENGTH,
+            IMAGE_LENGTH + 40,
+        ] {
             self.fresh(settings, room)?;
         }
         let step = sound_step(&mut self.rng, 2);
@@ -83,7 +90,7 @@ impl DayComparison {
         }
         let rest = self.rng.below(STEP_LENGTH as u64) as usize;
         day.steps.extend(vec![0; rest]);
-        self.same_notes(&settings.encode(), &day.steps)
+        self.same_notes(&settings_bytes(&settings), &day.steps)
     }
 
     /// Reversals there and back by the emergency button, until its seals are used up.
@@ -94,6 +101,7 @@ impl DayComparison {
             form: self.rng.flag(),
             mask: 3,
             line: 1,
+            crossings: NO_CROSSINGS,
         };
         let mut day = self.begin(settings)?;
         for post in [0, 1] {
@@ -106,7 +114,26 @@ impl DayComparison {
                 self.take(&mut day, &encode(track, &step))?;
             }
         }
-        self.same_notes(&settings.encode(), &day.steps)
+        self.same_notes(&settings_bytes(&settings), &day.steps)
+    }
+
+    /// A caution form handed out by the middle one of three posts after its own set: the train that it is for comes with the new direction, in which
+    /// no crossing lies ahead of that post.
+    fn day_of_a_late_caution(&mut self) -> Outcome {
+        let track = self.rng.flag();
+        let settings = Settings {
+            n: 3,
+            form: self.rng.flag(),
+            mask: 7,
+            line: 1,
+            crossings: [1 - track, 255, 255, 255, 255, 255, 255, 255],
+        };
+        let train = 1 + self.rng.below(9_999) as u16;
+        let mut day = self.begin(settings)?;
+        for step in late_caution(2 * track, train) {
+            self.take(&mut day, &encode(track, &step))?;
+        }
+        self.same_notes(&settings_bytes(&settings), &day.steps)
     }
 
     /// The proved notes of the whole day, both ways, against the steps judged one by one, in a buffer as long, longer and too short.
@@ -145,7 +172,7 @@ impl DayComparison {
     }
 
     fn begin(&mut self, settings: Settings) -> Result<Day, Failure> {
-        let image = self.fresh(&settings.encode(), IMAGE_LENGTH)?;
+        let image = self.fresh(&settings_bytes(&settings), IMAGE_LENGTH)?;
         Ok(Day {
             settings,
             both: Both {
@@ -158,7 +185,13 @@ impl DayComparison {
 
     fn take_any_step(&mut self, day: &mut Day) -> Outcome {
         let section = day.both.section.unwrap_or(Section::fresh(day.settings));
-        let step = offer(&mut self.rng, &section);
+        let step = match self.rng.chance(1, 3) {
+            true => {
+                let track = self.rng.flag();
+                furthering_step(&mut self.rng, &section, track).to_vec()
+            }
+            false => offer(&mut self.rng, &section),
+        };
         self.take(day, &step)
     }
 
@@ -182,6 +215,38 @@ fn second_fresh(settings: &[u8], buffer: &mut [u8]) -> u8 {
         }
         None => BUFFER_TOO_SHORT,
     }
+}
+
+/// For three posts.
+fn late_caution(sending_end: u8, train: u16) -> [Step; 15] {
+    let receiving_end = 2 - sending_end;
+    [
+        Step::MeasuresOn { post: 0 },
+        Step::MeasuresOn { post: 1 },
+        Step::MeasuresOn { post: 2 },
+        Step::Order { post: sending_end },
+        Step::Set { post: sending_end },
+        Step::Announce { post: sending_end },
+        Step::Acknowledge { post: 1 },
+        Step::Set { post: 1 },
+        Step::Form { post: 1, train },
+        Step::Announce { post: 1 },
+        Step::Acknowledge {
+            post: receiving_end,
+        },
+        Step::Set {
+            post: receiving_end,
+        },
+        Step::Start {
+            post: receiving_end,
+            train,
+        },
+        Step::Pass { post: 1, train },
+        Step::Leave {
+            post: sending_end,
+            train,
+        },
+    ]
 }
 
 /// For two posts.

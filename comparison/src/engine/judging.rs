@@ -1,5 +1,6 @@
 //! One step judged by both engines, and what all posts show after it.
 
+use crate::engine::cautions::Fate;
 use crate::engine::tally::Tally;
 use crate::image::{cell_name, image_of, posts_said};
 use crate::lent::{same_buffers, Lent};
@@ -23,6 +24,7 @@ impl Both {
     /// The refusal, 0 for none.
     pub fn judge(&mut self, rng: &mut Rng, step: &[u8], tally: &mut Tally) -> Result<u8, Failure> {
         let before = self.image.clone();
+        let section_before = self.section;
         let input = || format!("image: {}\nstep:  {}", hex(before.content()), hex(step));
         let proved = proved::engine::judge(self.image.part(), step);
         let (refusal, said) = self.second_answer(step);
@@ -32,6 +34,9 @@ impl Both {
         self.same_image(&expected, &input)?;
         self.compare_indications(rng, &input)?;
         tally.count(step, refusal, said);
+        if let (Some(section), 0) = (section_before, refusal) {
+            tally.count_fate(Fate::of(&section, step));
+        }
         Ok(refusal)
     }
 

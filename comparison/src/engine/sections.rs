@@ -3,8 +3,9 @@
 use super::judging::Both;
 use super::offers::offer;
 use super::tally::Tally;
-use crate::image::{fill_unread_bytes, image_of, make_representable, put_other_layout};
-use crate::image::{section_of, IMAGE_LENGTH};
+use crate::files::bounds::crossings_at_bounds;
+use crate::image::{fill_unread_bytes, image_of, make_representable, put_layout};
+use crate::image::{put_other_layout, section_of, IMAGE_LENGTH, LENGTH_OF_LAYOUT_1};
 use crate::lent::Lent;
 use crate::report::{Comparison, Outcome};
 use reference::generate::{put_out_of_range, random_in_range_section, Rng};
@@ -13,8 +14,13 @@ use reference::section::Section;
 const IN_RANGE: u32 = 150_000;
 const OUT_OF_RANGE: u32 = 10_000;
 const CHANGED: u32 = 20_000;
-const OTHER_LENGTHS: u32 = 500;
+const OTHER_LENGTHS: u32 = 1_000;
 const OTHER_LAYOUTS: u32 = 5_000;
+const AT_BOUNDS: u32 = 20;
+
+/// The faults' byte and the caution form's number, at and beside their bounds.
+const FAULTS: [u8; 7] = [0, 7, 8, 15, 16, 128, 255];
+const CAUTIONS: [u16; 8] = [0, 1, 9_998, 9_999, 10_000, 10_001, 16_384, 65_535];
 
 pub struct SectionComparison {
     rng: Rng,
@@ -39,6 +45,10 @@ impl Comparison for SectionComparison {
             self.spoil(&mut section);
             self.compare_section(&section)?;
         }
+        self.crossings_at_bounds()?;
+        for _ in 0..AT_BOUNDS {
+            self.posts_at_bounds()?;
+        }
         for _ in 0..CHANGED {
             self.changed_image()?;
         }
@@ -59,6 +69,15 @@ impl SectionComparison {
         section
     }
 
+    fn section_of_posts(&mut self, n: u8) -> Section {
+        loop {
+            let section = self.section_in_range();
+            if section.settings.n == n {
+                return section;
+            }
+        }
+    }
+
     /// One field out of its range, or a signalled post that isn't there.
     fn spoil(&mut self, section: &mut Section) {
         let n = section.settings.n;
@@ -68,6 +87,38 @@ impl SectionComparison {
         } else {
             put_out_of_range(&mut self.rng, section);
         }
+    }
+
+    fn crossings_at_bounds(&mut self) -> Outcome {
+        for n in [2, 3, 16] {
+            for crossings in crossings_at_bounds(n) {
+                let mut section = self.section_of_posts(n);
+                section.settings.crossings = crossings;
+                self.compare_section(&section)?;
+            }
+        }
+        Ok(())
+    }
+
+    /// At the end posts, the cell past them and the last one.
+    fn posts_at_bounds(&mut self) -> Outcome {
+        let section = self.section_in_range();
+        let n = usize::from(section.settings.n);
+        for track in [0, 1] {
+            for post in [0, n - 1, n.min(15), 15] {
+                for faults in FAULTS {
+                    let mut spoiled = section;
+                    spoiled.tracks[track].posts[post].faults = faults;
+                    self.compare_section(&spoiled)?;
+                }
+                for number in CAUTIONS {
+                    let mut spoiled = section;
+                    spoiled.tracks[track].posts[post].form_for = number;
+                    self.compare_section(&spoiled)?;
+                }
+            }
+        }
+        Ok(())
     }
 
     fn compare_section(&mut self, section: &Section) -> Outcome {
@@ -85,18 +136,24 @@ impl SectionComparison {
         let place = self.rng.below(IMAGE_LENGTH as u64) as usize;
         image[place] = match self.rng.below(3) {
             0 => self.rng.byte(),
-            1 => self.rng.pick(&[0, 1, 2, 3, 4, 7, 8]),
+            1 => self.rng.pick(&[0, 1, 2, 3, 4, 7, 8, 15, 16, 127, 128, 255]),
             _ => image[place].wrapping_add(1),
         };
         self.compare(&image, &section)
     }
 
+    /// At times with the layout's number that had such a length.
     fn image_of_other_length(&mut self) -> Outcome {
         let section = self.section_in_range();
-        let mut image = image_of(&section).to_vec();
-        let length = match self.rng.below(3) {
+        let mut image = image_of(&section);
+        if self.rng.chance(1, 4) {
+            put_layout(1, &mut image);
+        }
+        let mut image = image.to_vec();
+        let length = match self.rng.below(4) {
             0 => self.rng.below(IMAGE_LENGTH as u64) as usize,
             1 => IMAGE_LENGTH - 1,
+            2 => LENGTH_OF_LAYOUT_1,
             _ => IMAGE_LENGTH + 1 + self.rng.below(20) as usize,
         };
         image.resize(length, 0);

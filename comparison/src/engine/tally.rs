@@ -1,10 +1,11 @@
 //! How often each kind of step was answered how.
 
+use super::cautions::{Fate, FATES};
 use crate::report::{fail_if_any, Outcome};
 use reference::step::STEP_LENGTH;
 use reference::stored::table::ANSWERS_BY_KIND;
 
-const KINDS: [&str; 14] = [
+const KINDS: [&str; 15] = [
     "other bytes",
     "order",
     "set",
@@ -19,16 +20,19 @@ const KINDS: [&str; 14] = [
     "fault off",
     "release",
     "key",
+    "caution form",
 ];
 
 const SAID: [&str; 5] = ["nothing", "CVT", "CVTz", "VNS", "VNSz"];
-const ANSWERS: [u8; 14] = [0, 4, 6, 11, 12, 13, 14, 15, 16, 17, 18, 19, 20, 21];
+const ANSWERS: [u8; 15] = [0, 4, 6, 11, 12, 13, 14, 15, 16, 17, 18, 19, 20, 21, 22];
+const LAST_REFUSAL: u8 = 22;
 
 #[derive(Default)]
 pub struct Tally {
     /// By kind, then by refusal.
-    answers: [[u64; 22]; 14],
+    answers: [[u64; LAST_REFUSAL as usize + 1]; KINDS.len()],
     said: [u64; 5],
+    fates: [u64; FATES.len()],
 }
 
 impl Tally {
@@ -36,6 +40,12 @@ impl Tally {
         self.answers[kind_of(step)][usize::from(refusal)] += 1;
         if refusal == 0 {
             self.said[usize::from(said)] += 1;
+        }
+    }
+
+    pub fn count_fate(&mut self, fate: Option<Fate>) {
+        if let Some(fate) = fate {
+            self.fates[fate as usize] += 1;
         }
     }
 
@@ -68,15 +78,21 @@ impl Tally {
             print!("  {word} {times}");
         }
         println!();
+        print!("caution forms:");
+        for (fate, times) in FATES.iter().zip(self.fates) {
+            print!("  {} {times}", fate.name());
+        }
+        println!();
     }
 
-    /// Every answer of the table and each of these refusals from the input came up, and for each kind none that is neither in its row nor one of
-    /// these.
+    /// Every answer of the table, each of these refusals from the input, each word and all that can become of a caution form came up, and for each
+    /// kind no answer that is neither in its row nor one of these.
     pub fn fits_table(&self, part: &str, from_input: &[u8]) -> Outcome {
         let missing = [
             self.all_kinds(|tally, kind| tally.missing_answers(kind)),
             self.missing_refusals(from_input),
             self.missing_words(),
+            self.missing_fates(),
         ];
         fail_if_any(&format!("NEVER SEEN, {part}"), &missing.concat())?;
         let strange = self.all_kinds(|tally, kind| tally.strange_answers(kind, from_input));
@@ -96,7 +112,7 @@ impl Tally {
     }
 
     fn strange_answers(&self, kind: usize, from_input: &[u8]) -> Vec<String> {
-        (0..=21)
+        (0..=LAST_REFUSAL)
             .filter(|answer| !ANSWERS_BY_KIND[kind].contains(answer))
             .filter(|answer| !from_input.contains(answer))
             .filter(|&answer| self.answers[kind][usize::from(answer)] > 0)
@@ -119,12 +135,21 @@ impl Tally {
             .map(|(word, _)| format!("{word} said"))
             .collect()
     }
+
+    fn missing_fates(&self) -> Vec<String> {
+        FATES
+            .iter()
+            .zip(self.fates)
+            .filter(|&(_, times)| times == 0)
+            .map(|(fate, _)| format!("a caution form {}", fate.name()))
+            .collect()
+    }
 }
 
 /// 0 for bytes that are no step of a kind.
 fn kind_of(step: &[u8]) -> usize {
     match step.first() {
-        Some(&kind @ 1..=13) if step.len() == STEP_LENGTH => usize::from(kind),
+        Some(&kind @ 1..=14) if step.len() == STEP_LENGTH => usize::from(kind),
         _ => 0,
     }
 }

@@ -1,21 +1,40 @@
 //! Files offered to both readers.
 
 use super::bounds::{settings_bytes_at_bounds, steps_at_bounds};
-use super::{
-    any_steps, day_around, day_file, random_bytes, right_numbers, sound_steps, trailer, Refusals,
-};
+use super::lengths::{shapes_at_bounds, shapes_beside};
+use super::refusals::{Case, Refusals};
+use super::{any_steps, day_around, day_file, random_bytes, right_numbers};
+use super::{settings_bytes, settings_under, sound_steps, trailer, MARKS};
 use crate::lent::{same_buffers, Lent};
 use crate::proved;
 use crate::report::{hex, same, Comparison, Outcome};
-use reference::dayfile::{self, MOST_STEPS, SETTINGS_LENGTH, TAIL_LENGTH, TRAILER_LENGTH};
+use reference::dayfile::{self, Mark, MOST_STEPS, SETTINGS_LENGTH, TRAILER_LENGTH};
 use reference::generate::{damage, random_day, random_settings, Rng};
 use reference::step::STEP_LENGTH;
 
 /// Counts of steps whose part of the file is asked for, whatever the file holds.
-const COUNTS_ASKED: [u64; 12] = [0, 1, 2, 3, 4, 5, 6, 4_096, 4_099, 4_100, 1 << 61, u64::MAX];
+const COUNTS_ASKED: [u64; 14] = [
+    0,
+    1,
+    2,
+    3,
+    4,
+    5,
+    6,
+    4_096,
+    4_097,
+    4_099,
+    4_100,
+    4_101,
+    1 << 61,
+    u64::MAX,
+];
 
 /// Lengths of buffers for the settings.
-const ROOMS: [usize; 6] = [8, 8, 9, 20, 7, 0];
+const ROOMS: [usize; 9] = [16, 16, 17, 30, 15, 9, 8, 7, 0];
+
+/// Of settings and trailer, with crossings.
+const LONGEST_TAIL: usize = Mark::Bsr2.tail_length();
 
 /// What a reader answers and hands back.
 #[derive(Debug, PartialEq)]
@@ -45,6 +64,7 @@ impl Comparison for ReaderComparison {
         self.flipped_bits()?;
         self.wrong_trailers()?;
         self.other_lengths()?;
+        self.lengths_at_bounds()?;
         self.random_files()?;
         self.damaged_days()?;
         self.long_files()
@@ -58,7 +78,7 @@ impl ReaderComparison {
         let refusal = second.refusal as usize;
         let input = || format!("file: {}", hex(file));
         same("the reader's answer", proved, second, &input)?;
-        self.seen.count(refusal);
+        self.seen.count(refusal, Case::of_file(file, refusal));
         same_settings(file, self.rng.pick(&ROOMS), &input)?;
         let count = self.rng.pick(&COUNTS_ASKED);
         same(
@@ -69,10 +89,16 @@ impl ReaderComparison {
         )
     }
 
+    /// Under either mark.
     fn sound_file(&mut self, least: usize, most: usize) -> Vec<u8> {
-        let settings = random_settings(&mut self.rng);
+        let mark = self.rng.pick(&MARKS);
+        self.sound_file_under(mark, least, most)
+    }
+
+    fn sound_file_under(&mut self, mark: Mark, least: usize, most: usize) -> Vec<u8> {
+        let settings = settings_under(&mut self.rng, mark);
         let steps = sound_steps(&mut self.rng, settings.n, least, most);
-        day_file(&steps, settings.encode())
+        day_file(&steps, &settings_bytes(&settings))
     }
 
     fn sound_files(&mut self) -> Outcome {
@@ -100,7 +126,7 @@ impl ReaderComparison {
                 true => Vec::new(),
                 false => any_whole_steps(&mut self.rng, settings[0].max(1)),
             };
-            self.compare(&day_file(&steps, settings))?;
+            self.compare(&day_file(&steps, &settings))?;
         }
         Ok(())
     }
@@ -109,17 +135,17 @@ impl ReaderComparison {
     fn steps_at_bounds(&mut self) -> Outcome {
         for (n, step) in steps_at_bounds() {
             let (settings, steps) = day_around(&mut self.rng, n, step);
-            self.compare(&day_file(&steps, settings.encode()))?;
+            self.compare(&day_file(&steps, &settings_bytes(&settings)))?;
         }
         Ok(())
     }
 
-    /// Every bit of steps, settings and trailer.
+    /// Every bit of steps, settings, crossings and trailer.
     fn flipped_bits(&mut self) -> Outcome {
         for (times, least, most) in [(20, 0, 0), (40, 1, 4), (3, 31, 33), (3, 255, 257)] {
             for _ in 0..times {
                 let file = self.sound_file(least, most);
-                self.flip_each_bit(file, 4 * STEP_LENGTH + TAIL_LENGTH)?;
+                self.flip_each_bit(file, 4 * STEP_LENGTH + LONGEST_TAIL)?;
             }
         }
         Ok(())
@@ -137,20 +163,17 @@ impl ReaderComparison {
         Ok(())
     }
 
-    /// Marks and numbers beside the right ones, alone and together.
+    /// Marks and numbers beside the right ones, alone and together, over files of either mark.
     fn wrong_trailers(&mut self) -> Outcome {
         for count in 0..4 {
-            let [to_settings, to_first_step, right_count] = right_numbers(count);
-            for mark in [*b"BSR1", *b"BSR2", *b"1RSB", *b"bsr1"] {
-                for distance in beside(to_settings) {
-                    for first in beside(to_first_step) {
-                        for stated in beside(right_count) {
-                            let numbers = [distance, first, stated];
-                            let mut file = self.sound_file(count as usize, count as usize);
-                            let start = file.len() - TRAILER_LENGTH;
-                            file[start..].copy_from_slice(&trailer(mark, numbers));
-                            self.compare(&file)?;
-                        }
+            for right in MARKS {
+                for mark in [*b"BSR1", *b"BSR2", *b"BSR3", *b"BSR0", *b"1RSB", *b"bsr2"] {
+                    for numbers in numbers_beside(right_numbers(right, count)) {
+                        let count = count as usize;
+                        let mut file = self.sound_file_under(right, count, count);
+                        let start = file.len() - TRAILER_LENGTH;
+                        file[start..].copy_from_slice(&trailer(mark, numbers));
+                        self.compare(&file)?;
                     }
                 }
             }
@@ -160,7 +183,7 @@ impl ReaderComparison {
 
     /// Bytes cut off or added, in front and behind.
     fn other_lengths(&mut self) -> Outcome {
-        for _ in 0..20 {
+        for _ in 0..40 {
             let file = self.sound_file(0, 4);
             for cut in 0..=file.len() {
                 self.compare(&file[cut..])?;
@@ -177,18 +200,29 @@ impl ReaderComparison {
         Ok(())
     }
 
-    /// Random bytes throughout; before a right trailer; before right settings and trailer.
+    /// Around the least and the greatest length of either mark.
+    fn lengths_at_bounds(&mut self) -> Outcome {
+        for shape in shapes_at_bounds().chain(shapes_beside()) {
+            let file = shape.file(&mut self.rng);
+            self.compare(&file)?;
+        }
+        Ok(())
+    }
+
+    /// Random bytes throughout; before a right trailer; before right settings and trailer; and between them.
     fn random_files(&mut self) -> Outcome {
         for _ in 0..10_000 {
             let bytes = random_bytes(&mut self.rng, 100);
             self.compare(&bytes)?;
             let steps = random_whole_steps(&mut self.rng);
-            let settings = self.rng.next_u64().to_le_bytes();
-            self.compare(&day_file(&steps, settings))?;
+            let eight = self.rng.next_u64().to_le_bytes();
+            self.compare(&day_file(&steps, &eight))?;
             let settings = random_settings(&mut self.rng);
-            self.compare(&day_file(&steps, settings.encode()))?;
+            self.compare(&day_file(&steps, &settings_bytes(&settings)))?;
             let steps = any_whole_steps(&mut self.rng, settings.n);
-            self.compare(&day_file(&steps, settings.encode()))?;
+            self.compare(&day_file(&steps, &settings_bytes(&settings)))?;
+            let random_crossings = [settings.encode(), eight].concat();
+            self.compare(&day_file(&steps, &random_crossings))?;
         }
         Ok(())
     }
@@ -205,11 +239,13 @@ impl ReaderComparison {
     }
 
     fn long_files(&mut self) -> Outcome {
-        for count in [MOST_STEPS - 1, MOST_STEPS, MOST_STEPS + 1] {
-            let file = self.sound_file(count, count);
-            self.flip_each_bit(file.clone(), TAIL_LENGTH)?;
-            self.spoiled_long_files(&file, count)?;
-            self.long_file_lengths(&file)?;
+        for mark in MARKS {
+            for count in [MOST_STEPS - 1, MOST_STEPS, MOST_STEPS + 1] {
+                let file = self.sound_file_under(mark, count, count);
+                self.flip_each_bit(file.clone(), LONGEST_TAIL)?;
+                self.spoiled_long_files(&file, count)?;
+                self.long_file_lengths(&file)?;
+            }
         }
         Ok(())
     }
@@ -219,7 +255,7 @@ impl ReaderComparison {
         let middle = self.rng.below(count as u64) as usize;
         for index in [0, 1, middle, count - 2, count - 1] {
             let mut spoiled = file.to_vec();
-            spoiled[index * STEP_LENGTH] = 14;
+            spoiled[index * STEP_LENGTH] = 15;
             self.compare(&spoiled)?;
             spoiled[(count - 1) * STEP_LENGTH + 7] = 1;
             self.compare(&spoiled)?;
@@ -263,9 +299,12 @@ fn second_reading(file: &[u8]) -> Reading {
     }
 }
 
-/// The settings' bytes, zeros for a refused file, in a buffer of so many bytes.
+/// The settings' bytes, with the crossings where some are listed, in a buffer of so many bytes; eight zeros for a refused file.
 fn same_settings(file: &[u8], room: usize, input: &dyn Fn() -> String) -> Outcome {
-    let settings = dayfile::read(file).map_or([0; SETTINGS_LENGTH], |day| day.settings.encode());
+    let settings = match dayfile::read(file) {
+        Ok(day) => settings_bytes(&day.settings),
+        Err(_) => vec![0; SETTINGS_LENGTH],
+    };
     let mut buffer = Lent::patterned(room);
     let mut expected = buffer.clone();
     let answer = expected.take_text(&settings);
@@ -281,6 +320,17 @@ fn length_of_part(file: &[u8], count: u64) -> u64 {
         Some(length) if length <= file.len() as u64 => length,
         _ => 0,
     }
+}
+
+/// All combinations.
+fn numbers_beside([to_settings, to_first_step, count]: [u32; 3]) -> Vec<[u32; 3]> {
+    let mut all = Vec::new();
+    for distance in beside(to_settings) {
+        for first in beside(to_first_step) {
+            all.extend(beside(count).map(|stated| [distance, first, stated]));
+        }
+    }
+    all
 }
 
 fn beside(right: u32) -> [u32; 7] {

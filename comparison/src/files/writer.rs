@@ -1,12 +1,13 @@
 //! Settings, steps and buffers offered to both writers.
 
 use super::bounds::{settings_bytes_at_bounds, steps_at_bounds};
-use super::{any_steps, day_around, random_bytes, sound_step, sound_steps};
-use super::{settings_lent, settings_of_other_lengths, Refusals};
+use super::refusals::{Case, Refusals};
+use super::{any_steps, day_around, random_bytes, sound_step, sound_steps, MARKS};
+use super::{settings_bytes, settings_lent, settings_of_other_lengths, settings_under};
 use crate::lent::{same_buffers, Lent};
 use crate::proved;
 use crate::report::{hex, same, Comparison, Outcome};
-use reference::dayfile::{self, MOST_STEPS, TAIL_LENGTH};
+use reference::dayfile::{self, MOST_STEPS, TRAILER_LENGTH};
 use reference::generate::{random_settings, Rng};
 use reference::step::STEP_LENGTH;
 
@@ -53,18 +54,20 @@ impl WriterComparison {
             &second_buffer,
             &input,
         )?;
-        self.seen.count(second.0 as usize);
+        let case = case_of(second, settings, second_buffer.content());
+        self.seen.count(second.0 as usize, case);
         Ok(())
     }
 
     /// With room for the file, more or less.
     fn compare_in_some_room(&mut self, settings: &[u8], steps: &[u8]) -> Outcome {
-        let length = steps.len() + TAIL_LENGTH;
-        let room = match self.rng.below(8) {
+        let length = file_length(settings, steps);
+        let room = match self.rng.below(10) {
             0 => length - 1,
             1 => self.rng.below(length as u64) as usize,
             2 => length + 1,
             3 => length + self.rng.below(40) as usize,
+            4 => length - 8,
             _ => length,
         };
         self.compare(settings, steps, room)
@@ -89,19 +92,20 @@ impl WriterComparison {
     fn steps_at_bounds(&mut self) -> Outcome {
         for (n, step) in steps_at_bounds() {
             let (settings, steps) = day_around(&mut self.rng, n, step);
-            self.compare_in_some_room(&settings.encode(), &steps)?;
+            self.compare_in_some_room(&settings_bytes(&settings), &steps)?;
         }
         Ok(())
     }
 
-    /// From 0 to nine bytes past the file.
+    /// From 0 to nine bytes past the file, under either mark.
     fn buffers_of_every_length(&mut self) -> Outcome {
         for count in 0..=6 {
-            for _ in 0..50 {
-                let settings = random_settings(&mut self.rng);
+            for round in 0..60 {
+                let settings = settings_under(&mut self.rng, MARKS[round % 2]);
                 let steps = sound_steps(&mut self.rng, settings.n, count, count);
-                for room in 0..=steps.len() + TAIL_LENGTH + 9 {
-                    self.compare(&settings.encode(), &steps, room)?;
+                let settings = settings_bytes(&settings);
+                for room in 0..=file_length(&settings, &steps) + 9 {
+                    self.compare(&settings, &steps, room)?;
                 }
             }
         }
@@ -120,8 +124,10 @@ impl WriterComparison {
                         _ => self.rng.next_u64().to_le_bytes(),
                     };
                     steps.extend(&last[..rest]);
-                    for room in [0, whole * STEP_LENGTH + TAIL_LENGTH, 100] {
-                        self.compare(&settings.encode(), &steps, room)?;
+                    let settings = settings_bytes(&settings);
+                    let fits_whole = file_length(&settings, &steps[..whole * STEP_LENGTH]);
+                    for room in [0, fits_whole, 100] {
+                        self.compare(&settings, &steps, room)?;
                     }
                 }
             }
@@ -133,39 +139,71 @@ impl WriterComparison {
         for _ in 0..20_000 {
             let settings = random_settings(&mut self.rng);
             let steps = any_steps(&mut self.rng, settings.n);
-            self.compare_in_some_room(&settings.encode(), &steps)?;
+            let settings = settings_bytes(&settings);
+            self.compare_in_some_room(&settings, &steps)?;
             let steps = random_bytes(&mut self.rng, 40);
-            self.compare_in_some_room(&settings.encode(), &steps)?;
+            self.compare_in_some_room(&settings, &steps)?;
         }
         Ok(())
     }
 
-    /// Around 4,096 steps: whole and incomplete, sound and malformed on either side of the limit.
+    /// Around 4,096 steps, under either mark.
     fn long_files(&mut self) -> Outcome {
-        for count in [MOST_STEPS - 1, MOST_STEPS, MOST_STEPS + 1, MOST_STEPS + 20] {
-            let settings = random_settings(&mut self.rng);
-            let steps = sound_steps(&mut self.rng, settings.n, count + 1, count + 1);
-            for rest in [0, 1, 7] {
-                let given = &steps[..count * STEP_LENGTH + rest];
-                self.long_file(&settings.encode(), given)?;
-                for index in [0, MOST_STEPS - 2, MOST_STEPS, count - 1] {
-                    let mut spoiled = given.to_vec();
-                    if let Some(kind) = spoiled.get_mut(index * STEP_LENGTH) {
-                        *kind = 0;
-                    }
-                    self.long_file(&settings.encode(), &spoiled)?;
+        for mark in MARKS {
+            for count in [MOST_STEPS - 1, MOST_STEPS, MOST_STEPS + 1, MOST_STEPS + 20] {
+                let settings = settings_under(&mut self.rng, mark);
+                let steps = sound_steps(&mut self.rng, settings.n, count + 1, count + 1);
+                self.long_files_of(&settings_bytes(&settings), &steps, count)?;
+            }
+        }
+        Ok(())
+    }
+
+    /// Whole and incomplete, sound and malformed on either side of the limit.
+    fn long_files_of(&mut self, settings: &[u8], steps: &[u8], count: usize) -> Outcome {
+        for rest in [0, 1, 7] {
+            let given = &steps[..count * STEP_LENGTH + rest];
+            self.long_file(settings, given)?;
+            for index in [0, MOST_STEPS - 2, MOST_STEPS, count - 1] {
+                let mut spoiled = given.to_vec();
+                if let Some(kind) = spoiled.get_mut(index * STEP_LENGTH) {
+                    *kind = 0;
                 }
+                self.long_file(settings, &spoiled)?;
             }
         }
         Ok(())
     }
 
     fn long_file(&mut self, settings: &[u8], steps: &[u8]) -> Outcome {
-        let length = steps.len() + TAIL_LENGTH;
-        for room in [0, length - 1, length, length + 1, length + 9, 40_000] {
+        let length = file_length(settings, steps);
+        let rooms = [
+            0,
+            length - 9,
+            length - 8,
+            length - 1,
+            length,
+            length + 1,
+            length + 9,
+            40_000,
+        ];
+        for room in rooms {
             self.compare(settings, steps, room)?;
         }
         Ok(())
+    }
+}
+
+fn file_length(settings: &[u8], steps: &[u8]) -> usize {
+    steps.len() + settings.len() + TRAILER_LENGTH
+}
+
+/// Of an answer: the file at the front of the buffer, or the settings that are refused.
+fn case_of(answer: (u64, u64), settings: &[u8], buffer: &[u8]) -> Option<Case> {
+    match answer {
+        (0, length) => Case::of_file(&buffer[..length as usize], 0),
+        (SETTINGS_REFUSED, _) => Case::of_refused_settings(settings),
+        _ => None,
     }
 }
 

@@ -2,7 +2,7 @@
 
 use super::table::ANSWERS_BY_KIND;
 use super::StoredDay;
-use crate::dayfile::{self, Day, MOST_STEPS};
+use crate::dayfile::{self, Day, Mark, MOST_STEPS};
 use crate::engine;
 use crate::section::Section;
 use crate::settings::{MATERIALISED, TELEPHONE};
@@ -28,7 +28,7 @@ pub fn demand(days: &[StoredDay]) {
     for day in days {
         match dayfile::read(&day.file) {
             Ok(read) => {
-                counts.insert(read.count);
+                counts.insert((Mark::of(&read.settings), read.count));
                 collect(&read, &mut seen);
             }
             Err(refusal) => {
@@ -38,7 +38,9 @@ pub fn demand(days: &[StoredDay]) {
     }
     let missing: Vec<Case> = demanded().filter(|case| !seen.contains(case)).collect();
     assert!(missing.is_empty(), "no stored day shows {missing:?}");
-    assert!(counts.contains(&0) && counts.contains(&MOST_STEPS));
+    for mark in [Mark::Bsr1, Mark::Bsr2] {
+        assert!(counts.contains(&(mark, 0)) && counts.contains(&(mark, MOST_STEPS)));
+    }
     for number in 1..=4 {
         assert!(file_refusals.contains(&(number, 0)));
     }

@@ -1,8 +1,8 @@
 //! Days in which every kind is refused for every reason that it can have, in both directions.
 
 use super::bench::{Bench, A, B};
-use crate::settings::{Settings, MATERIALISED};
-use crate::step::{leave, pass, release, start, Step};
+use crate::settings::{Settings, MATERIALISED, NO_CROSSINGS};
+use crate::step::{form, leave, pass, release, start, Step, GREATEST_FAULT};
 
 /// Every post is signalled.
 pub fn day(n: u8, form: u8, track: u8) -> Vec<u8> {
@@ -11,6 +11,7 @@ pub fn day(n: u8, form: u8, track: u8) -> Vec<u8> {
         form,
         mask: ((1u32 << n) - 1) as u16,
         line: 999,
+        crossings: NO_CROSSINGS,
     };
     let mut bench = Bench::new(settings, track);
     for trains in [(2410, 2412), (2711, 9_999)] {
@@ -32,6 +33,7 @@ fn before_any_train(bench: &mut Bench, train: u16) {
     bench.refuse(leave(receiving, train), 17);
     release_refused(bench, receiving, 15);
     release_refused(bench, sending, 21);
+    bench.refuse(form(sending, train), 12);
     faults_on_and_off(bench, receiving);
     measures_at_rest(bench, sending);
 }
@@ -53,7 +55,7 @@ fn release_refused(bench: &mut Bench, post: u8, refusal: u8) {
 }
 
 fn faults_on_and_off(bench: &mut Bench, post: u8) {
-    for fault in 1..=3 {
+    for fault in 1..=GREATEST_FAULT {
         bench.refuse(Step::FaultOff { post, fault }, 21);
         bench.accept(Step::FaultOn { post, fault });
         bench.refuse(Step::FaultOn { post, fault }, 21);

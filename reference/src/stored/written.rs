@@ -1,14 +1,15 @@
 //! Days written as text: a line of settings, then a line a step.
 //!
 //! ```text
-//! posts 2 materialised mask 3 line 1
+//! posts 2 materialised mask 3 line 1 crossings 0 0_without_zones
+//! form A0 2410
 //! start A0 2410
 //! order A0 -> 13
 //! announce A0 says CVT
 //! set A1 shows 2/0/0 2/1/1
 //! ```
 //!
-//! A step must be accepted unless `->` gives a refusal. `says` gives the announcement or
+//! The crossings may be left out; each is a block section. A step must be accepted unless `->` gives a refusal. `says` gives the announcement or
 //! acknowledgement, `shows` the lamps of the track's posts from post 0 on, as
 //! CIRCULATION/TRONÇON/permission. A number after the place is the train's or, for
 //! `fault_on` and `fault_off`, the fault's. Empty lines and those that begin with `#` are
@@ -16,7 +17,7 @@
 
 use super::bench::{Bench, Lamps, A, B};
 use crate::engine::{SAID_CVT, SAID_CVTZ, SAID_NOTHING, SAID_VNS, SAID_VNSZ};
-use crate::settings::{Settings, MATERIALISED, TELEPHONE};
+use crate::settings::{Crossings, Settings, MATERIALISED, NO_CROSSINGS, TELEPHONE, WITHOUT_ZONES};
 use crate::step::Step;
 use std::iter::Peekable;
 use std::str::SplitWhitespace;
@@ -40,7 +41,7 @@ fn is_remark(line: &str) -> bool {
 
 fn settings(line: &str) -> Settings {
     let words: Vec<&str> = line.split_whitespace().collect();
-    let ["posts", n, form, "mask", mask, "line", number] = words[..] else {
+    let ["posts", n, form, "mask", mask, "line", number, ref rest @ ..] = words[..] else {
         panic!("settings expected: {line}");
     };
     Settings {
@@ -52,7 +53,23 @@ fn settings(line: &str) -> Settings {
         },
         mask: mask.parse().expect(line),
         line: number.parse().expect(line),
+        crossings: match rest {
+            [] => NO_CROSSINGS,
+            ["crossings", words @ ..] => crossings(words),
+            _ => panic!("crossings expected: {line}"),
+        },
     }
+}
+
+fn crossings(words: &[&str]) -> Crossings {
+    let mut crossings = NO_CROSSINGS;
+    for (byte, word) in crossings[..words.len()].iter_mut().zip(words) {
+        *byte = match word.strip_suffix("_without_zones") {
+            Some(section) => section.parse::<u8>().expect(word) + WITHOUT_ZONES,
+            None => word.parse().expect(word),
+        };
+    }
+    crossings
 }
 
 fn offer_line(bench: &mut Bench, line: &str) {
@@ -108,6 +125,7 @@ fn step(kind: &str, post: u8, number: u16, line: &str) -> Step {
         "fault_off" => Step::FaultOff { post, fault },
         "release" => Step::Release { post, train },
         "key" => Step::Key { post },
+        "form" => Step::Form { post, train },
         _ => panic!("no such kind: {line}"),
     }
 }
