@@ -7,17 +7,17 @@ use native.Mathlib.Omega.{arith}
 use lib.ListN.{length}
 use lib.Dec.{ltb}
 use borrow.Author.Tests.{ltb-true}
-use Rattle.layout.specs.Layout.{stepCount, stepsIn, trailerIn, settingsIn, settingsOf}
-use Rattle.file_tests.specs.Tests.{lengthWrong, trailerWellFormed, settingsWellFormed, firstMalformed, someMalformed}
+use Rattle.layout.specs.Layout.{stepCount, stepsIn, settingsIn, settingsOf}
+use Rattle.file_tests.specs.Tests.{lengthWrong, trailerFits, settingsWellFormed, firstMalformed, someMalformed}
 use Rattle.dayfile.specs.Answers.{readVerdict, readOf}
 use Rattle.dayfile.specs.declared.Reading.the-variants.{Day, Refused}
-use Rattle.dayfile.proofs.Reader.{length-right, few-steps}
+use Rattle.dayfile.proofs.Reader.{length-right, steps-bounded}
 use Rattle.packed.specs.Packed.{packedReading}
 
 pub reading-fits : (file : List ℕ) → packedReading (readOf file .reading) < 2 ^ 32
 unfolding packedReading readOf readVerdict someMalformed
 reading-fits file =
-    go (lengthWrong (length file)) refl (not (trailerWellFormed count (trailerIn file))) (not (settingsWellFormed (settingsIn file))) (ltb first count) refl
+    go (lengthWrong (length file)) refl (not (trailerFits file)) (not (settingsWellFormed (settingsIn file))) (ltb first count) refl
   where
     count : ℕ
     count = stepCount (stepsIn file)
@@ -31,5 +31,5 @@ reading-fits file =
     go true e t s m h = omega arith
     go false e true s m h = omega arith
     go false e false true m h = omega arith
-    go false e false false true h = omega (arith, few-steps file (length-right (length file) e), ltb-true first count h)
-    go false e false false false h = omega (arith, few-steps file (length-right (length file) e))
+    go false e false false true h = omega (arith, steps-bounded file (length-right (length file) e), ltb-true first count h)
+    go false e false false false h = omega (arith, steps-bounded file (length-right (length file) e))
