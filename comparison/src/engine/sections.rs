@@ -142,7 +142,7 @@ impl SectionComparison {
         self.compare(&image, &section)
     }
 
-    /// At times with the layout's number that had such a length.
+    /// At times with the number of layout 1.
     fn image_of_other_length(&mut self) -> Outcome {
         let section = self.section_in_range();
         let mut image = image_of(&section);

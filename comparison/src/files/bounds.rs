@@ -57,7 +57,7 @@ pub fn settings_bytes_at_bounds() -> Vec<Vec<u8>> {
     all
 }
 
-/// Every pair of values at and beside their bounds, at every two places: behind crossings in the first block section and before unused bytes.
+/// Every pair of values at and beside their bounds, at every two neighbouring places: behind crossings in the first block section and before unused bytes.
 /// Among them are lists that fall, that pass block section n − 2, that have unused bytes before used ones, and the one of unused bytes alone.
 pub fn crossings_at_bounds(n: u8) -> Vec<Crossings> {
     let values = crossings_beside(n);

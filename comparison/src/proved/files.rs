@@ -25,7 +25,7 @@ pub fn read(file: &[u8]) -> (u32, u32) {
     (answer >> 16, answer & 0xffff)
 }
 
-/// 1 + the length of the settings, which are zeros for a refused file; 0 for a buffer too short.
+/// 1 + the length of the settings, 8 or with their crossings 16; 8 zeros for a refused file. 0 for a buffer too short.
 pub fn settings(file: &[u8], buffer: &mut [u8]) -> u64 {
     unsafe { bsr_settings(file.as_ptr(), file.len(), buffer.as_mut_ptr(), buffer.len()) }
 }
