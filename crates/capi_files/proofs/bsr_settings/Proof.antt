@@ -1,24 +1,55 @@
-use mathlib.Core.Path.{_∙_, ap}
+-- What is copied is the part of the settings that a file has.
+use Prim.Native.Nat.{ℕ, _+_, _-_, _≤_}
+use mathlib.Core.Path.{_≡_, _∙_, ap}
+use mathlib.Core.List.{List}
+use native.Mathlib.Nat.{sub-zero}
+use native.Mathlib.Omega.{arith}
 use borrow.Author.Needs.{needs}
 use denote.Ref.{now}
+use lib.ListN.{length, take}
+use Rattle.section.specs.declared.Settings.{Settings}
+use Rattle.section.specs.Numbers.{mostCrossings}
+use Rattle.layout.specs.Layout.{settingsLength, settingsBytes, tailOf, settingsPart}
+use Rattle.layout.proofs.Parts.{tail-of, settings-long}
 use Rattle.packed.specs.Packed.{packedCopied}
 use Rattle.packed.proofs.Texts.{copied-fits}
 use Rattle.capi_files.proofs.bsr_settings.Statement.{statement}
 use Rattle.capi_files.proofs.bsr_settings.Tie as tie
 
+module _ (c : Settings) {tail : ℕ} (et : tail ≡ tailOf c) where
+  small : tail ≤ mostCrossings
+  small = omega (arith, tail-of c .most)
+
+  within-bytes : {bytes : List ℕ} → bytes ≡ settingsBytes c → settingsLength + tail ≤ length bytes
+  within-bytes eb = omega (arith, small, ap length eb ∙ settings-long c)
+
+  part-is : {bytes : List ℕ} → bytes ≡ settingsBytes c → take (settingsLength + tail - 0) bytes ≡ settingsPart c
+  unfolding settingsPart
+  part-is eb = rw (sub-zero, eb, et)
+
+add-end : tie.Need-add-end
+add-end c = omega (arith, small _ (c .tail-of .ensures))
+
+part-copy-out-end : tie.Need-part-copy-out-end
+part-copy-out-end c = let at-tail = c .before in
+    within-bytes _ (at-tail .tail-of .ensures) (at-tail .before .settings-bytes .ensures)
+
 packed-copied-requires : tie.Need-packed-copied-requires
 packed-copied-requires c κs =
     let over = c .before .before in
-    let made = over .before .before .before in
-    let x = made .before .before .before .before in
+    let x = over .before .before .before .before .before .before .before .before .before .before in
     copied-fits _ (now (x .args .buffer)) _ (over .copy-out .ensures .0) (x .good .1 .0 .1)
 
 returns : tie.Need-returns
 returns c =
     let over = c .before .before .before in
-    let made = over .before .before .before in
+    let tail = over .before .before .before .before in
+    let made = tail .before in
     let e = over .copy-out .ensures in
-    rw (← made .before .read .ensures, ← made .settings-bytes .ensures) (c .packed-copied .ensures ∙ ap packedCopied (e .0), e .1)
+    rw (← made .before .before .read .ensures, ← part-is _ (tail .tail-of .ensures) (made .settings-bytes .ensures)) (
+      c .packed-copied .ensures ∙ ap packedCopied (e .0),
+      e .1,
+    )
 
 pub bsr-settings-spec : {M : Type 1} → statement M
 bsr-settings-spec =
@@ -26,7 +57,11 @@ bsr-settings-spec =
     (tie.spec
     (λ c κs. search needs)
     (λ c κs. search needs)
+    (λ c κs. search needs)
+    add-end
     (λ c. search needs)
+    (λ c. search needs)
+    part-copy-out-end
     (λ c κs. search needs)
     packed-copied-requires
     (λ c. search needs)
