@@ -25,8 +25,8 @@ use Rattle.file_tests.specs.Tests.{settingsWellFormed}
 use Rattle.dayfile.specs.Answers.{readOf, refusalNumber}
 use Rattle.dayfile.specs.declared.Reading.{Reading}
 use Rattle.dayfile.specs.declared.Reading.the-variants.{Day, Refused}
-use Rattle.file_tests.proofs.Laws.{all-whole}
-use Rattle.dayfile.proofs.Reader.{day-read, few-steps}
+use Rattle.file_tests.proofs.Laws.{few-steps, all-whole}
+use Rattle.dayfile.proofs.Reader.{day-read}
 use Rattle.dayfile.proofs.RoundTrip.{gives-its-steps}
 use Rattle.text.specs.Text.{written, firstTexts}
 use Rattle.lines.specs.Lines.{refusedLine, stepLine}
@@ -130,7 +130,7 @@ started s c e h = ap inRange e ∙ fresh-in-range c h
 module _ (file : List ℕ) (count : ℕ) (e : readOf file .reading ≡ Day count) where
   pub few-steps-read : count ≤ mostSteps
   unfolding readOf
-  few-steps-read = let d = day-read file count e in omega (arith, few-steps file (d .length-well), d .counted)
+  few-steps-read = let d = day-read file count e in omega (arith, few-steps file (d .trailer-well .most), d .counted)
 
   pub steps-whole : stepLength * count ≤ length (stepsPart file count)
   unfolding readOf
