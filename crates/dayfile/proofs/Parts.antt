@@ -27,7 +27,7 @@ use Rattle.dayfile.proofs.Crossings.{none-listed}
 
 -- ## Settings
 
--- a file has the first eight bytes of settings, or all
+-- a file has the first eight bytes of settings, or all sixteen
 in-part : (tailed : Bool) (c : Settings) → zerosWellFormed (take (settingsLength + tailLength tailed) (settingsBytes c)) ≡ true
 unfolding zerosWellFormed settingsBytes le16Bytes le16
 in-part true c = refl
@@ -38,7 +38,7 @@ unfolding settingsPart tailOf
 zeros-written c = in-part (hasCrossings (c .crossings)) c
 
 module _ (c : Settings) (e : settingsInRange c ≡ true) where
-  -- the parts of the test
+  -- what the test says of the fields
   record Fields : Type 0 where
     posts-few : c .posts ≤ mostPosts
     mask-fits : c .mask < 65536

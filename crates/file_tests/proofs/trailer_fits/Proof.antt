@@ -1,6 +1,5 @@
 -- A length that suits the tail gives the parts their lengths.
 use denote.Ref.{now}
-use lib.ListN.{length}
 use native.Mathlib.Omega.{arith}
 use Rattle.layout.proofs.Parts.{tail-in, trailer-length}
 use Rattle.section.proofs.Told.{told-false, told-true}
