@@ -154,7 +154,7 @@ pub caution-form-kept :
     ∷ (postAfter (withCrossings (1 ∷ []) (telephone 3 7)) (on A (Caution 1 7 ∷ MeasuresOn 1 ∷ FaultOn 1 Four ∷ [])) A 1
     gives some (cautioned 7 (faulty Four true (measured true blank))))
     ∷ (postAfter (withCrossings (1 ∷ []) (telephone 3 7)) (on A (Caution 1 7 ∷ Caution 1 9999 ∷ [])) A 1 gives some (cautioned 9999 blank))
-    -- order, announce, acknowledge, release, the end of a fault and a train's leave leave it
+    -- order, release, the end of a fault, acknowledge leave it
     ∷ (postAfter (withCrossings (0 ∷ []) (telephone 2 3)) (on A (Caution 0 7 ∷ FaultOn 0 One ∷ Order 0 ∷ Release 0 0 ∷ FaultOff 0 One ∷ [])) A 0
     gives some (cautioned 7 blank))
     ∷ (postAfter (withCrossings (1 ∷ []) (telephone 3 7)) (on A (MeasuresOn 0 ∷ Caution 1 7 ∷ Order 0 ∷ Set 0 ∷ Announce 0 ∷ Acknowledge 1 ∷ [])) A 1
@@ -191,7 +191,8 @@ pub caution-form-removed :
 unfolding seen
 caution-form-removed = refl
 
--- handed out after the post's own set, it is there when the direction has turned: at the receiving end, until that post sets again
+-- handed out after the post's own set, it is there when the direction has turned: at the receiving end, whose leave is no entry, until that
+-- post sets again
 abbrev pub toCvtAndAForm : List Step
 toCvtAndAForm = MeasuresOn 0 ∷ MeasuresOn 1 ∷ Order 0 ∷ Set 0 ∷ Caution 0 7 ∷ Announce 0 ∷ Acknowledge 1 ∷ Set 1 ∷ []
 

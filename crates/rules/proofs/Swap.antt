@@ -1,6 +1,6 @@
 -- Two steps on one track at different posts change places, where the first moves no train and leaves the direction, and the second notes a
--- condition, passes or leaves. The second sees nothing that the first changes: the direction, the trains and its own post's record. The first
--- finds the same or fewer trains where it looks, so its checks still hold.
+-- condition, passes or leaves. The second sees only the direction, the trains and its own post's record, which the first leaves. The first finds
+-- the same or fewer trains where it looks, so its checks still hold.
 use Prim.Native.Nat.{ℕ, suc, _-_, _≤_, _<_}
 use mathlib.Core.Bool.{Bool, true, false, cond, not, _&&_, false≢true}
 use mathlib.Core.Path.{_≡_, refl, sym, ap, ap₂, _∙_}

@@ -337,6 +337,10 @@ pub pass-in-a-reversal :
     Holds
     ((judged (materialised 4 15) (on A (FaultOn 2 One ∷ Start 0 7 ∷ Pass 1 7 ∷ Order 0 ∷ Pass 2 7 ∷ [])) gives accepted)
     ∷ (judged (materialised 3 7) (on B (Start 2 7 ∷ Pass 1 7 ∷ Order 2 ∷ Leave 0 7 ∷ [])) gives accepted)
+    -- under fault 4 with a caution form, which may be handed out in the reversal
+    ∷ (judged (withCrossings (2 ∷ []) (materialised 4 15)) (on A (FaultOn 2 Four ∷ Start 0 7 ∷ Pass 1 7 ∷ Order 0 ∷ Pass 2 7 ∷ [])) gives refused 22)
+    ∷ (judged (withCrossings (2 ∷ []) (materialised 4 15)) (on A (FaultOn 2 Four ∷ Start 0 7 ∷ Pass 1 7 ∷ Order 0 ∷ Caution 2 7 ∷ Pass 2 7 ∷ []))
+    gives accepted)
     ∷ [])
 unfolding judged
 pass-in-a-reversal = refl
