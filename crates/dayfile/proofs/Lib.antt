@@ -1,3 +1,4 @@
+pub mod Crossings
 pub mod Parts
 pub mod Reader
 pub mod Writer

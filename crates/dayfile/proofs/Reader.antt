@@ -2,7 +2,7 @@
 use mathlib.Core.Path.{_≡_, refl}
 use mathlib.Core.Bool.{Bool, true, false, not, cond, _||_, true≢false}
 use mathlib.Core.List.{List}
-use Prim.Native.Nat.{ℕ, _-_, _%_, _<_, _≤_}
+use Prim.Native.Nat.{ℕ, suc, _+_, _-_, _%_, _<_, _≤_}
 use native.Mathlib.Omega.{arith}
 use lib.ListN.{length, drop, length-drop}
 use lib.Seq.{length-take-le}
@@ -10,9 +10,11 @@ use lib.Dec.{ltb}
 use borrow.Author.Tests.{ltb-false, eqb-true, not-false, lt-ltb, le-ltb, eq-eqb}
 use Rattle.section.specs.declared.Settings.{Settings}
 use Rattle.section.specs.Numbers.{stepLength}
-use Rattle.layout.specs.Layout.{mostSteps, settingsLength, trailerLength, settingsDistance, longestFile, stepCount, fromEnd}
-use Rattle.layout.specs.Layout.{trailerIn, settingsIn, stepsIn, settingsOf}
-use Rattle.file_tests.specs.Tests.{lengthWrong, trailerWellFormed, settingsWellFormed, someMalformed, firstMalformed}
+use Rattle.layout.specs.Layout.{mostSteps, settingsLength, shortestFile, settingsDistance, longestFile, stepCount, fromEnd}
+use Rattle.layout.specs.Layout.{tailIn, settingsIn, stepsIn, settingsOf}
+use Rattle.layout.proofs.Parts.{steps-length}
+use Rattle.file_tests.specs.Tests.{lengthWrong, trailerFits, settingsWellFormed, someMalformed, firstMalformed}
+use Rattle.file_tests.proofs.Laws.{TrailerFits, trailer-fits}
 use Rattle.dayfile.specs.Answers.{refusalNumber}
 use Rattle.dayfile.specs.Answers.{readVerdict, notRead, readOf}
 use Rattle.dayfile.specs.declared.Reading.the-variants.{Day, Refused}
@@ -21,7 +23,7 @@ use Rattle.dayfile.specs.declared.ReadAnswer.{ReadAnswer}
 -- ## A right length
 
 pub record LengthRight (l : ℕ) : Type 0 where
-  pub least : settingsDistance ≤ l
+  pub least : shortestFile ≤ l
   pub most : l ≤ longestFile
   pub whole : l % stepLength ≡ 0
 
@@ -32,7 +34,7 @@ neither false b e = (refl, e)
 pub length-right : (l : ℕ) → lengthWrong l ≡ false → LengthRight l
 unfolding lengthWrong
 length-right l e =
-    let f = neither (ltb l settingsDistance) _ e in
+    let f = neither (ltb l shortestFile) _ e in
     let g = neither (ltb longestFile l) _ (f .1) in
     record {
       least = ltb-false _ _ (f .0);
@@ -44,24 +46,18 @@ pub not-wrong : (l : ℕ) → LengthRight l → lengthWrong l ≡ false
 unfolding lengthWrong
 not-wrong l h = rw (le-ltb _ _ (h .least), le-ltb _ _ (h .most), eq-eqb _ _ (h .whole))
 
--- ## The parts of a file of a right length
+-- ## The parts of a file
 
-module _ (file : List ℕ) (h : settingsDistance ≤ length file) where
-  pub trailer-length : length (trailerIn file) ≡ trailerLength
-  unfolding trailerIn fromEnd
-  trailer-length = simp length-drop (omega arith)
+pub settings-length : (file : List ℕ) → settingsDistance (tailIn file) ≤ length file → length (settingsIn file) ≡ settingsLength + tailIn file
+unfolding settingsIn fromEnd
+settings-length file h =
+    let tail = tailIn file in
+    length-take-le (settingsLength + tail) (drop (length file - settingsDistance tail) file) (simp length-drop (omega arith))
 
-  pub settings-length : length (settingsIn file) ≡ settingsLength
-  unfolding settingsIn fromEnd
-  settings-length = length-take-le settingsLength (drop (length file - settingsDistance) file) (simp length-drop (omega arith))
-
-  pub steps-length : length (stepsIn file) ≡ length file - settingsDistance
-  unfolding stepsIn
-  steps-length = length-take-le _ _ (omega arith)
-
-pub few-steps : (file : List ℕ) → LengthRight (length file) → stepCount (stepsIn file) ≤ mostSteps
+-- whatever its mark, a file has room for one step more at most
+pub steps-bounded : (file : List ℕ) → LengthRight (length file) → stepCount (stepsIn file) ≤ suc mostSteps
 unfolding stepCount
-few-steps file h = omega (arith, steps-length file (h .least), h .most, h .whole)
+steps-bounded file h = omega (arith, steps-length file, h .most)
 
 -- ## The answers, of the parts that the calls handed over
 
@@ -69,28 +65,26 @@ pub answer-1 : (file : List ℕ) → lengthWrong (length file) ≡ true → notR
 unfolding readOf readVerdict refusalNumber notRead
 answer-1 file e = rw e
 
-module _
-    (file steps t : List ℕ) (count : ℕ) (es : steps ≡ stepsIn file) (ec : count ≡ stepCount steps) (et : t ≡ trailerIn file)
-    (e₁ : lengthWrong (length file) ≡ false) where
-  pub answer-2 : trailerWellFormed count t ≡ false → notRead 2 0 ≡ readOf file
+module _ (file : List ℕ) (e₁ : lengthWrong (length file) ≡ false) where
+  pub answer-2 : trailerFits file ≡ false → notRead 2 0 ≡ readOf file
   unfolding readOf readVerdict refusalNumber notRead
-  answer-2 e₂ = rw (e₁, ← es, ← ec, ← et, e₂)
+  answer-2 e₂ = rw (e₁, e₂)
 
-  module _ (e₂ : trailerWellFormed count t ≡ true) (s : List ℕ) (eb : s ≡ settingsIn file) where
+  module _ (e₂ : trailerFits file ≡ true) (s : List ℕ) (eb : s ≡ settingsIn file) where
     pub answer-3 : settingsWellFormed s ≡ false → notRead 3 0 ≡ readOf file
     unfolding readOf readVerdict refusalNumber notRead
-    answer-3 e₃ = rw (e₁, ← es, ← ec, ← et, e₂, ← eb, e₃)
+    answer-3 e₃ = rw (e₁, e₂, ← eb, e₃)
 
     module _
-        (e₃ : settingsWellFormed s ≡ true) (c : Settings) (first : ℕ) (eo : c ≡ settingsOf s)
-        (ef : first ≡ firstMalformed (c .posts) steps) where
+        (e₃ : settingsWellFormed s ≡ true) (c : Settings) (eo : c ≡ settingsOf s) (steps : List ℕ) (count first : ℕ) (es : steps ≡ stepsIn file)
+        (ec : count ≡ stepCount steps) (ef : first ≡ firstMalformed (c .posts) steps) where
       pub answer-4 : first < count → notRead 4 first ≡ readOf file
       unfolding readOf readVerdict refusalNumber notRead someMalformed
-      answer-4 h = rw (e₁, ← es, ← ec, ← et, e₂, ← eb, e₃, ← eo, ← ef, lt-ltb _ _ h)
+      answer-4 h = rw (e₁, e₂, ← eb, e₃, ← eo, ← es, ← ec, ← ef, lt-ltb _ _ h)
 
       pub answer-day : count ≤ first → _≡_ {A = ReadAnswer} (record { reading = Day count; settings = c }) (readOf file)
       unfolding readOf readVerdict refusalNumber someMalformed
-      answer-day h = rw (e₁, ← es, ← ec, ← et, e₂, ← eb, e₃, ← eo, ← ef, le-ltb _ _ h)
+      answer-day h = rw (e₁, e₂, ← eb, e₃, ← eo, ← es, ← ec, ← ef, le-ltb _ _ h)
 
 -- ## A file that is read
 
@@ -107,7 +101,7 @@ same-day m n e = cc
 
 pub record DayRead (file : List ℕ) (count : ℕ) : Type 0 where
   pub length-well : LengthRight (length file)
-  pub trailer-well : trailerWellFormed (stepCount (stepsIn file)) (trailerIn file) ≡ true
+  pub trailer-well : TrailerFits file
   pub settings-well : settingsWellFormed (settingsIn file) ≡ true
   pub steps-well : someMalformed (settingsOf (settingsIn file) .posts) (stepsIn file) ≡ false
   pub counted : stepCount (stepsIn file) ≡ count
@@ -116,7 +110,7 @@ pub day-read : (file : List ℕ) (count : ℕ) → readVerdict file ≡ Day coun
 unfolding readVerdict
 day-read file count e =
     let a = past (lengthWrong (length file)) (Refused 1 0) _ (Day count) (never-day 1 0 count) e in
-    let b = past (not (trailerWellFormed (stepCount (stepsIn file)) (trailerIn file))) (Refused 2 0) _ (Day count) (never-day 2 0 count) (a .1) in
+    let b = past (not (trailerFits file)) (Refused 2 0) _ (Day count) (never-day 2 0 count) (a .1) in
     let c = past (not (settingsWellFormed (settingsIn file))) (Refused 3 0) _ (Day count) (never-day 3 0 count) (b .1) in
     let first = firstMalformed (settingsOf (settingsIn file) .posts) (stepsIn file) in
     let d =
@@ -124,7 +118,7 @@ day-read file count e =
     (never-day 4 first count) (c .1) in
     record {
       length-well = length-right _ (a .0);
-      trailer-well = not-false _ (b .0);
+      trailer-well = trailer-fits file (not-false _ (b .0));
       settings-well = not-false _ (c .0);
       steps-well = d .0;
       counted = same-day _ _ (d .1);

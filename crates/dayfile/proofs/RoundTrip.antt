@@ -7,71 +7,92 @@ use native.Mathlib.Omega.{arith}
 use lib.Dec.{ltb}
 use lib.ListN.{length, drop, length-append}
 use lib.Seq.{take-at}
-use borrow.Author.Tests.{ltb-false, le-ltb}
+use borrow.Author.Tests.{ltb-false, le-ltb, le-leb}
 use Rattle.section.specs.declared.Settings.{Settings}
 use Rattle.section.specs.Bytes.{AllBytes}
-use Rattle.section.specs.Numbers.{stepLength}
+use Rattle.section.specs.Numbers.{stepLength, mostCrossings}
 use Rattle.section.specs.Settings.{settingsInRange}
-use Rattle.file_tests.specs.Tests.{lengthWrong, trailerWellFormed, settingsWellFormed}
-use Rattle.layout.specs.Layout.{mostSteps, settingsDistance, stepsDistance, settingsBytes, trailer, stepCount, fileOf, trailerIn}
+use Rattle.layout.specs.Layout.{mostSteps, settingsDistance, stepsDistance, tailOf, settingsPart, trailer, stepCount, fileOf, trailerIn, tailIn}
 use Rattle.layout.specs.Layout.{settingsIn, stepsIn, settingsOf, stepsPart}
-use Rattle.file_tests.specs.Tests.{someMalformed, firstMalformed}
+use Rattle.layout.proofs.Parts.{tail-of, tail-in, part-long, trailer-long, trailer-length, steps-length}
+use Rattle.file_tests.specs.Tests.{lengthWrong, lengthSuits, trailerFits, settingsWellFormed, someMalformed, firstMalformed}
+use Rattle.file_tests.proofs.Laws.{few-steps, all-whole, settings-length as settings-suit}
 use Rattle.dayfile.specs.Answers.{refusalIndex, writerRefusalIndex, refusalNumber, readVerdict, readOf}
 use Rattle.dayfile.specs.Answers.{writeVerdict, writerRefusalNumber, writtenInto}
 use Rattle.dayfile.specs.declared.Reading.the-variants.{Day, Refused}
 use Rattle.dayfile.specs.declared.Written.the-variants.{Bytes, Refused as NotWritten}
 use Rattle.dayfile.specs.RoundTrip.{ReadsWhatIsWritten, WritesWhatIsRead, MeansOneThing, GivesItsSteps, IndexOnlyForFour}
-use Rattle.file_tests.proofs.Laws.{all-whole}
 use Rattle.dayfile.proofs.Parts.{settings-said, settings-well-formed, settings-in-range, settings-bytes, trailer-well-formed, trailer-bytes}
-use Rattle.dayfile.proofs.Parts.{steps-of, settings-of, trailer-of, of-its-parts, trailer-all-bytes, settings-all-bytes}
-use Rattle.dayfile.proofs.Reader.{LengthRight, not-wrong, trailer-length, settings-length, steps-length, few-steps, answer-day}
+use Rattle.dayfile.proofs.Parts.{tail-said, tail-is, steps-of, settings-of, trailer-of, of-its-parts, trailer-all-bytes, settings-all-bytes}
+use Rattle.dayfile.proofs.Reader.{LengthRight, not-wrong, settings-length, answer-day}
 use Rattle.dayfile.proofs.Reader.{DayRead, day-read}
-use Rattle.layout.proofs.Parts.{settings-long, trailer-long}
 use Rattle.dayfile.proofs.Writer.{BytesWritten, bytes-written}
 
 -- ## What is written is read back
 
 module _ (c : Settings) (steps : List ℕ) (written : ℕ) (w : BytesWritten c steps written) where
-  file-length : length (fileOf c steps) ≡ stepsDistance (stepCount steps)
+  file-length : length (fileOf c steps) ≡ stepsDistance (tailOf c) (stepCount steps)
   unfolding fileOf
   file-length =
-      rw (length-append, length-append, settings-long, trailer-long) (omega (arith, all-whole (c .posts) steps (w .steps-well)))
+      rw (length-append, length-append, part-long, trailer-long) (omega (arith, all-whole (c .posts) steps (w .steps-well)))
 
   file-length-right : LengthRight (length (fileOf c steps))
   file-length-right =
+      let t = tail-of c in
       rw file-length
-      (record { least = omega arith; most = omega (arith, w .few); whole = omega arith })
+      (record { least = omega arith; most = omega (arith, w .few, t .most); whole = omega (arith, t .whole) })
+
+  tail-back : tailIn (fileOf c steps) ≡ tailOf c
+  unfolding fileOf
+  tail-back = tail-is steps (settingsPart c) (trailer (tailOf c) (stepCount steps)) (tailOf c) (part-long c) (trailer-long (tailOf c) (stepCount steps))
+      (tail-said c (stepCount steps))
 
   steps-back : stepsIn (fileOf c steps) ≡ steps
   unfolding fileOf
-  steps-back = steps-of steps (settingsBytes c) (trailer (stepCount steps)) (settings-long c) (trailer-long (stepCount steps))
+  steps-back = steps-of steps (settingsPart c) (trailer (tailOf c) (stepCount steps)) (tailOf c) (part-long c) (trailer-long (tailOf c) (stepCount steps))
+      (tail-said c (stepCount steps))
 
-  settings-back : settingsIn (fileOf c steps) ≡ settingsBytes c
+  settings-back : settingsIn (fileOf c steps) ≡ settingsPart c
   unfolding fileOf
-  settings-back = settings-of steps (settingsBytes c) (trailer (stepCount steps)) (settings-long c) (trailer-long (stepCount steps))
+  settings-back = settings-of steps (settingsPart c) (trailer (tailOf c) (stepCount steps)) (tailOf c) (part-long c)
+      (trailer-long (tailOf c) (stepCount steps)) (tail-said c (stepCount steps))
 
-  trailer-back : trailerIn (fileOf c steps) ≡ trailer (stepCount steps)
+  trailer-back : trailerIn (fileOf c steps) ≡ trailer (tailOf c) (stepCount steps)
   unfolding fileOf
-  trailer-back = trailer-of steps (settingsBytes c) (trailer (stepCount steps)) (settings-long c) (trailer-long (stepCount steps))
+  trailer-back = trailer-of steps (settingsPart c) (trailer (tailOf c) (stepCount steps)) (tailOf c) (part-long c)
+      (trailer-long (tailOf c) (stepCount steps)) (tail-said c (stepCount steps))
+
+  trailer-fits-back : trailerFits (fileOf c steps) ≡ true
+  unfolding trailerFits lengthSuits
+  trailer-fits-back =
+      let n = stepCount steps in
+      rw (
+        tail-back,
+        file-length,
+        steps-back,
+        trailer-back,
+        le-leb (settingsDistance (tailOf c)) (stepsDistance (tailOf c) n) (omega arith),
+        le-leb (stepsDistance (tailOf c) n) (stepsDistance (tailOf c) mostSteps) (omega (arith, w .few)),
+      )
+      (trailer-well-formed (tailOf c) n (tail-of c .most) (w .few))
 
   none-malformed : stepCount steps ≤ firstMalformed (c .posts) steps
   unfolding someMalformed
   none-malformed = ltb-false _ _ (w .steps-well)
 
-  read-back : readOf (fileOf c steps) ≡ record { reading = Day (stepCount steps); settings = c }
-  read-back =
+  read-back : length (c .crossings) ≡ mostCrossings → readOf (fileOf c steps) ≡ record { reading = Day (stepCount steps); settings = c }
+  read-back eight =
       sym
-      (answer-day (fileOf c steps) steps (trailer (stepCount steps)) (stepCount steps) (sym steps-back) refl (sym trailer-back)
-      (not-wrong _ file-length-right) (trailer-well-formed (stepCount steps) (w .few)) (settingsBytes c) (sym settings-back)
-      (settings-well-formed c (w .settings-well)) c (firstMalformed (c .posts) steps) (sym (settings-said c (w .settings-well))) refl
-      none-malformed)
+      (answer-day (fileOf c steps) (not-wrong _ file-length-right) trailer-fits-back (settingsPart c) (sym settings-back)
+      (settings-well-formed c (w .settings-well) eight) c (sym (settings-said c (w .settings-well) eight)) steps (stepCount steps)
+      (firstMalformed (c .posts) steps) (sym steps-back) refl refl none-malformed)
 
 pub reads-what-is-written : ReadsWhatIsWritten
 unfolding writtenInto writerRefusalNumber
-reads-what-is-written c steps buffer written e =
+reads-what-is-written c steps buffer written eight e =
     let w = bytes-written c steps (length buffer) written e in (
       rw e (take-at (fileOf c steps) (drop (length (fileOf c steps)) buffer) written (file-length c steps written w ∙ w .counted)),
-      (read-back c steps written w, steps-back c steps written w),
+      (read-back c steps written w eight, steps-back c steps written w),
     )
 
 -- ## What is read is written back
@@ -80,30 +101,38 @@ read-settings : (file : List ℕ) (count : ℕ) → readVerdict file ≡ Day cou
 unfolding readOf refusalNumber
 read-settings file count e = rw e
 
-same-length : (file : List ℕ) (count : ℕ) → DayRead file count → stepsDistance (stepCount (stepsIn file)) ≡ length file
-unfolding stepCount
-same-length file count d = omega (arith, steps-length file (d .length-well .least), d .length-well .least, d .length-well .whole)
+module _ (file : List ℕ) (count : ℕ) (d : DayRead file count) where
+  -- the settings list crossings where the file's mark says so
+  same-tail : tailIn file ≡ tailOf (settingsOf (settingsIn file))
+  same-tail = omega (arith, settings-length file (d .trailer-well .least), settings-suit (settingsIn file) (d .settings-well))
+
+  same-length : stepsDistance (tailIn file) (stepCount (stepsIn file)) ≡ length file
+  unfolding stepCount
+  same-length =
+      omega (arith, steps-length file, d .trailer-well .least, d .length-well .whole, tail-in file .whole)
 
 module _ (file : List ℕ) (count : ℕ) (bytes : AllBytes file) (d : DayRead file count) where
   same-file : fileOf (settingsOf (settingsIn file)) (stepsIn file) ≡ file
   unfolding fileOf
   same-file =
-      let h = d .length-well .least in
+      let n = stepCount (stepsIn file) in
+      let t = trailerIn file in
       rw (
-        settings-bytes (settingsIn file) (settings-length file h) (settings-all-bytes file h bytes) (d .settings-well),
-        trailer-bytes (stepCount (stepsIn file)) (trailerIn file) (trailer-length file h) (trailer-all-bytes file h bytes) (d .trailer-well),
+        settings-bytes (settingsIn file) (settings-all-bytes file bytes) (d .settings-well),
+        ← same-tail file count d,
+        trailer-bytes (tailIn file) n t (trailer-length file (d .length-well .least)) (trailer-all-bytes file bytes) (d .trailer-well .trailer-well),
       )
-      (of-its-parts file h)
+      (of-its-parts file (d .trailer-well .least))
 
   module _ (buffer : List ℕ) (h : length file ≤ length buffer) where
     same-verdict : writeVerdict (settingsOf (settingsIn file)) (stepsIn file) (length buffer) ≡ Bytes (length file)
     unfolding writeVerdict
     same-verdict =
         rw (
-          settings-in-range (settingsIn file) (settings-length file (d .length-well .least))
-              (settings-all-bytes file (d .length-well .least) bytes) (d .settings-well),
+          settings-in-range (settingsIn file) (settings-all-bytes file bytes) (d .settings-well),
           d .steps-well,
-          le-ltb mostSteps (stepCount (stepsIn file)) (few-steps file (d .length-well)),
+          ← same-tail file count d,
+          le-ltb mostSteps (stepCount (stepsIn file)) (few-steps file (d .trailer-well .most)),
           same-length file count d,
           le-ltb (length buffer) (length file) h,
         )
@@ -130,17 +159,17 @@ means-one-thing one other count number bytes others e f s t =
 
 -- ## The steps as a part of the file
 
-steps-part : (file : List ℕ) (count : ℕ) → stepsDistance count ≡ length file → stepsPart file count ≡ stepsIn file
+steps-part : (file : List ℕ) (count : ℕ) → stepsDistance (tailIn file) count ≡ length file → stepsPart file count ≡ stepsIn file
 unfolding stepsPart stepsIn
 steps-part file count e =
-    let f : stepLength * count ≡ length file - settingsDistance = omega arith in
+    let f : stepLength * count ≡ length file - settingsDistance (tailIn file) = omega arith in
     rw (le-ltb (length file) (stepLength * count) (omega arith), f)
 
 pub gives-its-steps : GivesItsSteps
 unfolding readOf
 gives-its-steps file count e =
     let d = day-read file count e in
-    steps-part file count (ap stepsDistance (sym (d .counted)) ∙ same-length file count d)
+    steps-part file count (ap (stepsDistance (tailIn file)) (sym (d .counted)) ∙ same-length file count d)
 
 -- ## The index
 
@@ -169,11 +198,11 @@ pub index-only-for-four : IndexOnlyForFour
 unfolding readVerdict writeVerdict
 index-only-for-four = (
   λ file.
-      reader-index (lengthWrong (length file)) (not (trailerWellFormed (stepCount (stepsIn file)) (trailerIn file)))
+      reader-index (lengthWrong (length file)) (not (trailerFits file))
       (not (settingsWellFormed (settingsIn file))) (someMalformed (settingsOf (settingsIn file) .posts) (stepsIn file))
       (firstMalformed (settingsOf (settingsIn file) .posts) (stepsIn file)) (stepCount (stepsIn file)),
   λ c steps room.
       writer-index (not (settingsInRange c)) (someMalformed (c .posts) steps)
-      (ltb mostSteps (stepCount steps) || ltb room (stepsDistance (stepCount steps))) (firstMalformed (c .posts) steps)
-      (stepsDistance (stepCount steps)),
+      (ltb mostSteps (stepCount steps) || ltb room (stepsDistance (tailOf c) (stepCount steps))) (firstMalformed (c .posts) steps)
+      (stepsDistance (tailOf c) (stepCount steps)),
 )

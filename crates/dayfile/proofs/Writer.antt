@@ -12,11 +12,10 @@ use borrow.Author.Tests.{lt-ltb, le-ltb, ltb-false, not-false}
 use Rattle.section.specs.declared.Settings.{Settings}
 use Rattle.section.specs.Settings.{settingsInRange}
 use Rattle.section.specs.Numbers.{stepLength}
-use Rattle.layout.specs.Layout.{mostSteps, settingsLength, stepsDistance}
-use Rattle.layout.specs.Layout.{settingsBytes, trailer, stepCount, fileOf}
+use Rattle.layout.specs.Layout.{mostSteps, settingsLength, stepsDistance, settingsBytes, tailOf, settingsPart, trailer, stepCount, fileOf}
 use Rattle.file_tests.specs.Tests.{firstMalformed, someMalformed}
 use Rattle.dayfile.specs.Answers.{writerRefusalNumber, writeVerdict, writtenInto}
-use Rattle.layout.proofs.Parts.{settings-long}
+use Rattle.layout.proofs.Parts.{tail-of, settings-long}
 use Rattle.dayfile.proofs.Reader.{neither, past}
 use Rattle.dayfile.specs.declared.Written.{Written}
 use Rattle.dayfile.specs.declared.Written.the-variants.{Bytes, Refused}
@@ -45,33 +44,36 @@ next-part :
 next-part p q x n e = rw (← e, take-append-seam p q, drop-append-add p q (length x))
 
 -- three parts, one after the other
-module _ (s x t b : List ℕ) (lx : length x ≡ settingsLength) where
+module _ (s x t b : List ℕ) (k : ℕ) (lx : length x ≡ k) where
   pub three-parts :
       (b₁ b₂ b₃ : List ℕ) → b₁ ≡ take 0 b ++ (s ++ drop (0 + length s) b) →
       b₂ ≡ take (length s) b₁ ++ (x ++ drop (length s + length x) b₁) →
-      b₃ ≡ take (length s + 8) b₂ ++ (t ++ drop (length s + 8 + length t) b₂) →
+      b₃ ≡ take (length s + k) b₂ ++ (t ++ drop (length s + k + length t) b₂) →
       b₃ ≡ (s ++ (x ++ t)) ++ drop (length (s ++ (x ++ t))) b
   three-parts b₁ b₂ b₃ e₁ e₂ e₃ =
       let f₁ : b₁ ≡ s ++ drop (length s) b = e₁ ∙ next-part [] b s 0 refl in
       let f₂ : b₂ ≡ (s ++ x) ++ drop (length x) (drop (length s) b) =
       e₂ ∙ (rw f₁ (next-part s (drop (length s) b) x (length s) refl) ∙ sym (append-assoc s x (drop (length x) (drop (length s) b)))) in
-      let n : length (s ++ x) ≡ length s + 8 = rw (length-append, lx) in
+      let n : length (s ++ x) ≡ length s + k = rw (length-append, lx) in
       let r = drop (length x) (drop (length s) b) in
-      let f₃ : b₃ ≡ (s ++ x) ++ (t ++ drop (length t) r) = e₃ ∙ rw f₂ (next-part (s ++ x) r t (length s + 8) n) in
+      let f₃ : b₃ ≡ (s ++ x) ++ (t ++ drop (length t) r) = e₃ ∙ rw f₂ (next-part (s ++ x) r t (length s + k) n) in
       f₃ ∙ simp (drop-drop, length-append, append-assoc, add-assoc)
 
 -- the parts of a file
 module _
-    (c : Settings) (s b : List ℕ) (count : ℕ) (x t : List ℕ) (ex : x ≡ settingsBytes c) (et : t ≡ trailer count)
-    (ec : count ≡ stepCount s) where
+    (c : Settings) (s b : List ℕ) (tail count : ℕ) (x t : List ℕ) (el : tail ≡ tailOf c) (ex : x ≡ take (settingsLength + tail) (settingsBytes c))
+    (et : t ≡ trailer tail count) (ec : count ≡ stepCount s) where
+  abbrev k : ℕ
+  k = settingsLength + tail
+
   pub file-put :
       (b₁ b₂ b₃ : List ℕ) → b₁ ≡ take 0 b ++ (s ++ drop (0 + length s) b) →
       b₂ ≡ take (length s) b₁ ++ (x ++ drop (length s + length x) b₁) →
-      b₃ ≡ take (length s + 8) b₂ ++ (t ++ drop (length s + 8 + length t) b₂) →
+      b₃ ≡ take (length s + k) b₂ ++ (t ++ drop (length s + k + length t) b₂) →
       b₃ ≡ fileOf c s ++ drop (length (fileOf c s)) b
-  unfolding fileOf
+  unfolding fileOf settingsPart
   file-put b₁ b₂ b₃ e₁ e₂ e₃ =
-      three-parts s x t b (ap length ex ∙ settings-long c) b₁ b₂ b₃ e₁ e₂ e₃ ∙ rw (ex, et, ec)
+      three-parts s x t b k (ap length ex ∙ length-take-le k (settingsBytes c) (omega (arith, settings-long c, el, tail-of c .most))) b₁ b₂ b₃ e₁ e₂ e₃ ∙ rw (ex, et, ec, el)
 
 -- ## The answers
 
@@ -101,18 +103,18 @@ module _ (c : Settings) (steps buffer : List ℕ) where
       unfolding writeVerdict someMalformed
       answer-5-many h = refused 5 0 refl (rw (e₃, ← ec, ← ef, le-ltb _ _ h₄, lt-ltb _ _ h))
 
-      module _ (h₅ : count ≤ mostSteps) where
-        pub answer-5-short : length buffer < stepsDistance count → Answered (Refused 5 0) buffer
+      module _ (h₅ : count ≤ mostSteps) (tail : ℕ) (el : tail ≡ tailOf c) where
+        pub answer-5-short : length buffer < stepsDistance tail count → Answered (Refused 5 0) buffer
         unfolding writeVerdict someMalformed
-        answer-5-short h = refused 5 0 refl (rw (e₃, ← ec, ← ef, le-ltb _ _ h₄, le-ltb _ _ h₅, lt-ltb _ _ h))
+        answer-5-short h = refused 5 0 refl (rw (e₃, ← ec, ← ef, ← el, le-ltb _ _ h₄, le-ltb _ _ h₅, lt-ltb _ _ h))
 
         pub answer-bytes :
-            stepsDistance count ≤ length buffer →
-            Answered (Bytes (stepsDistance count)) (fileOf c steps ++ drop (length (fileOf c steps)) buffer)
+            stepsDistance tail count ≤ length buffer →
+            Answered (Bytes (stepsDistance tail count)) (fileOf c steps ++ drop (length (fileOf c steps)) buffer)
         unfolding writeVerdict someMalformed writtenInto writerRefusalNumber
         answer-bytes h =
-            let v : writeVerdict c steps (length buffer) ≡ Bytes (stepsDistance count) =
-            rw (e₃, ← ec, ← ef, le-ltb _ _ h₄, le-ltb _ _ h₅, le-ltb _ _ h) in
+            let v : writeVerdict c steps (length buffer) ≡ Bytes (stepsDistance tail count) =
+            rw (e₃, ← ec, ← ef, ← el, le-ltb _ _ h₄, le-ltb _ _ h₅, le-ltb _ _ h) in
             (sym v, rw v)
 
 pub steps-fit : (steps : List ℕ) → length steps ≤ stepLength * stepCount steps
@@ -128,7 +130,7 @@ pub record BytesWritten (c : Settings) (steps : List ℕ) (written : ℕ) : Type
   pub settings-well : settingsInRange c ≡ true
   pub steps-well : someMalformed (c .posts) steps ≡ false
   pub few : stepCount steps ≤ mostSteps
-  pub counted : stepsDistance (stepCount steps) ≡ written
+  pub counted : stepsDistance (tailOf c) (stepCount steps) ≡ written
 
 same-bytes : (m n : ℕ) → Bytes m ≡ Bytes n → m ≡ n
 same-bytes m n e = cc
@@ -142,10 +144,10 @@ bytes-written c steps room written e =
     let first = firstMalformed (c .posts) steps in
     let b = past (someMalformed (c .posts) steps) (Refused 4 first) _ (Bytes written) (never-bytes 4 first written) (a .1) in
     let d =
-    past (ltb mostSteps n || ltb room (stepsDistance n)) (Refused 5 0) (Bytes (stepsDistance n)) (Bytes written) (never-bytes 5 0 written) (b .1) in
+    past (ltb mostSteps n || ltb room (stepsDistance (tailOf c) n)) (Refused 5 0) (Bytes (stepsDistance (tailOf c) n)) (Bytes written) (never-bytes 5 0 written) (b .1) in
     record {
       settings-well = not-false _ (a .0);
       steps-well = b .0;
-      few = ltb-false _ _ (neither (ltb mostSteps n) (ltb room (stepsDistance n)) (d .0) .0);
-      counted = same-bytes (stepsDistance n) written (d .1);
+      few = ltb-false _ _ (neither (ltb mostSteps n) (ltb room (stepsDistance (tailOf c) n)) (d .0) .0);
+      counted = same-bytes (stepsDistance (tailOf c) n) written (d .1);
     }

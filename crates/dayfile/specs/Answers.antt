@@ -5,9 +5,10 @@ use mathlib.Core.List.{List, _++_}
 use lib.ListN.{length, drop}
 use lib.Dec.{eqb, ltb}
 use Rattle.section.specs.declared.Settings.{Settings}
+use Rattle.section.specs.Crossings.{noCrossings}
 use Rattle.section.specs.Settings.{settingsInRange}
-use Rattle.layout.specs.Layout.{mostSteps, stepsDistance, stepCount, fileOf, trailerIn, settingsIn, stepsIn, settingsOf}
-use Rattle.file_tests.specs.Tests.{lengthWrong, trailerWellFormed, settingsWellFormed, firstMalformed, someMalformed}
+use Rattle.layout.specs.Layout.{mostSteps, stepsDistance, tailOf, stepCount, fileOf, settingsIn, stepsIn, settingsOf}
+use Rattle.file_tests.specs.Tests.{lengthWrong, trailerFits, settingsWellFormed, firstMalformed, someMalformed}
 use Rattle.dayfile.specs.declared.Reading.{Reading}
 use Rattle.dayfile.specs.declared.Reading.the-variants.{Day, Refused}
 use Rattle.dayfile.specs.declared.ReadAnswer.{ReadAnswer}
@@ -38,7 +39,7 @@ writerRefusalIndex (NotWritten number index) = index
 unfoldable pub readVerdict : List ℕ → Reading
 readVerdict file =
     cond (lengthWrong (length file)) (Refused 1 0)
-    (cond (not (trailerWellFormed (stepCount (stepsIn file)) (trailerIn file))) (Refused 2 0)
+    (cond (not (trailerFits file)) (Refused 2 0)
     (cond (not (settingsWellFormed (settingsIn file))) (Refused 3 0)
     (cond (someMalformed (settingsOf (settingsIn file) .posts) (stepsIn file))
     (Refused 4 (firstMalformed (settingsOf (settingsIn file) .posts) (stepsIn file)))
@@ -46,7 +47,7 @@ readVerdict file =
 
 -- the settings beside a refusal
 unfoldable pub blank : Settings
-blank = record { posts = 0; form = 0; mask = 0; line = 0 }
+blank = record { posts = 0; form = 0; mask = 0; line = 0; crossings = noCrossings }
 
 unfoldable pub notRead : ℕ → ℕ → ReadAnswer
 notRead number index = record { reading = Refused number index; settings = blank }
@@ -62,8 +63,8 @@ unfoldable pub writeVerdict : Settings → List ℕ → ℕ → Written
 writeVerdict c steps room =
     cond (not (settingsInRange c)) (NotWritten 3 0)
     (cond (someMalformed (c .posts) steps) (NotWritten 4 (firstMalformed (c .posts) steps))
-    (cond (ltb mostSteps (stepCount steps) || ltb room (stepsDistance (stepCount steps))) (NotWritten 5 0)
-    (Bytes (stepsDistance (stepCount steps)))))
+    (cond (ltb mostSteps (stepCount steps) || ltb room (stepsDistance (tailOf c) (stepCount steps))) (NotWritten 5 0)
+    (Bytes (stepsDistance (tailOf c) (stepCount steps)))))
 
 -- the buffer afterwards: the file at its front and the rest untouched; the whole of it untouched by a refusal
 unfoldable pub writtenInto : Settings → List ℕ → List ℕ → List ℕ

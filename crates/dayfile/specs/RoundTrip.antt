@@ -1,10 +1,11 @@
--- What the reader and the writer promise together. The proofs are in proofs/RoundTrip.antt.
+-- What the reader and the writer promise together, over both marks. The proofs are in proofs/RoundTrip.antt.
 use mathlib.Core.Path.{_≡_}
 use mathlib.Core.List.{List, _++_}
 use Prim.Native.Nat.{ℕ, _≤_}
 use lib.ListN.{length, take, drop}
 use Rattle.section.specs.declared.Settings.{Settings}
 use Rattle.section.specs.Bytes.{AllBytes}
+use Rattle.section.specs.Numbers.{mostCrossings}
 use Rattle.layout.specs.Layout.{stepCount, fileOf, stepsIn, stepsPart}
 use Rattle.dayfile.specs.Answers.{refusalNumber, refusalIndex, writerRefusalNumber, writerRefusalIndex, readVerdict, readOf}
 use Rattle.dayfile.specs.Answers.{writeVerdict, writtenInto}
@@ -12,10 +13,11 @@ use Rattle.dayfile.specs.declared.Reading.the-variants.{Day}
 use Rattle.dayfile.specs.declared.Written.the-variants.{Bytes}
 
 -- What the writer writes, the reader reads back: what it says it has written is the file, which is read to the same settings, as many
--- steps, and the same steps.
+-- steps, and the same steps. Settings have eight bytes of crossings: every value of the code has, and a list alone does not say so.
 abbrev pub ReadsWhatIsWritten : Type 0
 ReadsWhatIsWritten =
-    (c : Settings) (steps buffer : List ℕ) (written : ℕ) → writeVerdict c steps (length buffer) ≡ Bytes written →
+    (c : Settings) (steps buffer : List ℕ) (written : ℕ) → length (c .crossings) ≡ mostCrossings →
+    writeVerdict c steps (length buffer) ≡ Bytes written →
     (take written (writtenInto c steps buffer) ≡ fileOf c steps)
     × ((readOf (fileOf c steps) ≡ record { reading = Day (stepCount steps); settings = c })
     × (stepsIn (fileOf c steps) ≡ steps))
@@ -30,7 +32,7 @@ WritesWhatIsRead =
     (writeVerdict (readOf file .settings) (stepsIn file) (length buffer) ≡ Bytes (length file))
     × (writtenInto (readOf file .settings) (stepsIn file) buffer ≡ file ++ drop (length file) buffer))
 
--- A file means one thing: files that are read to the same settings and the same steps are the same.
+-- A file means one thing: files that are read to the same settings and the same steps are the same, so that they have one mark too.
 abbrev pub MeansOneThing : Type 0
 MeansOneThing =
     (one other : List ℕ) (count number : ℕ) → AllBytes one → AllBytes other →

@@ -1,16 +1,18 @@
-// Day files (document 01, "The day file"): the reader and the writer.
+// Day files (document 01, "The day file"; document 02, request 1): the reader and the writer, of both marks.
 ghost use mathlib.Core.Path.{_≡_};
 ghost use Prim.Native.Nat.{_+_, _≤_};
 ghost use mathlib.Core.List.{_++_};
 ghost use lib.ListN.{length, take, drop};
-ghost use Rattle.layout.specs.Layout.{mostSteps, stepsDistance, stepCount, fileOf, stepsPart};
+ghost use Rattle.layout.specs.Layout.{mostSteps, stepsDistance, tailOf, stepCount, fileOf, stepsPart};
 ghost use Rattle.dayfile.specs.Answers.{notRead, readOf, writeVerdict, writtenInto};
 use layout::MOST_STEPS;
-use layout::SETTINGS_DISTANCE;
 use layout::SETTINGS_LENGTH;
+use layout::SHORTEST_FILE;
 use ranges::settings;
+use section::MOST_CROSSINGS;
 use section::STEP_LENGTH;
 use section::Settings;
+use section::UNUSED;
 
 // A day of so many steps, or the refusal's number and index.
 pub enum Reading {
@@ -41,6 +43,7 @@ fn refused(number: u8, index: usize) -> ReadAnswer
             form: 0,
             mask: 0,
             line: 0,
+            crossings: [UNUSED; MOST_CROSSINGS],
         },
     }
 }
@@ -52,9 +55,7 @@ pub fn read(file: &[u8]) -> ReadAnswer
     if file_tests::length_wrong(file.len()) {
         return refused(1, 0);
     }
-    let steps = layout::steps_in(file);
-    let count = layout::step_count(steps);
-    if !file_tests::trailer_well_formed(count, layout::trailer_in(file)) {
+    if !file_tests::trailer_fits(file) {
         return refused(2, 0);
     }
     let bytes = layout::settings_in(file);
@@ -62,6 +63,8 @@ pub fn read(file: &[u8]) -> ReadAnswer
         return refused(3, 0);
     }
     let c = layout::settings_of(bytes);
+    let steps = layout::steps_in(file);
+    let count = layout::step_count(steps);
     let first = file_tests::first_malformed(c.posts, steps);
     if first < count {
         return refused(4, first);
@@ -94,15 +97,17 @@ fn place(part: &[u8], at: usize, buffer: &mut [u8])
 
 // Puts the file at the front of the buffer.
 fn put(c: Settings, steps: &[u8], count: usize, buffer: &mut [u8])
-    requires { ⌜ (count ≡ stepCount (now steps)) × ((count ≤ mostSteps) × (stepsDistance count ≤ length (now buffer))) ⌝ }
+    requires { ⌜ (count ≡ stepCount (now steps)) × ((count ≤ mostSteps) × (stepsDistance (tailOf c) count ≤ length (now buffer))) ⌝ }
     ensures { λ _. ⌜ now (buffer .exit) ≡ fileOf c (now (steps .entry)) ++ drop (length (fileOf c (now (steps .entry)))) (now (buffer .entry)) ⌝ }
 {
     let start = steps.len();
+    let tail = layout::tail_of(c);
+    let size = SETTINGS_LENGTH + tail;
     let settings = layout::settings_bytes(c);
-    let trailer = layout::trailer(count);
+    let trailer = layout::trailer(tail, count);
     place(steps, 0, buffer);
-    place(&settings, start, buffer);
-    place(&trailer, start + SETTINGS_LENGTH, buffer);
+    place(&settings[0..size], start, buffer);
+    place(&trailer, start + size, buffer);
 }
 
 // Writes the day file of settings and steps to the front of the buffer.
@@ -121,7 +126,8 @@ pub fn write(c: Settings, steps: &[u8], buffer: &mut [u8]) -> Written
     if count > MOST_STEPS {
         return Written::Refused(5, 0);
     }
-    let length = SETTINGS_DISTANCE + STEP_LENGTH * count;
+    let tail = layout::tail_of(c);
+    let length = SHORTEST_FILE + tail + STEP_LENGTH * count;
     if buffer.len() < length {
         return Written::Refused(5, 0);
     }

@@ -41,12 +41,20 @@ pub few-steps : (file : List ℕ) → length file ≤ stepsDistance (tailIn file
 unfolding stepCount
 few-steps file h = omega (arith, steps-length file)
 
+module _ (tail size : ℕ) where
+  pub length-suits : lengthSuits tail size ≡ true → (settingsDistance tail ≤ size) × (size ≤ stepsDistance tail mostSteps)
+  unfolding lengthSuits
+  length-suits e =
+      let p = and-parts (leb (settingsDistance tail) size) (leb size (stepsDistance tail mostSteps)) e in
+      (leb-true _ _ (p .0), leb-true _ _ (p .1))
+
 pub trailer-fits : (file : List ℕ) → trailerFits file ≡ true → TrailerFits file
-unfolding trailerFits lengthSuits
+unfolding trailerFits
 trailer-fits file e =
-    let a = and-parts (lengthSuits (tailIn file) (length file)) _ e in
-    let b = and-parts (leb (settingsDistance (tailIn file)) (length file)) (leb (length file) (stepsDistance (tailIn file) mostSteps)) (a .0) in
-    record { least = leb-true _ _ (b .0); most = leb-true _ _ (b .1); trailer-well = a .1 }
+    let tail = tailIn file in
+    let p = and-parts (lengthSuits tail (length file)) (trailerWellFormed tail (stepCount (stepsIn file)) (trailerIn file)) e in
+    let suits = length-suits tail (length file) (p .0) in
+    record { least = suits .0; most = suits .1; trailer-well = p .1 }
 
 -- ## The first number that fails a test
 

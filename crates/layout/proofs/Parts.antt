@@ -10,12 +10,12 @@ use lib.Dec.{eqb}
 use lib.Seq.{length-take-le}
 use Rattle.section.specs.declared.Settings.{Settings}
 use Rattle.section.specs.Bytes.{byte}
-use Rattle.section.specs.Numbers.{stepLength, mostCrossings}
+use Rattle.section.specs.Numbers.{stepLength, mostCrossings, unused}
 use Rattle.section.specs.Crossings.{hasCrossings}
 use Rattle.layout.specs.Layout.{settingsLength, tailLength, trailerLength, longestSettings, shortestFile, settingsDistance, stepsDistance, bsr1, bsr2}
 use Rattle.layout.specs.Layout.{markOf, le16Bytes, le32Bytes, crossingBytes, settingsBytes, tailOf, settingsPart, trailer, fromEnd, trailerIn}
-use Rattle.layout.specs.Layout.{hasMark, tailIn, stepsIn}
-use Rattle.layout.proofs.Numbers.{listed}
+use Rattle.layout.specs.Layout.{hasMark, tailIn, stepsIn, crossingsOf}
+use Rattle.layout.proofs.Numbers.{bytesFrom, listed}
 
 -- ## The tail
 
@@ -52,7 +52,7 @@ pub part-long : (c : Settings) → length (settingsPart c) ≡ settingsLength + 
 unfolding settingsPart
 part-long c = length-take-le (settingsLength + tailOf c) (settingsBytes c) (omega (arith, settings-long c, tail-of c .most))
 
-mark-long : (tail : ℕ) → length (markOf tail) ≡ 4
+pub mark-long : (tail : ℕ) → length (markOf tail) ≡ 4
 unfolding markOf
 mark-long tail = go (eqb tail 0)
   where
@@ -73,6 +73,24 @@ unfolding stepsIn
 steps-length file = length-take-le (length file - settingsDistance (tailIn file)) file (omega arith)
 
 -- ## The bytes, one by one
+
+-- of sixteen bytes the last eight are the crossings
+pub crossings-there : (s : List ℕ) → length s ≡ longestSettings → crossingsOf s ≡ bytesFrom settingsLength mostCrossings s
+crossings-there s l =
+    rw (
+      getD-there s 8 unused 0 (omega arith),
+      getD-there s 9 unused 0 (omega arith),
+      getD-there s 10 unused 0 (omega arith),
+      getD-there s 11 unused 0 (omega arith),
+      getD-there s 12 unused 0 (omega arith),
+      getD-there s 13 unused 0 (omega arith),
+      getD-there s 14 unused 0 (omega arith),
+      getD-there s 15 unused 0 (omega arith),
+    )
+
+-- eight crossings are their bytes
+pub crossings-are : (l : List ℕ) → length l ≡ mostCrossings → crossingBytes l ≡ l
+crossings-are l e = sym (listed mostCrossings 0 l e)
 
 pub settings-are :
     (c : Settings) (mask line : List ℕ) → mask ≡ le16Bytes (c .mask) → line ≡ le16Bytes (c .line) →

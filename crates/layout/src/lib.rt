@@ -28,7 +28,8 @@ const BSR1: [u8; 4] = *b"BSR1";
 
 const BSR2: [u8; 4] = *b"BSR2";
 
-// The crossings are the tail of the settings. The distance from the file's end to the settings is this much and the tail's length.
+// Without steps and without a tail, as the crossings between settings and trailer are called. From the file's end to the settings it is this much
+// and the tail.
 pub const SHORTEST_FILE: usize = SETTINGS_LENGTH + TRAILER_LENGTH;
 
 pub const LONGEST_FILE: usize = SHORTEST_FILE + MOST_CROSSINGS + STEP_LENGTH * MOST_STEPS;

@@ -14,4 +14,4 @@ unfolding lengthSuits
 returns-2 c = rw (le-leb _ _ (c .if1 .left))
 
 pub length-suits-spec : {M : Type 1} → statement M
-length-suits-spec = tie.close (tie.spec (λ c. search needs) returns (λ c. search needs) (λ c. search needs) returns-2)
+length-suits-spec = tie.close (tie.spec (λ c. search needs) returns (λ c. search needs) (λ c. search needs) (λ c. search needs) returns-2)
