@@ -43,7 +43,7 @@ fn is_sought(sought: Sought, block: usize, b: u8) -> bool
     }
 }
 
-// One that is looked for lies in the block section. The first unused byte ends the search: a line without crossings is known by one byte.
+// One that is looked for lies in the block section. The first unused byte ends the search.
 fn any_crossing(crossings: Crossings, sought: Sought, block: usize) -> bool
     requires { ⌜ UnusedLast crossings ⌝ }
     ensures { λ r. ⌜ r ≡ anyOf (isSought sought block) mostCrossings crossings ⌝ }
@@ -96,11 +96,14 @@ fn caution_needed(c: Settings, e: Site) -> bool
     sought_ahead(c, e, Sought::WithoutZones)
 }
 
-// 22: the train needs no caution form, or the one at the post is for it.
+// 22: the train needs no caution form, or the one at the post is for it. A line without crossings is known by its first byte.
 pub fn caution_held(c: Settings, e: Site, number: u16) -> bool
     requires { ⌜ OnTheLine c e ⌝ }
     ensures { λ r. ⌜ r ≡ cautionHeld c number e ⌝ }
 {
+    if c.crossings[0] == UNUSED {
+        return true;
+    }
     if !caution_needed(c, e) {
         return true;
     }

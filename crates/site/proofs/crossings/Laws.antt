@@ -39,6 +39,10 @@ or-implies : (a b x y : Bool) → (a ≡ true → x ≡ true) → (b ≡ true �
 or-implies true b x y f g h = ap (λ (t : Bool). t || y) (f refl)
 or-implies false b x y f g h = or-true x y (g h)
 
+and-second : (a b : Bool) → b ≡ false → (a && b) ≡ false
+and-second true b h = h
+and-second false b h = refl
+
 and-implies : (a x y : Bool) → (x ≡ true → y ≡ true) → (a && x) ≡ true → (a && y) ≡ true
 and-implies true x y f h = f h
 and-implies false x y f h = h
@@ -156,6 +160,13 @@ zones-lack-there c e h =
     let i = blockAhead c e in
     and-implies (not (atReceivingEnd c e)) (anyOf (isSought WithoutZones i) mostCrossings (c .crossings)) (anyOf (liesIn i) mostCrossings (c .crossings))
     (any-implies (isSought WithoutZones i) (liesIn i) (c .crossings) (λ b. and-left (liesIn i b) (lacksZones b)) mostCrossings) h
+
+-- a line whose first byte is unused has none
+pub none-ahead : (c : Settings) (e : Site) → UnusedLast (c .crossings) → byte (c .crossings) 0 ≡ unused → soughtAhead c e AnyCrossing ≡ false
+unfolding soughtAhead
+none-ahead c e last h =
+    and-second (not (atReceivingEnd c e)) (anyOf (liesIn (blockAhead c e)) mostCrossings (c .crossings))
+    (none-ended (liesIn (blockAhead c e)) (c .crossings) last refl 0 (λ k b. absurd (not-suc-le-zero b)) h)
 
 -- a crossing lies ahead, fault 4 stands, the running direction is CVT, one without zones lies ahead
 pub needed-by-fault : (crossing four cvt lack : Bool) → four ≡ true → crossing ≡ (crossing && (four || (cvt && lack)))
