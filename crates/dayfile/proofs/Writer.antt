@@ -73,7 +73,8 @@ module _
       b₃ ≡ fileOf c s ++ drop (length (fileOf c s)) b
   unfolding fileOf settingsPart
   file-put b₁ b₂ b₃ e₁ e₂ e₃ =
-      three-parts s x t b k (ap length ex ∙ length-take-le k (settingsBytes c) (omega (arith, settings-long c, el, tail-of c .most))) b₁ b₂ b₃ e₁ e₂ e₃ ∙ rw (ex, et, ec, el)
+      three-parts s x t b k (ap length ex ∙ length-take-le k (settingsBytes c) (omega (arith, settings-long c, el, tail-of c .most))) b₁ b₂ b₃ e₁ e₂ e₃
+      ∙ rw (ex, et, ec, el)
 
 -- ## The answers
 

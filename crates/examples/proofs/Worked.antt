@@ -7,7 +7,8 @@ use Rattle.section.specs.Step.{wellFormed}
 use Rattle.rules.specs.Indications.{setCount, isNextToSet, circulation, troncon, shown, lampsAt, dark, indicationsOn, indications}
 use Rattle.layout.specs.Layout.{le16Bytes, le32, le32Bytes, le32At, settingsBytes, trailer, stepCount, fileOf, fromEnd, trailerIn, settingsIn}
 use Rattle.layout.specs.Layout.{stepsIn, settingsOf, stepAt, hasMark, markOf, tailIn, tailOf, settingsPart}
-use Rattle.file_tests.specs.Tests.{lengthWrong, lengthSuits, trailerFits, trailerWellFormed, zerosWellFormed, settingsWellFormed, wellAt, leading, firstMalformed}
+use Rattle.file_tests.specs.Tests.{lengthWrong, lengthSuits, trailerFits, trailerWellFormed, zerosWellFormed, settingsWellFormed}
+use Rattle.file_tests.specs.Tests.{wellAt, leading, firstMalformed}
 use Rattle.file_tests.specs.Tests.{someMalformed}
 use Rattle.dayfile.specs.Answers.{refusalNumber, readVerdict, readOf}
 use Rattle.rules.proofs.Days.{offeredAs, refusals, fresh}

@@ -100,7 +100,8 @@ module _ (c : Settings) where
   exchange-note false s q l p k h ec hl hx = on-one-track false s q l p (notes k) (swap-note c (otherSettledOnVns s false) false q l p k (s .a) h ec hl hx)
   exchange-note true s q l p k h ec hl hx = on-one-track true s q l p (notes k) (swap-note c (otherSettledOnVns s true) true q l p k (s .b) h ec hl hx)
 
-  pub exchange-onward : 2 ≤ c .posts → (b : Bool) (s : Section) (q : ℕ) (l : View) (p : ℕ) (m : Motion) (z : ℕ) → onward m ≡ true → movesNoTrain l ≡ true → q ≢ p
+  pub exchange-onward : 2 ≤ c .posts → (b : Bool) (s : Section) (q : ℕ) (l : View) (p : ℕ) (m : Motion) (z : ℕ) → onward m ≡ true
+      → movesNoTrain l ≡ true → q ≢ p
       → trackOf (sectionAfterStep c s (on b q l)) b .cvt ≡ trackOf s b .cvt
       → AcceptedIn c s (on b q l) → AcceptedIn c (sectionAfterStep c s (on b q l)) (on b p (runs m z)) → Exchanged s (on b q l) (on b p (runs m z))
   unfolding AcceptedIn sectionAfterStep

@@ -109,7 +109,8 @@ module _ (c : Settings) where
       go (no ne) = absurd (false≢true (rw (getD-set-other (replicate mostPosts blank) e p o blank ne, getD-replicate mostPosts p blank blank h) at t))
 
   module _ (n2 : leastPosts ≤ c .posts) (n16 : c .posts ≤ mostPosts) where
-    fresh-permits : (b : Bool) (p : ℕ) → p < c .posts → getD (freshTrack (c .posts) b .posts) p blank .permission ≡ true → rank (c .posts) (upward b false) p ≡ 0
+    fresh-permits : (b : Bool) (p : ℕ) → p < c .posts → getD (freshTrack (c .posts) b .posts) p blank .permission ≡ true
+        → rank (c .posts) (upward b false) p ≡ 0
     unfolding freshTrack rank upward
     fresh-permits false p p<n h = fresh-only 0 p (permitted true blank) (omega arith) h
     fresh-permits true p p<n h = omega (arith, fresh-only (c .posts - 1) p (permitted true blank) (omega arith) h)

@@ -281,7 +281,8 @@ module _ (c : Settings) (v b : Bool) where
   unfolding trackAfter cellsAfter
   unmoved-with l q t trains last i = rw (no-movement c q l (siteOn b q t) i) refl
 
-  module _ (n2 : 2 ≤ c .posts) (q : ℕ) (l : View) (p : ℕ) (m : Motion) (z : ℕ) (t : Track) (o : onward m ≡ true) (i : movesNoTrain l ≡ true) (apart : q ≢ p) where
+  module _ (n2 : 2 ≤ c .posts) (q : ℕ) (l : View) (p : ℕ) (m : Motion) (z : ℕ) (t : Track)
+      (o : onward m ≡ true) (i : movesNoTrain l ≡ true) (apart : q ≢ p) where
     elsewhere : q < c .posts → p < c .posts → isLast (c .posts) (upward b (t .cvt)) q ≡ false → NotAhead p t (blockAhead c (siteOn b q t))
     elsewhere q<n p<n u w e =
         apart (rank-inj (c .posts) (upward b (t .cvt)) q p q<n p<n
