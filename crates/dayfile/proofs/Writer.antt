@@ -145,7 +145,8 @@ bytes-written c steps room written e =
     let first = firstMalformed (c .posts) steps in
     let b = past (someMalformed (c .posts) steps) (Refused 4 first) _ (Bytes written) (never-bytes 4 first written) (a .1) in
     let d =
-    past (ltb mostSteps n || ltb room (stepsDistance (tailOf c) n)) (Refused 5 0) (Bytes (stepsDistance (tailOf c) n)) (Bytes written) (never-bytes 5 0 written) (b .1) in
+    past (ltb mostSteps n || ltb room (stepsDistance (tailOf c) n)) (Refused 5 0) (Bytes (stepsDistance (tailOf c) n)) (Bytes written)
+    (never-bytes 5 0 written) (b .1) in
     record {
       settings-well = not-false _ (a .0);
       steps-well = b .0;
