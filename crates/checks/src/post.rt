@@ -8,12 +8,12 @@ ghost use Rattle.section.specs.declared.Settings.{Settings};
 ghost use Rattle.section.specs.declared.Step.the-variants.{MeasuresOn, MeasuresOff, FaultOn, FaultOff, Caution};
 ghost use Rattle.site.specs.OnTheLine.{OnTheLine};
 ghost use Rattle.site.specs.VerdictAt.{verdictAt};
+use crossings::crossing_ahead;
 use rules::Site;
 use section::Fault;
 use section::Said;
 use section::Settings;
 use section::Verdict;
-use site::crossings::crossing_ahead;
 
 pub fn measures_on(e: Site) -> Verdict
     ensures { λ r. ⌜ ((c : Settings) → r ≡ verdictAt c false (MeasuresOn (e .post)) e [] []) ⌝ }

@@ -5,6 +5,7 @@ ghost use mathlib.Core.Path.{_≡_};
 ghost use Rattle.section.specs.declared.Step.the-variants.{Start, Pass, Leave};
 ghost use Rattle.site.specs.OnTheLine.{OnTheLine};
 ghost use Rattle.site.specs.VerdictAt.{verdictAt};
+use crossings::caution_held;
 use occupancy::stretch::pass_occupied;
 use occupancy::stretch::stretch_occupied;
 use occupancy::trains::Sought;
@@ -18,7 +19,6 @@ use section::Verdict;
 use site::conditions::at_end;
 use site::conditions::fault1_confirmed;
 use site::conditions::is_settled;
-use site::crossings::caution_held;
 use site::place::at_receiving_end;
 use site::place::at_sending_end;
 

@@ -1,4 +1,4 @@
-pub mod Crossings
+pub mod UnusedLast
 pub mod OnTheLine
 pub mod VerdictAt
 pub mod InItsRanges

@@ -4,7 +4,7 @@ use Rattle.section.specs.declared.Settings.{Settings}
 use Rattle.section.specs.Numbers.{leastPosts, mostPosts}
 use Rattle.rules.specs.declared.Site.{Site}
 use Rattle.rules.specs.Site.{rankAt}
-use Rattle.site.specs.Crossings.{UnusedLast}
+use Rattle.site.specs.UnusedLast.{UnusedLast}
 
 pub record OnTheLine (c : Settings) (e : Site) : Type 0 where
   pub least : leastPosts ≤ c .posts

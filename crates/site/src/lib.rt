@@ -1,6 +1,5 @@
 // What a step sees beside the trains: its place on the line, what the tracks do, and what the checks ask of them.
 
 pub mod conditions;
-pub mod crossings;
 pub mod place;
 pub mod running;

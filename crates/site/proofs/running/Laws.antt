@@ -10,7 +10,7 @@ use Rattle.section.specs.Store.{postOn}
 use Rattle.section.proofs.Laws.{posts-right, seals-right, track-ranges}
 use Rattle.rules.specs.Site.{siteOn}
 use Rattle.site.specs.InItsRanges.{InItsRanges}
-use Rattle.site.proofs.crossings.Laws.{unused-last}
+use Rattle.site.proofs.UnusedLast.{unused-last}
 
 pub in-its-ranges :
     (c : Settings) (track : Bool) (t : Track) (p : ℕ) → settingsInRange c ≡ true → trackInRange (c .posts) track t ≡ true → p < c .posts
