@@ -1,18 +1,17 @@
-// The code that decides a step: for each kind the checks of the table, in its order.
-
-pub mod emergency;
-pub mod reversal;
+// The code that decides a step of any kind, and the checks of the steps that a post takes for itself, in the order of the table.
 
 ghost use mathlib.Core.Path.{_≡_};
 ghost use Rattle.site.specs.OnTheLine.{OnTheLine};
 ghost use Rattle.site.specs.VerdictAt.{verdictAt};
+use reversal_checks::emergency;
+use reversal_checks::reversal;
 use rules::Site;
 use section::Settings;
 use section::Step;
 use section::Trains;
+use train_checks::trains;
 
 mod post;
-mod trains;
 
 // The verdict of the table on a step at a site, beside a track that is or is not settled on VNS.
 pub fn verdict(

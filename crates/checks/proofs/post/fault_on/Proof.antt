@@ -3,7 +3,7 @@ use mathlib.Core.Bool.{not}
 use mathlib.Core.Path.{ap}
 use Rattle.section.proofs.Told.{told}
 use Rattle.rules.specs.Table.{checks, effect}
-use Rattle.checks.proofs.Row.{none, then, accepted, refused}
+use Rattle.site.proofs.Row.{none, then, accepted, refused}
 use Rattle.checks.proofs.post.fault_on.Statement.{statement}
 use Rattle.checks.proofs.post.fault_on.Tie as tie
 

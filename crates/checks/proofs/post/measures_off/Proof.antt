@@ -6,7 +6,7 @@ use Rattle.section.specs.declared.Settings.{Settings}
 use Rattle.section.specs.declared.Step.the-variants.{MeasuresOff}
 use Rattle.rules.specs.Table.{Check, checks, effect}
 use Rattle.site.specs.VerdictAt.{rowAt}
-use Rattle.checks.proofs.Row.{AskedAt, none, accepted, unless, when}
+use Rattle.site.proofs.Row.{AskedAt, none, accepted, unless, when}
 use Rattle.checks.proofs.post.measures_off.Statement.{statement}
 use Rattle.checks.proofs.post.measures_off.Tie as tie
 

@@ -2,7 +2,7 @@
 use mathlib.Core.Bool.{not}
 use mathlib.Core.Path.{ap}
 use Rattle.rules.specs.Table.{checks, effect}
-use Rattle.checks.proofs.Row.{none, then, accepted, refused}
+use Rattle.site.proofs.Row.{none, then, accepted, refused}
 use Rattle.checks.proofs.post.measures_on.Statement.{statement}
 use Rattle.checks.proofs.post.measures_on.Tie as tie
 

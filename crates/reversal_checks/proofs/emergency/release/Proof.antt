@@ -7,9 +7,9 @@ use Rattle.section.proofs.Told.{told}
 use Rattle.rules.specs.Site.{atReceivingEnd, lastEntered, occupancyAt}
 use Rattle.rules.specs.Table.{Check, checks, effect}
 use Rattle.site.specs.VerdictAt.{rowAt}
-use Rattle.checks.proofs.Row.{AskedAt, AskedEqual, none, accepted, unless, unless-equal, when}
-use Rattle.checks.proofs.emergency.release.Statement.{statement}
-use Rattle.checks.proofs.emergency.release.Tie as tie
+use Rattle.site.proofs.Row.{AskedAt, AskedEqual, none, accepted, unless, unless-equal, when}
+use Rattle.reversal_checks.proofs.emergency.release.Statement.{statement}
+use Rattle.reversal_checks.proofs.emergency.release.Tie as tie
 
 abbrev row : tie.Start → List Check
 row c = rowAt (c .args .c) false (Release (c .args .e .post) (c .args .number)) (c .args .e) (c .args .trains .now) (c .args .last .now)

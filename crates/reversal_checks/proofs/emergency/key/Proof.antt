@@ -9,9 +9,9 @@ use Rattle.section.specs.Numbers.{mostSeals}
 use Rattle.rules.specs.Site.{occupancyAt}
 use Rattle.rules.specs.Table.{Check, checks, effect}
 use Rattle.site.specs.VerdictAt.{rowAt}
-use Rattle.checks.proofs.Row.{AskedAt, none, accepted, unless, when}
-use Rattle.checks.proofs.emergency.key.Statement.{statement}
-use Rattle.checks.proofs.emergency.key.Tie as tie
+use Rattle.site.proofs.Row.{AskedAt, none, accepted, unless, when}
+use Rattle.reversal_checks.proofs.emergency.key.Statement.{statement}
+use Rattle.reversal_checks.proofs.emergency.key.Tie as tie
 
 abbrev row : tie.Start → List Check
 row c = rowAt (c .args .c) false (Key (c .args .e .post)) (c .args .e) (c .args .trains .now) []

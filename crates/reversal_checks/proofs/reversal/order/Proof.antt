@@ -5,9 +5,9 @@ use Rattle.section.specs.declared.Step.the-variants.{Order}
 use Rattle.rules.specs.Site.{occupancyAt}
 use Rattle.rules.specs.Table.{Check, checks, effect}
 use Rattle.site.specs.VerdictAt.{rowAt}
-use Rattle.checks.proofs.Row.{AskedAt, none, accepted, unless, when}
-use Rattle.checks.proofs.reversal.order.Statement.{statement}
-use Rattle.checks.proofs.reversal.order.Tie as tie
+use Rattle.site.proofs.Row.{AskedAt, none, accepted, unless, when}
+use Rattle.reversal_checks.proofs.reversal.order.Statement.{statement}
+use Rattle.reversal_checks.proofs.reversal.order.Tie as tie
 
 abbrev row : tie.Start → List Check
 row c = rowAt (c .args .c) (c .args .other-on-vns) (Order (c .args .e .post)) (c .args .e) (c .args .trains .now) []

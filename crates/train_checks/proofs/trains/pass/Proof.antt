@@ -7,9 +7,9 @@ use Rattle.rules.specs.Site.{occupancyAt}
 use Rattle.rules.specs.Table.{Check, checks, effect}
 use Rattle.site.specs.VerdictAt.{rowAt}
 use Rattle.site.proofs.place.Laws.{or-false}
-use Rattle.checks.proofs.Row.{AskedAt, AskedEqual, none, accepted, unless, unless-equal, when}
-use Rattle.checks.proofs.trains.pass.Statement.{statement}
-use Rattle.checks.proofs.trains.pass.Tie as tie
+use Rattle.site.proofs.Row.{AskedAt, AskedEqual, none, accepted, unless, unless-equal, when}
+use Rattle.train_checks.proofs.trains.pass.Statement.{statement}
+use Rattle.train_checks.proofs.trains.pass.Tie as tie
 
 abbrev row : tie.Start → List Check
 row c = rowAt (c .args .c) false (Pass (c .args .e .post) (c .args .number)) (c .args .e) (c .args .trains .now) []

@@ -7,9 +7,9 @@ use Rattle.section.specs.Step.{numberOf}
 use Rattle.rules.specs.Site.{occupancyAt}
 use Rattle.rules.specs.Table.{Check, checks, effect}
 use Rattle.site.specs.VerdictAt.{rowAt}
-use Rattle.checks.proofs.Row.{AskedAt, none, accepted, unless, when}
-use Rattle.checks.proofs.trains.start.Statement.{statement}
-use Rattle.checks.proofs.trains.start.Tie as tie
+use Rattle.site.proofs.Row.{AskedAt, none, accepted, unless, when}
+use Rattle.train_checks.proofs.trains.start.Statement.{statement}
+use Rattle.train_checks.proofs.trains.start.Tie as tie
 
 abbrev row : tie.Start → List Check
 row c = rowAt (c .args .c) false (Start (c .args .e .post) (c .args .number)) (c .args .e) (c .args .trains .now) []

@@ -5,9 +5,9 @@ use Rattle.section.specs.declared.Settings.{Settings}
 use Rattle.section.specs.declared.Step.the-variants.{Acknowledge}
 use Rattle.rules.specs.Table.{checks, effect}
 use Rattle.site.specs.VerdictAt.{rowAt}
-use Rattle.checks.proofs.Row.{AskedAt, none, accepted, unless}
-use Rattle.checks.proofs.reversal.acknowledge.Statement.{statement}
-use Rattle.checks.proofs.reversal.acknowledge.Tie as tie
+use Rattle.site.proofs.Row.{AskedAt, none, accepted, unless}
+use Rattle.reversal_checks.proofs.reversal.acknowledge.Statement.{statement}
+use Rattle.reversal_checks.proofs.reversal.acknowledge.Tie as tie
 
 in-turn : (s : Settings) (c : tie.After-is-turn) →
     let e = c .before .args .e in AskedAt 1 15 (rowAt s false (Acknowledge (e .post)) e [] []) (not (c .is-turn .result))

@@ -1,0 +1,3 @@
+// The checks of a train's own steps, in the order of the table.
+
+pub mod trains;
