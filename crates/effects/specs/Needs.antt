@@ -1,4 +1,4 @@
--- What the effect of a step needs, and the block sections that a movement needs: an accepted step has both.
+-- What the effect of a step needs: an accepted step has it, and the block sections of its movement.
 use Prim.Native.Nat.{_<_}
 use Rattle.section.specs.declared.Settings.{Settings}
 use Rattle.section.specs.declared.Step.{Step}
@@ -6,10 +6,9 @@ use Rattle.section.specs.declared.Step.the-variants.{Order, Set, Announce, Ackn
 use Rattle.section.specs.declared.Step.the-variants.{FaultOff, Release, Key, Caution}
 use Rattle.section.specs.Numbers.{mostSeals}
 use Rattle.rules.specs.declared.Site.{Site}
-use Rattle.rules.specs.declared.Movement.{Movement}
-use Rattle.rules.specs.declared.Movement.the-variants.{Stays, Enters, Moves, Leaves}
 use Rattle.rules.specs.Table.{effect}
-use Rattle.site.specs.OnTheLine.{HasAhead, HasBefore}
+use Rattle.site.specs.OnTheLine.{HasAhead}
+use Rattle.movements.specs.Needs.{HasBlocks}
 
 module _ (c : Settings) (e : Site) where
   -- "announce (never at the last post)"; key with a "seal count 0 to 999" after it
@@ -28,13 +27,6 @@ module _ (c : Settings) (e : Site) where
   EffectNeeds (Release p number) = Unit {0}
   EffectNeeds (Key p) = e .own .seals < mostSeals
   EffectNeeds (Caution p number) = Unit {0}
-
-  -- the block sections of a movement
-  unfoldable pub HasBlocks : Movement → Type 0
-  HasBlocks Stays = Unit {0}
-  HasBlocks (Enters number) = HasAhead c e
-  HasBlocks (Moves number) = HasBefore c e × HasAhead c e
-  HasBlocks Leaves = HasBefore c e
 
 -- what an accepted step has
 pub record AcceptedHas (c : Settings) (x : Step) (e : Site) : Type 0 where

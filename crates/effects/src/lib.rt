@@ -1,63 +1,24 @@
 // What an accepted step does: the post's record, the walk, the running direction, the movement of a train, and what is said.
 
-pub mod movement;
-pub mod reversal;
-
 ghost use mathlib.Core.Path.{_≡_};
-ghost use Rattle.rules.specs.Table.{withoutFault, usedUp, effect};
+ghost use Rattle.rules.specs.Table.{effect};
 ghost use Rattle.site.specs.OnTheLine.{OnTheLine};
-ghost use Rattle.effects.specs.Moving.{moving};
 ghost use Rattle.effects.specs.Needs.{EffectNeeds};
-use crate::reversal::message;
-use crate::reversal::next_post;
-use crate::reversal::setting;
-use crate::reversal::walking;
+use post_effects::moving;
+use post_effects::used_up;
+use post_effects::without_fault;
+use reversal_effects::message;
+use reversal_effects::next_post;
+use reversal_effects::setting;
+use reversal_effects::walking;
 use rules::Effect;
 use rules::Movement;
 use rules::Site;
 use section::Act;
-use section::Fault;
-use section::Post;
 use section::Said;
 use section::Settings;
 use section::Step;
 use section::Walk;
-
-// A step that changes its post's record and does something with a train.
-fn moving(e: Site, own: Post, train: Movement) -> Effect
-    ensures { λ r. ⌜ r ≡ moving e own train ⌝ }
-{
-    let walk = e.walk;
-    Effect {
-        own: own,
-        walk: walk,
-        cvt: e.cvt,
-        train: train,
-        said: Said::Nothing,
-    }
-}
-
-// Fault 1 takes the mark with it.
-fn without_fault(own: Post, fault: Fault) -> Post
-    ensures { λ r. ⌜ r ≡ withoutFault fault own ⌝ }
-{
-    match fault {
-        Fault::One => own.faulty(Fault::One, false).marked(false),
-        Fault::Two => own.faulty(Fault::Two, false),
-        Fault::Three => own.faulty(Fault::Three, false),
-        Fault::Four => own.faulty(Fault::Four, false),
-    }
-}
-
-// A caution form for that train is used up.
-fn used_up(own: Post, number: u16) -> Post
-    ensures { λ r. ⌜ r ≡ usedUp number own ⌝ }
-{
-    if own.caution == number {
-        return own.cautioned(0);
-    }
-    own
-}
 
 // The effect of each kind.
 pub fn effect_of(c: Settings, x: Step, e: Site) -> Effect

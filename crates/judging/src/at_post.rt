@@ -4,7 +4,6 @@ ghost use Rattle.section.specs.Step.{postOf};
 ghost use Rattle.site.specs.InItsRanges.{InItsRanges};
 ghost use Rattle.site.specs.Running.{onVns, siteWith};
 ghost use Rattle.judging.specs.AtPost.{asBefore, judgedAtPost, trainsAt, lastAt};
-use effects::movement;
 use rules::Site;
 use section::Post;
 use section::Settings;
@@ -57,8 +56,8 @@ fn judge_at(
         Verdict::Accepted(_) => {
             let f = effects::effect_of(c, x, e);
             let train = f.train;
-            movement::move_cells(c, true, train, e, trains);
-            movement::move_cells(c, false, train, e, last);
+            movements::move_cells(c, true, train, e, trains);
+            movements::move_cells(c, false, train, e, last);
             let own = f.own;
             let walk = f.walk;
             PostAnswer {

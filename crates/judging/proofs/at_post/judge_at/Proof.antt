@@ -1,8 +1,9 @@
 -- The verdict's case decides what is left.
 use mathlib.Core.Path.{sym, _∙_, subst}
 use Rattle.rules.specs.declared.Effect.{Effect}
-use Rattle.effects.specs.Needs.{HasBlocks, AcceptedHas}
-use Rattle.effects.proofs.movement.Accepted.{accepted-has}
+use Rattle.movements.specs.Needs.{HasBlocks}
+use Rattle.effects.specs.Needs.{AcceptedHas}
+use Rattle.effects.proofs.Accepted.{accepted-has}
 use Rattle.judging.proofs.at_post.AtSite.{accepted, accepted-trains, accepted-last, refused, refused-trains, refused-last}
 use borrow.Author.Needs.{needs}
 use Rattle.judging.proofs.at_post.judge_at.Statement.{statement}
