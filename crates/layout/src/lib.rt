@@ -1,10 +1,9 @@
-// The layout of a day file.
+// The layout of a day file, and its parts as they are read.
 ghost use mathlib.Core.Path.{_≡_};
 ghost use Prim.Native.Nat.{_+_, _*_, _≤_};
 ghost use lib.ListN.{length, getD};
-ghost use Rattle.section.specs.Numbers.{stepLength, mostCrossings, unused};
-ghost use Rattle.layout.specs.Layout.{mostSteps, shortestFile, settingsDistance, settingsLength, trailerLength};
-ghost use Rattle.layout.specs.Layout.{le16Bytes, le32, le32Bytes, le32At, markOf, hasMark, tailOf, settingsBytes, trailer};
+ghost use Rattle.section.specs.Numbers.{stepLength, unused};
+ghost use Rattle.layout.specs.Layout.{shortestFile, settingsDistance, settingsLength, trailerLength, le32, le32At, hasMark};
 ghost use Rattle.layout.specs.Layout.{trailerIn, tailIn, settingsIn, stepsIn, crossingsOf, settingsOf, stepAt, stepCount};
 use section::Crossings;
 use section::MOST_CROSSINGS;
@@ -21,12 +20,12 @@ pub const SETTINGS_LENGTH: usize = 8;
 // With the crossings.
 pub const LONGEST_SETTINGS: usize = SETTINGS_LENGTH + MOST_CROSSINGS;
 
-const TRAILER_LENGTH: usize = 16;
+pub const TRAILER_LENGTH: usize = 16;
 
 // The mark of a file without crossings, and of one with them.
-const BSR1: [u8; 4] = *b"BSR1";
+pub const BSR1: [u8; 4] = *b"BSR1";
 
-const BSR2: [u8; 4] = *b"BSR2";
+pub const BSR2: [u8; 4] = *b"BSR2";
 
 // Without steps and without a tail, as the crossings between settings and trailer are called. From the file's end to the settings it is this much
 // and the tail.
@@ -166,99 +165,4 @@ pub fn step_count(steps: &[u8]) -> usize
         return whole + 1;
     }
     whole
-}
-
-// The two bytes of a 16-bit number.
-pub fn le16_bytes(x: u16) -> [u8; 2]
-    ensures { λ r. ⌜ r ≡ le16Bytes x ⌝ }
-{
-    [(x % 256) as u8, (x / 256 % 256) as u8]
-}
-
-// The four bytes of a 32-bit number.
-fn le32_bytes(x: usize) -> [u8; 4]
-    ensures { λ r. ⌜ r ≡ le32Bytes x ⌝ }
-{
-    [
-        (x % 256) as u8,
-        (x / 256 % 256) as u8,
-        (x / 65536 % 256) as u8,
-        (x / 16777216 % 256) as u8,
-    ]
-}
-
-// The bytes of settings, the crossings last.
-pub fn settings_bytes(c: Settings) -> [u8; LONGEST_SETTINGS]
-    ensures { λ r. ⌜ r ≡ settingsBytes c ⌝ }
-{
-    let mask = le16_bytes(c.mask);
-    let line = le16_bytes(c.line);
-    let crossings = c.crossings;
-    [
-        c.posts,
-        c.form,
-        mask[0],
-        mask[1],
-        line[0],
-        line[1],
-        0,
-        0,
-        crossings[0],
-        crossings[1],
-        crossings[2],
-        crossings[3],
-        crossings[4],
-        crossings[5],
-        crossings[6],
-        crossings[7],
-    ]
-}
-
-// The length of the tail that a file of these settings has: none where no crossing is listed.
-pub fn tail_of(c: Settings) -> usize
-    ensures { λ r. ⌜ r ≡ tailOf c ⌝ }
-{
-    if c.crossings[0] == UNUSED {
-        return 0; // no crossing
-    }
-    MOST_CROSSINGS
-}
-
-// The mark of a file with such a tail.
-pub fn mark_of(tail: usize) -> [u8; 4]
-    ensures { λ r. ⌜ r ≡ markOf tail ⌝ }
-{
-    if tail == 0 {
-        return BSR1;
-    }
-    BSR2 // with a tail
-}
-
-// The trailer of a file with such a tail and so many steps.
-pub fn trailer(tail: usize, count: usize) -> [u8; TRAILER_LENGTH]
-    requires { ⌜ (tail ≤ mostCrossings) × (count ≤ mostSteps) ⌝ }
-    ensures { λ r. ⌜ r ≡ trailer tail count ⌝ }
-{
-    let mark = mark_of(tail);
-    let near = le32_bytes(SHORTEST_FILE + tail);
-    let far = le32_bytes(SHORTEST_FILE + tail + STEP_LENGTH * count);
-    let number = le32_bytes(count);
-    [
-        mark[0],
-        mark[1],
-        mark[2],
-        mark[3],
-        near[0],
-        near[1],
-        near[2],
-        near[3],
-        far[0],
-        far[1],
-        far[2],
-        far[3],
-        number[0],
-        number[1],
-        number[2],
-        number[3],
-    ]
 }
