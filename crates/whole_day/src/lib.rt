@@ -15,7 +15,6 @@ use judging::at_post::judge_at_post;
 use layout::step_at;
 use notes::NOTE_LENGTH;
 use notes::put_note;
-use ranges::settings::settings_in_range;
 use section::Decoded;
 use section::MOST_BLOCKS;
 use section::Posts;
@@ -25,6 +24,7 @@ use section::Trains;
 use section::Verdict;
 use section::Walk;
 use section::words;
+use settings_ranges::settings::settings_in_range;
 use site::running::Running;
 use site::running::place_of;
 
