@@ -2,11 +2,13 @@
 ghost use mathlib.Core.Path.{_≡_};
 ghost use Rattle.section.specs.declared.Verdict.{Verdict};
 ghost use Rattle.rules.specs.Judge.{judge};
+ghost use Rattle.section.specs.Store.{trackOf};
 pub use indications::indications;
 use judging::on_track::judge_on_track;
 use section::Answer;
 use section::Decoded;
 use section::Section;
+use section::Track;
 use section::Verdict;
 use site::running::running_of;
 
@@ -17,6 +19,18 @@ fn refused(number: u8, s: Section) -> Answer
         verdict: Verdict::Refused(number),
         section: s,
     }
+}
+
+// The track of that number.
+fn track_of(s: Section, track: bool) -> Track
+    ensures { λ r. ⌜ r ≡ trackOf s track ⌝ }
+{
+    if track {
+        let b = s.b;
+        return b;
+    }
+    let a = s.a;
+    a
 }
 
 // Judges bytes offered to a section: 6, then 4, then the table. A refusal returns the section as it came.
@@ -32,15 +46,14 @@ pub fn judge(s: Section, bytes: &[u8]) -> Answer
         return refused(4, s);
     };
     let track = x.track;
-    let a = s.a;
-    let b = s.b;
-    let t = if track { b } else { a };
-    let other = if track { a } else { b };
-    let answer = judge_on_track(c, x, t, running_of(other));
+    let own = track_of(s, track);
+    let other = track_of(s, !track);
+    let answer = judge_on_track(c, x, own, running_of(other));
     let verdict = answer.verdict;
     let after = answer.track;
     // Put together in each branch: one that is put together after them is copied once more.
     if track {
+        let a = s.a;
         return Answer {
             verdict: verdict,
             section: Section {
@@ -50,6 +63,7 @@ pub fn judge(s: Section, bytes: &[u8]) -> Answer
             },
         };
     }
+    let b = s.b;
     Answer {
         verdict: verdict,
         section: Section {

@@ -102,8 +102,9 @@ fn track_in_range(n: u8, track: bool, t: Track) -> bool
 pub fn in_range(s: Section) -> bool
     ensures { λ r. ⌜ r ≡ inRange s ⌝ }
 {
-    let n = s.settings.posts;
-    if !settings_in_range(s.settings) {
+    let c = s.settings;
+    let n = c.posts;
+    if !settings_in_range(c) {
         return false;
     }
     if !track_in_range(n, false, s.a) {

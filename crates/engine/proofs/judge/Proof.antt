@@ -1,7 +1,6 @@
--- 6 by the ranges; then the bytes say a step or none, and the step is judged on the track that the code has picked.
+-- 6 by the ranges; then the bytes say a step or none, and the step is judged on its own track, beside the other.
 use denote.Ref.{now}
-use mathlib.Core.Bool.{Bool, true, false, not}
-use mathlib.Core.Logic.{⊎-elim}
+use mathlib.Core.Bool.{true, false, not}
 use mathlib.Core.Path.{_≡_, _∙_, ap, sym, subst}
 use Rattle.section.specs.declared.Decoded.the-variants.{Well}
 use Rattle.section.specs.declared.Track.{Track}
@@ -20,34 +19,25 @@ use Rattle.engine.proofs.judge.Statement.{statement}
 use Rattle.engine.proofs.judge.Tie as tie
 
 abbrev start : tie.After-running-of → tie.Start
-start c = c .before .before .before .before .before .before .before .before .before .before .before .before .before
+start c = c .before .before .before .before .before .before .before .before .before .before .before
 
 abbrev ranged : tie.After-running-of → tie.Else1
-ranged c = c .before .before .before .before .before .before .before .before .before .before
+ranged c = c .before .before .before .before .before .before .before .before
 
 abbrev well : tie.After-running-of → tie.After-d
-well c = c .before .before .before .before .before .before
+well c = c .before .before .before .before
 
 -- the ranges hold
 in-range : (c : tie.After-running-of) → inRange (start c .args .s) ≡ true
 in-range c = told-true (ranged c .before .in-range .ensures) (ranged c .if1 .left)
 
--- the step's own track and the other, as the code picks them
-own-track : (c : tie.After-running-of) → c .before .before .if2 .t ≡ trackOf (start c .args .s) (well c .d .given .0 .0 .track)
-own-track c =
-    let s = start c .args .s in
-    ⊎-elim (λ w. w .1 ∙ ap (trackOf s) (sym (w .0 .taken))) (λ w. w .1 ∙ ap (trackOf s) (sym (w .0 .left))) (c .before .before .if2 .came)
+-- the step's own track and how the other runs
+own-track : (c : tie.After-running-of) → c .before .before .track-of .result ≡ trackOf (start c .args .s) (well c .d .given .0 .0 .track)
+own-track c = c .before .before .track-of .ensures
 
 other-track :
     (c : tie.After-running-of) → c .running-of .result ≡ runningOf (trackOf (start c .args .s) (not (well c .d .given .0 .0 .track)))
-other-track c =
-    let s = start c .args .s in
-    c .running-of .ensures
-    ∙ ap runningOf
-    (⊎-elim
-    (λ w. w .1 ∙ ap (λ (k : Bool). trackOf s (not k)) (sym (w .0 .taken)))
-    (λ w. w .1 ∙ ap (λ (k : Bool). trackOf s (not k)) (sym (w .0 .left)))
-    (c .before .if3 .came))
+other-track c = c .running-of .ensures ∙ ap runningOf (c .before .track-of2 .ensures)
 
 -- the step that the bytes say
 says :
@@ -77,16 +67,16 @@ judge-on-track-requires c κs =
 returns-3 : tie.Need-returns-3
 unfolding judge
 returns-3 c =
-    let on-track = c .before .before in
+    let on-track = c .before .before .before in
     let b = on-track .before in
-    rw (in-range b) (judged _ _ _ (says b) true (c .if4 .taken) (own-track b) (other-track b) (on-track .judge-on-track .ensures))
+    rw (in-range b) (judged _ _ _ (says b) true (c .before .if2 .taken) (own-track b) (other-track b) (on-track .judge-on-track .ensures))
 
 returns-4 : tie.Need-returns-4
 unfolding judge
 returns-4 c =
-    let on-track = c .before .before in
+    let on-track = c .before .before .before in
     let b = on-track .before in
-    rw (in-range b) (judged _ _ _ (says b) false (c .if4 .left) (own-track b) (other-track b) (on-track .judge-on-track .ensures))
+    rw (in-range b) (judged _ _ _ (says b) false (c .before .if2 .left) (own-track b) (other-track b) (on-track .judge-on-track .ensures))
 
 pub judge-spec : {M : Type 1} → statement M
 judge-spec =
@@ -100,6 +90,8 @@ judge-spec =
     (λ c. search needs)
     (λ c κs. search needs)
     returns-2
+    (λ c κs. search needs)
+    (λ c κs. search needs)
     (λ c κs. search needs)
     judge-on-track-requires
     returns-3
