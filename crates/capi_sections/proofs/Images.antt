@@ -19,19 +19,11 @@ use Rattle.rules.specs.Indications.{indications}
 use Rattle.rules.specs.Judge.{judge}
 use Rattle.text.specs.Text.{written}
 use Rattle.layout.specs.Layout.{settingsOf}
-use Rattle.packed.specs.Packed.{packedIndications}
+use Rattle.packed.specs.Packed.{packedIndications, packedVerdict}
 use Rattle.packed.specs.Settings.{lentSettingsWellFormed}
 use Rattle.image.specs.Image.{imageLength, imageOf, imageWellFormed, sectionOf}
 use Rattle.image.proofs.Laws.{well-formed-length, whole-written}
-use Rattle.capi_sections.specs.Engine.{freshAnswer, freshImage, packedVerdict, judgeAnswer, writtenBack, judgeImage, shownOf}
-
-pub said-small : {n : ℕ} (said : Said) → n ≡ saidNumber said → n ≤ 4
-unfolding saidNumber
-said-small Nothing e = omega arith
-said-small Cvt e = omega arith
-said-small Cvtz e = omega arith
-said-small Vns e = omega arith
-said-small Vnsz e = omega arith
+use Rattle.capi_sections.specs.Engine.{freshAnswer, freshImage, judgeAnswer, writtenBack, judgeImage, shownOf}
 
 -- ## The fresh section
 

@@ -1,5 +1,5 @@
 -- What the calls to the engine return, packed into one number, and the lent buffer afterwards.
-use Prim.Native.Nat.{ℕ, _+_, _*_}
+use Prim.Native.Nat.{ℕ}
 use mathlib.Core.Bool.{cond}
 use mathlib.Core.List.{List}
 use lib.ListN.{length}
@@ -7,12 +7,11 @@ use lib.Dec.{ltb}
 use Rattle.section.specs.declared.Verdict.{Verdict}
 use Rattle.section.specs.declared.Verdict.the-variants.{Accepted, Refused}
 use Rattle.section.specs.Fresh.{freshSection}
-use Rattle.section.specs.Words.{refusalOf, saidBy, saidNumber}
 use Rattle.rules.specs.Indications.{indications}
 use Rattle.rules.specs.Judge.{judge}
 use Rattle.text.specs.Text.{written}
 use Rattle.layout.specs.Layout.{settingsOf}
-use Rattle.packed.specs.Packed.{packedIndications}
+use Rattle.packed.specs.Packed.{packedIndications, packedVerdict}
 use Rattle.packed.specs.Settings.{lentSettingsWellFormed}
 use Rattle.image.specs.Image.{imageLength, imageOf, imageWellFormed, sectionOf}
 
@@ -30,10 +29,6 @@ freshImage settings buffer =
     buffer
 
 -- ## A step judged
-
--- the refusal, and 256 × what is said
-unfoldable pub packedVerdict : Verdict → ℕ
-packedVerdict v = refusalOf v + saidNumber (saidBy v) * 256
 
 -- bytes that are no section's image give 6
 unfoldable pub judgeAnswer : List ℕ → List ℕ → ℕ

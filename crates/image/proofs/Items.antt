@@ -1,22 +1,16 @@
 -- Items of one length, one after another. Each stands at its place, whatever stands before and behind the items: the induction over their number
--- is made once, in `each`, for any property of an item in its bytes; reading items back and testing them are instances. The loops that read
--- them go from item i to item i + 1 by `filled-more`.
-use Prim.Native.Nat.{ℕ, zero, suc, _+_, _*_, _<_, _≤_}
+-- is made once, in `each`, for any property of an item in its bytes; reading items back and testing them are instances.
+use Prim.Native.Nat.{ℕ, zero, suc, _+_, _*_, _<_}
 use mathlib.Core.Bool.{Bool, true, false}
 use mathlib.Core.List.{List, _++_, append-assoc}
 use mathlib.Core.Path.{_≡_, refl, _∙_}
 use native.Mathlib.Nat.{not-suc-le-zero, mul-comm}
-use native.Mathlib.Numerals.{add-one}
 use native.Mathlib.Omega.{arith}
-use lib.ListN.{length, take, set, getD, length-append}
-use lib.Seq.{take-suc, take-suc-set}
+use lib.ListN.{length, length-append}
 use lib.Dec.{ltb}
 use borrow.Author.Tests.{ltb-true, ltb-false}
 use Rattle.text.specs.Text.{firstTexts}
 use Rattle.text.proofs.Laws.{first-texts-whole}
-use Rattle.image.specs.Image.{items}
-
--- ## The bytes of items
 
 -- the same bytes, with the last item apart
 last-apart : (front row item rest : List ℕ) → front ++ ((row ++ item) ++ rest) ≡ (front ++ row) ++ (item ++ rest)
@@ -50,23 +44,3 @@ module _
     unfolding firstTexts
     each zero rest i h = absurd (not-suc-le-zero h)
     each (suc m) rest i h = one-more m i rest h (each m (item m ++ rest) i)
-
--- ## Items in a list
-
-module _ {A : Type 0} (item : ℕ → A) where
-  -- an array whose first i elements are items, item i put there
-  pub filled-more :
-      (l : List A) (i : ℕ) (x : A) → i < length l → take i l ≡ items item i → x ≡ item i → take (i + 1) (set l i x) ≡ items item (i + 1)
-  unfolding items
-  filled-more l i x h e ex = rw (add-one i, take-suc-set l i x h, e, ex)
-
-  pub same-items : (other : ℕ → A) (m : ℕ) → ((i : ℕ) → i < m → item i ≡ other i) → items item m ≡ items other m
-  unfolding items
-  same-items other zero h = refl
-  same-items other (suc m) h = rw (same-items other m (λ i k. h i (omega (arith, k))), h m (omega arith))
-
--- the elements of a list are its items
-pub first-items : {A : Type 0} (d : A) (l : List A) (m : ℕ) → m ≤ length l → items (λ (i : ℕ). getD l i d) m ≡ take m l
-unfolding items
-first-items d l zero h = refl
-first-items d l (suc m) h = rw (take-suc l m d h, first-items d l m (omega arith))

@@ -26,7 +26,8 @@ use Rattle.image.specs.Image.{faultsByte, postImage, postsImage, numbers
 use Rattle.image.specs.Image.{numberAt, postAt, postsFrom, numbersFrom, walkOf, trackFrom, sectionOf}
 use Rattle.image.specs.Image.{postWellFormed, postsWellFormed, trackWellFormed, imageWellFormed}
 use Rattle.image.specs.RoundTrip.{Small, TrackHeld, SectionHeld, ReadsBack}
-use Rattle.image.proofs.Items.{each, same-items, first-items}
+use Rattle.section.proofs.Items.{same-items, first-items}
+use Rattle.image.proofs.Items.{each}
 use Rattle.image.proofs.Laws.{post-length, le16-length, posts-length, numbers-length, head-length, track-length, image-head-length, image-length}
 
 -- ## Flags

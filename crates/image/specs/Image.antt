@@ -1,6 +1,6 @@
 -- The image of a section, 466 bytes, little-endian: the layout's number, the settings with their crossings, then track A and track B. The layout
 -- may change with any delivery, and its number with it.
-use Prim.Native.Nat.{ℕ, zero, suc, _+_, _*_, _/_, _%_}
+use Prim.Native.Nat.{ℕ, _+_, _*_, _/_, _%_}
 use mathlib.Core.Bool.{Bool, true, cond, _&&_}
 use mathlib.Core.List.{List, [], _∷_, _++_}
 use lib.ListN.{length, take, drop, getD}
@@ -13,6 +13,7 @@ use Rattle.section.specs.declared.Track.{Track}
 use Rattle.section.specs.declared.Walk.{Walk}
 use Rattle.section.specs.declared.Walk.the-variants.{Settled, Turn}
 use Rattle.section.specs.Bytes.{byte, le16, truthNumber}
+use Rattle.section.specs.Items.{items}
 use Rattle.section.specs.Numbers.{mostPosts, mostBlocks}
 use Rattle.section.specs.Post.{blank}
 use Rattle.text.specs.Text.{firstTexts}
@@ -56,13 +57,6 @@ imageLength = trackA + (trackLength + trackLength)
 
 abbrev pub layoutNumber : ℕ
 layoutNumber = 2
-
--- ## Items one after another
-
--- items 0 .. m − 1
-unfoldable pub items : {A : Type 0} → (ℕ → A) → ℕ → List A
-items item zero = []
-items item (suc m) = items item m ++ (item m ∷ [])
 
 -- ## What is written
 

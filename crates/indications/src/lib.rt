@@ -125,7 +125,7 @@ fn shown_at(c: Settings, e: Site, trains: &Trains) -> Indications
 }
 
 // What a post of a track in its ranges shows.
-fn shown_on(c: Settings, track: bool, post: u8, t: Track) -> Indications
+pub fn shown_on(c: Settings, track: bool, post: u8, t: Track) -> Indications
     requires { ⌜ (settingsInRange c ≡ true) × (trackInRange (c .posts) track t ≡ true) × (post < c .posts) ⌝ }
     ensures { λ r. ⌜ r ≡ shown (lampsAt c (siteOn track post t) (t .trains)) ⌝ }
 {
@@ -143,7 +143,7 @@ fn shown_on(c: Settings, track: bool, post: u8, t: Track) -> Indications
     shown_at(c, e, &trains)
 }
 
-fn all_dark() -> Indications
+pub fn all_dark() -> Indications
     ensures { λ r. ⌜ r ≡ dark ⌝ }
 {
     Indications {

@@ -1,6 +1,8 @@
 -- What the C interface returns, packed into one number.
 use Prim.Native.Nat.{ℕ, _+_, _*_, _%_, _^_}
 use Rattle.section.specs.declared.Indications.{Indications}
+use Rattle.section.specs.declared.Verdict.{Verdict}
+use Rattle.section.specs.Words.{refusalOf, saidBy, saidNumber}
 use Rattle.dayfile.specs.declared.Reading.{Reading}
 use Rattle.dayfile.specs.declared.Reading.the-variants.{Day, Refused}
 use Rattle.dayfile.specs.declared.Written.{Written}
@@ -17,6 +19,10 @@ packedReading (Refused number index) = number * 65536 + index
 unfoldable pub packedWritten : Written → ℕ
 packedWritten (Bytes size) = size % 2 ^ 32 * 256
 packedWritten (NotWritten number index) = number + index % 2 ^ 32 * 256
+
+-- the refusal, and 256 × what is said
+unfoldable pub packedVerdict : Verdict → ℕ
+packedVerdict v = refusalOf v + saidNumber (saidBy v) * 256
 
 -- CIRCULATION, 8 × TRONÇON and 64 × the permission
 unfoldable pub packedIndications : Indications → ℕ

@@ -1,11 +1,15 @@
 // What the C interface takes and returns: settings in a day file's bytes, and answers packed into one number.
 ghost use mathlib.Core.Path.{_≡_};
 ghost use Prim.Native.Nat.{_<_, _≤_, _^_};
-ghost use Rattle.packed.specs.Packed.{packedReading, packedWritten, packedIndications, packedCopied};
+ghost use Rattle.packed.specs.Packed.{packedReading, packedWritten, packedVerdict, packedIndications, packedCopied};
 ghost use Rattle.packed.specs.Settings.{lentSettingsWellFormed};
 use dayfile::Reading;
 use dayfile::Written;
 use section::Indications;
+use section::Verdict;
+use section::words::refusal_of;
+use section::words::said_by;
+use section::words::said_number;
 use text::Copied;
 
 // Whether lent bytes are settings: as many as a day file has for them, eight or, with crossings, sixteen, and such that its reader takes them.
@@ -34,6 +38,13 @@ pub fn packed_written(done: Written) -> u64
         Written::Bytes(size) => ((size % 4294967296) as u64) * 256,
         Written::Refused(number, index) => (number as u64) + ((index % 4294967296) as u64) * 256,
     }
+}
+
+// The refusal, and what is said.
+pub fn packed_verdict(verdict: Verdict) -> u16
+    ensures { λ r. ⌜ r ≡ packedVerdict verdict ⌝ }
+{
+    (refusal_of(verdict) as u16) + (said_number(said_by(verdict)) as u16) * 256
 }
 
 // What a post shows.

@@ -1,12 +1,14 @@
 // The lines of the panel.
+ghost use mathlib.Core.Bool.{true};
 ghost use mathlib.Core.Path.{_≡_};
 ghost use Prim.Native.Nat.{_+_, _*_, _≤_, _<_};
 ghost use lib.ListN.{length};
-ghost use Rattle.section.specs.Numbers.{mostPosts};
+ghost use Rattle.section.specs.Range.{inRange};
 ghost use Rattle.text.specs.Text.{written};
 ghost use Rattle.panel_lines.specs.PanelLine.{trackName, postField, postFields, panelFields, panelLineRoom};
 use section::Indications;
 use section::Section;
+use track_indications::track_indications;
 
 // Writes what a post shows, and returns the next place.
 fn put_post(buffer: &mut [u8], at: usize, l: Indications) -> usize
@@ -31,15 +33,17 @@ fn put_post(buffer: &mut [u8], at: usize, l: Indications) -> usize
 
 // Writes what every post shows on a track, and returns the next place.
 fn put_posts(buffer: &mut [u8], at: usize, s: Section, track: u8) -> usize
-    requires { ⌜ at + 6 * s .settings .posts ≤ length (now buffer) ⌝ }
+    requires { ⌜ (at + 6 * s .settings .posts ≤ length (now buffer)) × (inRange s ≡ true) ⌝ }
     ensures { λ r. ⌜ r ≡ at + length (postFields s track) ⌝ }
     ensures { λ _. ⌜ now (buffer .exit) ≡ written (now (buffer .entry)) at (postFields s track) ⌝ }
 {
     let n = s.settings.posts;
+    let shown = track_indications(s, track);
     let mut next = at;
     let mut p = 0;
     while p < n {
-        next = put_post(buffer, next, indications::indications(s, track, p));
+        let post = p as usize;
+        next = put_post(buffer, next, shown[post]);
         p += 1;
     }
     next
@@ -54,7 +58,7 @@ fn track_name(track: u8) -> u8
 
 // Writes the line of a step, and returns the next place.
 pub fn put_panel(buffer: &mut [u8], at: usize, index: usize, track: u8, s: Section) -> usize
-    requires { ⌜ (at + panelLineRoom ≤ length (now buffer)) × (s .settings .posts ≤ mostPosts) ⌝ }
+    requires { ⌜ (at + panelLineRoom ≤ length (now buffer)) × (inRange s ≡ true) ⌝ }
     ensures { λ r. ⌜ r ≡ at + length (panelFields index track s) ⌝ }
     ensures { λ _. ⌜ now (buffer .exit) ≡ written (now (buffer .entry)) at (panelFields index track s) ⌝ }
 {

@@ -11,6 +11,8 @@ use Rattle.section.specs.declared.Walk.the-variants.{Settled, Turn}
 use Rattle.section.specs.declared.Section.{Section}
 use Rattle.section.specs.declared.Indications.{Indications}
 use Rattle.section.specs.Geometry.{rank}
+use Rattle.section.specs.Items.{items}
+use Rattle.section.specs.Numbers.{mostPosts}
 use Rattle.section.specs.Range.{inRange}
 use Rattle.section.specs.Settings.{isMaterialised}
 use Rattle.section.specs.Store.{trackOf}
@@ -76,3 +78,7 @@ indicationsOn s track p =
 unfoldable pub indications : Section → ℕ → ℕ → Indications
 indications s track post =
     cond (inRange s && (ltb track 2 && ltb post (s .settings .posts))) (indicationsOn s (eqb track 1) post) dark
+
+-- what the posts 0 to 15 of a track show
+unfoldable pub trackIndications : Section → ℕ → List Indications
+trackIndications s track = items (indications s track) mostPosts

@@ -85,11 +85,12 @@ abbrev pub lineAt : Section → List ℕ → ℕ → List ℕ
 lineAt first steps i = panelLine i (stepAt steps i) (answerTo first steps i)
 
 module _ (first : Section) (steps : List ℕ) (r : inRange first ≡ true) where
-  pub few-posts-after : (i : ℕ) → answerTo first steps i .section .settings .posts ≤ mostPosts
+  pub in-range-after : (i : ℕ) → inRange (answerTo first steps i .section) ≡ true
   unfolding answerTo
-  few-posts-after i =
-      few-posts (judge (sectionBefore first steps i) (stepAt steps i) .section)
-      (ranges-kept (sectionBefore first steps i) (stepAt steps i) (in-range-before first steps r i))
+  in-range-after i = ranges-kept (sectionBefore first steps i) (stepAt steps i) (in-range-before first steps r i)
+
+  few-posts-after : (i : ℕ) → answerTo first steps i .section .settings .posts ≤ mostPosts
+  few-posts-after i = few-posts (answerTo first steps i .section) (in-range-after i)
 
   line-fits : (sheet : Sheet) (i : ℕ) → length (lineOn sheet i (stepAt steps i) (answerTo first steps i)) ≤ lineRoom sheet
   unfolding lineOn lineRoom stepLine

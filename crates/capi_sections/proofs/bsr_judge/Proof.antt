@@ -3,7 +3,8 @@ use native.Mathlib.Omega.{arith}
 use denote.Ref.{now}
 use Rattle.section.proofs.Told.{told-false, told-true}
 use Rattle.image.proofs.Laws.{well-formed-length}
-use Rattle.capi_sections.proofs.Images.{said-small, no-image, accepted, refused}
+use Rattle.section.proofs.words.Laws.{said-small}
+use Rattle.capi_sections.proofs.Images.{no-image, accepted, refused}
 use borrow.Author.Needs.{needs}
 use Rattle.capi_sections.proofs.bsr_judge.Statement.{statement}
 use Rattle.capi_sections.proofs.bsr_judge.Tie as tie

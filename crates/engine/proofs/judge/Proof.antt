@@ -1,98 +1,22 @@
--- 6 by the ranges; then the bytes say a step or none, and the step is judged on its own track, beside the other.
-use denote.Ref.{now}
-use mathlib.Core.Bool.{true, false, not}
-use mathlib.Core.Path.{_≡_, _∙_, ap, sym, subst}
-use Rattle.section.specs.declared.Decoded.the-variants.{Well}
-use Rattle.section.specs.declared.Track.{Track}
-use Rattle.section.specs.Range.{inRange}
-use Rattle.section.specs.Step.{decoded, postOf}
-use Rattle.section.specs.Store.{trackOf}
-use Rattle.section.proofs.Told.{told-false, told-true}
-use Rattle.rules.specs.Site.{siteOn}
-use Rattle.rules.specs.Judge.{judge}
-use Rattle.site.specs.InItsRanges.{InItsRanges}
-use Rattle.site.specs.Running.{runningOf}
-use Rattle.judging.proofs.at_post.OnTrack.{malformed, in-ranges}
-use Rattle.judging.proofs.on_track.OnTrack.{judged}
 use borrow.Author.Needs.{needs}
+use Rattle.section.proofs.Told.{told-false, told-true}
+use Rattle.rules.specs.Judge.{judge}
 use Rattle.engine.proofs.judge.Statement.{statement}
 use Rattle.engine.proofs.judge.Tie as tie
-
-abbrev start : tie.After-running-of → tie.Start
-start c = c .before .before .before .before .before .before .before .before .before .before .before
-
-abbrev ranged : tie.After-running-of → tie.Else1
-ranged c = c .before .before .before .before .before .before .before .before
-
-abbrev well : tie.After-running-of → tie.After-d
-well c = c .before .before .before .before
-
--- the ranges hold
-in-range : (c : tie.After-running-of) → inRange (start c .args .s) ≡ true
-in-range c = told-true (ranged c .before .in-range .ensures) (ranged c .if1 .left)
-
--- the step's own track and how the other runs
-own-track : (c : tie.After-running-of) → c .before .before .track-of .result ≡ trackOf (start c .args .s) (well c .d .given .0 .0 .track)
-own-track c = c .before .before .track-of .ensures
-
-other-track :
-    (c : tie.After-running-of) → c .running-of .result ≡ runningOf (trackOf (start c .args .s) (not (well c .d .given .0 .0 .track)))
-other-track c = c .running-of .ensures ∙ ap runningOf (c .before .track-of2 .ensures)
-
--- the step that the bytes say
-says :
-    (c : tie.After-running-of) → decoded (start c .args .s .settings .posts) (now (start c .args .bytes)) ≡ Well (well c .d .given .0 .0)
-says c = sym (well c .before .before .decode .ensures) ∙ well c .d .given .1
 
 returns : tie.Need-returns
 unfolding judge
 returns c = rw (told-false (c .before .before .in-range .ensures) (c .before .if1 .taken)) (c .refused .ensures)
 
+judge-in-range-requires : tie.Need-judge-in-range-requires
+judge-in-range-requires c κs = told-true (c .before .in-range .ensures) (c .if1 .left)
+
 returns-2 : tie.Need-returns-2
 unfolding judge
 returns-2 c =
-    let told = c .before in
-    let left = told .before .before .before .before in
-    rw (told-true (left .before .in-range .ensures) (left .if1 .left))
-    (c .refused2 .ensures ∙ malformed _ _ (sym (told .before .before .decode .ensures) ∙ told .enum-told .given .1))
-
-judge-on-track-requires : tie.Need-judge-on-track-requires
-judge-on-track-requires c κs =
-    let x = well c .d .given .0 .0 in
-    subst
-    (λ (t : Track). InItsRanges (start c .args .s .settings) (siteOn (x .track) (postOf (x .step)) t))
-    (sym (own-track c))
-    (in-ranges (start c .args .s) (now (start c .args .bytes)) x (says c) (in-range c))
-
-returns-3 : tie.Need-returns-3
-unfolding judge
-returns-3 c =
-    let on-track = c .before .before .before in
-    let b = on-track .before in
-    rw (in-range b) (judged _ _ _ (says b) true (c .before .if2 .taken) (own-track b) (other-track b) (on-track .judge-on-track .ensures))
-
-returns-4 : tie.Need-returns-4
-unfolding judge
-returns-4 c =
-    let on-track = c .before .before .before in
-    let b = on-track .before in
-    rw (in-range b) (judged _ _ _ (says b) false (c .before .if2 .left) (own-track b) (other-track b) (on-track .judge-on-track .ensures))
+    let l = c .before in
+    rw (told-true (l .before .in-range .ensures) (l .if1 .left)) (c .judge-in-range .ensures)
 
 pub judge-spec : {M : Type 1} → statement M
 judge-spec =
-    tie.close
-    (tie.spec
-    (λ c κs. search needs)
-    (λ c κs. search needs)
-    returns
-    (λ c κs. search needs)
-    (λ c. search needs)
-    (λ c. search needs)
-    (λ c κs. search needs)
-    returns-2
-    (λ c κs. search needs)
-    (λ c κs. search needs)
-    (λ c κs. search needs)
-    judge-on-track-requires
-    returns-3
-    returns-4)
+    tie.close (tie.spec (λ c κs. search needs) (λ c κs. search needs) returns judge-in-range-requires returns-2)

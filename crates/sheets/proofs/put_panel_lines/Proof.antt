@@ -1,5 +1,5 @@
 -- After i turns the state is the section before step i, and the lines of the steps 0 .. i − 1 stand in the buffer. Every section on the way is in
--- its ranges, so it has at most sixteen posts, and a line has room.
+-- its ranges, as showing it asks, so it has at most sixteen posts, and a line has room.
 use Prim.Native.Nat.{_-_, _≤_}
 use mathlib.Core.Path.{_≡_, refl, _∙_, ap}
 use native.Mathlib.Omega.{arith}
@@ -13,7 +13,7 @@ use Rattle.sheets.specs.Sheet.{lineOn}
 use Rattle.whole_day.specs.Day.{sectionBefore}
 use Rattle.whole_day.proofs.Laws.{step-after, answered}
 use Rattle.text.proofs.Laws.{Putting, none-put, one-more-put}
-use Rattle.sheets.proofs.Laws.{lineAt, few-posts-after, one-more-fits, line-put, step-length, started}
+use Rattle.sheets.proofs.Laws.{lineAt, in-range-after, one-more-fits, line-put, step-length, started}
 use Rattle.sheets.proofs.put_panel_lines.Statement.{statement}
 use Rattle.sheets.proofs.put_panel_lines.Tie as tie
 
@@ -60,7 +60,7 @@ put-panel-requires c κs =
     answered (f .result) (now (a .steps)) (h .i) _ _ (at-judge .judge .result) (h .inv .1 .1 .0)
     (at-step .step-at .ensures) (at-judge .judge .ensures) in
     let fits = one-more-fits (f .result) (now (a .steps)) r (h .i) (a .count) (a .at) _ (in-loop .loop-test .taken) (entry .pre .0) in
-    (omega (arith, fits, h .inv .1 .1 .1 .0, h .inv .1 .0), rw e (few-posts-after (f .result) (now (a .steps)) r (h .i)))
+    (omega (arith, fits, h .inv .1 .1 .1 .0, h .inv .1 .0), rw e (in-range-after (f .result) (now (a .steps)) r (h .i)))
 
 add-i : tie.Need-add-i Inv-loop μ-loop
 add-i c = omega arith

@@ -5,8 +5,9 @@ use native.Mathlib.Omega.{arith}
 use denote.Ref.{now}
 use lib.ListN.{length, take, length-set}
 use lib.Seq.{take-all}
-use Rattle.image.specs.Image.{numberLength, numberAt, items, numbersFrom}
-use Rattle.image.proofs.Items.{filled-more}
+use Rattle.image.specs.Image.{numberLength, numberAt, numbersFrom}
+use Rattle.section.specs.Items.{items}
+use Rattle.section.proofs.Items.{filled-more}
 use Rattle.image.proofs.reader.numbers_from.Statement.{statement}
 use Rattle.image.proofs.reader.numbers_from.Tie as tie
 

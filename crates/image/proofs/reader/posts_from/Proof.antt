@@ -5,8 +5,9 @@ use native.Mathlib.Omega.{arith}
 use denote.Ref.{now}
 use lib.ListN.{length, take, length-set}
 use lib.Seq.{take-all}
-use Rattle.image.specs.Image.{postLength, postAt, items, postsFrom}
-use Rattle.image.proofs.Items.{filled-more}
+use Rattle.image.specs.Image.{postLength, postAt, postsFrom}
+use Rattle.section.specs.Items.{items}
+use Rattle.section.proofs.Items.{filled-more}
 use Rattle.image.proofs.reader.posts_from.Statement.{statement}
 use Rattle.image.proofs.reader.posts_from.Tie as tie
 

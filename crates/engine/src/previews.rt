@@ -1,0 +1,51 @@
+// A step tried first: its answer and every indication after it, and the section as it came.
+ghost use mathlib.Core.Path.{_≡_};
+ghost use lib.ListN.{replicate};
+ghost use Rattle.section.specs.Numbers.{mostPosts};
+ghost use Rattle.section.specs.declared.Verdict.{Verdict};
+ghost use Rattle.rules.specs.Indications.{dark};
+ghost use Rattle.engine.specs.Preview.{preview};
+use crate::judge_in_range;
+use section::Section;
+use section::Verdict;
+use track_indications::PostsShown;
+use track_indications::all_posts_dark;
+use track_indications::track_indications;
+
+// The answer, what the posts of both tracks show after the step, and the section that came.
+pub struct Preview {
+    pub verdict: Verdict,
+    pub a: PostsShown,
+    pub b: PostsShown,
+    pub section: Section,
+}
+
+// A state that gives 6 shows nothing.
+fn out_of_range(state: Section) -> Preview
+    ensures { λ r. ⌜ r ≡ record { verdict = Verdict.Refused 6; a = replicate mostPosts dark; b = replicate mostPosts dark; section = state } ⌝ }
+{
+    Preview {
+        verdict: Verdict::Refused(6),
+        a: all_posts_dark(),
+        b: all_posts_dark(),
+        section: state,
+    }
+}
+
+// Tries a step: what judging it would answer and show. The section comes back as it was.
+pub fn preview(s: Section, bytes: &[u8]) -> Preview
+    ensures { λ r. ⌜ r ≡ preview s (now (bytes .entry)) ⌝ }
+{
+    if !ranges::in_range(s) {
+        return out_of_range(s);
+    }
+    let answer = judge_in_range(s, bytes);
+    let verdict = answer.verdict;
+    let after = answer.section;
+    Preview {
+        verdict: verdict,
+        a: track_indications(after, 0),
+        b: track_indications(after, 1),
+        section: s,
+    }
+}
