@@ -41,7 +41,7 @@ fn track_of(s: Section, track: bool) -> Track
 }
 
 // Judges bytes offered to a section whose ranges hold: 4, then the table. A refusal returns the section as it came.
-pub fn judge_in_range(s: Section, bytes: &[u8]) -> Answer
+fn judge_in_range(s: Section, bytes: &[u8]) -> Answer
     requires { ⌜ inRange s ≡ true ⌝ }
     ensures { λ r. ⌜ r ≡ judgeInRange s (now (bytes .entry)) ⌝ }
 {
