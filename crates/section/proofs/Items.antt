@@ -30,11 +30,11 @@ module _ {A : Type 0} (item : ℕ → A) where
   pub item-at : (d : A) (m i : ℕ) → i < m → getD (items item m) i d ≡ item i
   unfolding items
   item-at d zero i h = absurd (not-suc-le-zero h)
-  item-at d (suc m) i h = go (decLt i m)
+  item-at d (suc m) i h = go (decLt i m) (λ k. item-at d m i k)
     where
-      go : Dec (i < m) → getD (items item m ++ (item m ∷ [])) i d ≡ item i
-      go (yes k) = List·getD-append (items item m) (item m ∷ []) d i (rw (items-length m) k) ∙ item-at d m i k
-      go (no k) =
+      go : Dec (i < m) → (i < m → getD (items item m) i d ≡ item i) → getD (items item m ++ (item m ∷ [])) i d ≡ item i
+      go (yes k) before = List·getD-append (items item m) (item m ∷ []) d i (rw (items-length m) k) ∙ before k
+      go (no k) before =
           let e : i ≡ m = omega (arith, h) in
           rw e (getD-at (items item m) (item m) [] d m (items-length m))
 

@@ -24,6 +24,9 @@ loop-holds c = (omega arith, (refl, refl))
 post-shown-requires : tie.Need-post-shown-requires Inv-loop μ-loop
 post-shown-requires c κs = c .before .before .before .pre
 
+mul-shown : tie.Need-mul-shown Inv-loop μ-loop
+mul-shown c = omega arith
+
 array-set-from-shown : tie.Need-array-set-from-shown Inv-loop μ-loop
 array-set-from-shown c = omega arith
 
@@ -55,7 +58,9 @@ posts-shown-spec =
     μ-loop
     (λ c κs. search needs)
     loop-holds
+    (λ c. search needs)
     post-shown-requires
+    mul-shown
     array-set-from-shown
     add-p
     loop-less
