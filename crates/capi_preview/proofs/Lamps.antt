@@ -17,7 +17,7 @@ use Rattle.text.proofs.Laws.{first-texts-whole}
 use Rattle.packed.specs.Packed.{packedVerdict}
 use Rattle.image.specs.Image.{imageWellFormed, sectionOf}
 use Rattle.engine.specs.Preview.{preview}
-use Rattle.engine.specs.declared.previews.Preview.{Preview}
+use Rattle.engine.specs.declared.previews.Previewed.{Previewed}
 use Rattle.capi_preview.specs.Preview.{lampsLength, trackLampsLength, lampBytes, trackLamps, lamps, previewAnswer, lampsAfter, previewLamps}
 
 abbrev pub lampsAt : List Indications → ℕ → List ℕ
@@ -36,22 +36,22 @@ track-lamps-length shown = lamps-length shown mostPosts
 
 module _ (image step buffer : List ℕ) where
   -- the answer, and the buffer afterwards
-  abbrev Previewed : ℕ → List ℕ → Type 0
-  Previewed r after = (r ≡ previewAnswer image step (length buffer)) × (after ≡ previewLamps image step buffer)
+  abbrev Answered : ℕ → List ℕ → Type 0
+  Answered r after = (r ≡ previewAnswer image step (length buffer)) × (after ≡ previewLamps image step buffer)
 
-  pub too-short : length buffer < lampsLength → Previewed 5 buffer
+  pub too-short : length buffer < lampsLength → Answered 5 buffer
   unfolding previewAnswer previewLamps
   too-short h = (rw (lt-ltb _ _ h), rw (lt-ltb _ _ h))
 
   module _ (room : lampsLength ≤ length buffer) where
     pub no-image :
         {after : List ℕ} {a b : List Indications} → imageWellFormed image ≡ false → a ≡ replicate mostPosts dark → b ≡ replicate mostPosts dark
-        → after ≡ written buffer 0 (lamps a b) → Previewed 6 after
+        → after ≡ written buffer 0 (lamps a b) → Answered 6 after
     unfolding previewAnswer previewLamps lampsAfter
     no-image h ea eb e = (rw (le-ltb _ _ room, h), rw (le-ltb _ _ room, h, ← ea) (e ∙ rw (eb, ea)))
 
     pub tried :
-        {after : List ℕ} {r : ℕ} {s : Section} {p : Preview} → imageWellFormed image ≡ true → s ≡ sectionOf image → p ≡ preview s step
-        → r ≡ packedVerdict (p .verdict) → after ≡ written buffer 0 (lamps (p .a) (p .b)) → Previewed r after
+        {after : List ℕ} {r : ℕ} {s : Section} {p : Previewed} → imageWellFormed image ≡ true → s ≡ sectionOf image → p ≡ preview s step
+        → r ≡ packedVerdict (p .verdict) → after ≡ written buffer 0 (lamps (p .a) (p .b)) → Answered r after
     unfolding previewAnswer previewLamps lampsAfter
     tried h es ep er e = (rw (le-ltb _ _ room, h, ← es, ← ep) er, rw (le-ltb _ _ room, h, ← es, ← ep) e)

@@ -8,10 +8,10 @@ use Rattle.section.specs.declared.Verdict.{Verdict}
 use Rattle.rules.specs.Demand3.{stateAfter}
 use Rattle.rules.specs.Indications.{dark, indications, trackIndications}
 use Rattle.rules.specs.Judge.{judge}
-use Rattle.engine.specs.declared.previews.Preview.{Preview}
+use Rattle.engine.specs.declared.previews.Previewed.{Previewed}
 
 -- "The preview equals taking the step on a copy of the section, refusals included, and the section itself comes back as it was."
-unfoldable pub preview : Section → List ℕ → Preview
+unfoldable pub preview : Section → List ℕ → Previewed
 preview s bytes = record {
   verdict = judge s bytes .verdict;
   a = trackIndications (judge s bytes .section) 0;
@@ -34,8 +34,8 @@ ShowsTheSectionAfter =
 
 -- what a tester asks: a step taken, or a step tried
 pub data Request : Type 0 where
-  pub Taken : List ℕ → Request
-  pub Tried : List ℕ → Request
+  Taken : List ℕ → Request
+  Tried : List ℕ → Request
 
 -- the steps that are taken
 unfoldable pub stepsTaken : List Request → List (List ℕ)

@@ -13,7 +13,7 @@ use track_indications::all_posts_dark;
 use track_indications::track_indications;
 
 // The answer, what the posts of both tracks show after the step, and the section that came.
-pub struct Preview {
+pub struct Previewed {
     pub verdict: Verdict,
     pub a: PostsShown,
     pub b: PostsShown,
@@ -21,10 +21,10 @@ pub struct Preview {
 }
 
 // A state that gives 6 shows nothing.
-fn out_of_range(state: Section) -> Preview
+fn out_of_range(state: Section) -> Previewed
     ensures { λ r. ⌜ r ≡ record { verdict = Verdict.Refused 6; a = replicate mostPosts dark; b = replicate mostPosts dark; section = state } ⌝ }
 {
-    Preview {
+    Previewed {
         verdict: Verdict::Refused(6),
         a: all_posts_dark(),
         b: all_posts_dark(),
@@ -33,7 +33,7 @@ fn out_of_range(state: Section) -> Preview
 }
 
 // Tries a step: what judging it would answer and show. The section comes back as it was.
-pub fn preview(s: Section, bytes: &[u8]) -> Preview
+pub fn preview(s: Section, bytes: &[u8]) -> Previewed
     ensures { λ r. ⌜ r ≡ preview s (now (bytes .entry)) ⌝ }
 {
     if !ranges::in_range(s) {
@@ -42,7 +42,7 @@ pub fn preview(s: Section, bytes: &[u8]) -> Preview
     let answer = judge_in_range(s, bytes);
     let verdict = answer.verdict;
     let after = answer.section;
-    Preview {
+    Previewed {
         verdict: verdict,
         a: track_indications(after, 0),
         b: track_indications(after, 1),

@@ -1,7 +1,7 @@
 use mathlib.Core.Path.{_∙_}
 use borrow.Author.Needs.{needs}
 use Rattle.section.proofs.Told.{told-false, told-true}
-use Rattle.engine.proofs.Previews.{out-of-range-is, after-in-range, in-range-is}
+use Rattle.engine.proofs.PreviewLaws.{out-of-range-is, after-in-range, in-range-is}
 use Rattle.engine.proofs.previews.preview.Statement.{statement}
 use Rattle.engine.proofs.previews.preview.Tie as tie
 
@@ -13,20 +13,20 @@ judge-in-range-requires c κs = told-true (c .before .in-range .ensures) (c .if1
 
 track-indications-requires : tie.Need-track-indications-requires
 track-indications-requires c κs =
-    let j = c .before .before in
+    let j = c .before in
     let l = j .before in
     after-in-range _ _ (told-true (l .before .in-range .ensures) (l .if1 .left)) (j .judge-in-range .ensures)
 
 track-indications-requires-2 : tie.Need-track-indications-requires-2
 track-indications-requires-2 c κs =
-    let j = c .before .before .before in
+    let j = c .before .before in
     let l = j .before in
     after-in-range _ _ (told-true (l .before .in-range .ensures) (l .if1 .left)) (j .judge-in-range .ensures)
 
 returns-2 : tie.Need-returns-2
 returns-2 c =
     let a = c .before in
-    let j = a .before .before .before in
+    let j = a .before .before in
     let l = j .before in
     in-range-is _ _ (told-true (l .before .in-range .ensures) (l .if1 .left)) (j .judge-in-range .ensures)
     (a .track-indications .ensures) (c .track-indications2 .ensures)

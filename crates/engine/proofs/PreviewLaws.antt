@@ -19,13 +19,13 @@ use Rattle.rules.proofs.RangeLaw.{ranges-kept}
 use Rattle.track_indications.proofs.Laws.{dark-out, at-its-place}
 use Rattle.engine.specs.Preview.{preview, AnswersAsJudging, ShowsTheSectionAfter, Request, Taken, Tried, PreviewsLeaveTheDay}
 use Rattle.engine.specs.Preview.{stepsTaken, answersTo, sectionAfterDay, verdictsOf}
-use Rattle.engine.specs.declared.previews.Preview.{Preview}
+use Rattle.engine.specs.declared.previews.Previewed.{Previewed}
 
 -- ## The two ways of a preview
 
 pub out-of-range-is :
     (s : Section) (bytes : List ℕ) → inRange s ≡ false
-    → _≡_ {A = Preview} (record { verdict = Refused 6; a = replicate mostPosts dark; b = replicate mostPosts dark; section = s }) (preview s bytes)
+    → _≡_ {A = Previewed} (record { verdict = Refused 6; a = replicate mostPosts dark; b = replicate mostPosts dark; section = s }) (preview s bytes)
 unfolding preview judge
 out-of-range-is s bytes h = rw (h, ← dark-out s 0 h, ← dark-out s 1 h)
 
@@ -36,7 +36,7 @@ module _ (s : Section) (bytes : List ℕ) {w : Answer} (h : inRange s ≡ true) 
 
   pub in-range-is :
       {a b : List Indications} → a ≡ trackIndications (w .section) 0 → b ≡ trackIndications (w .section) 1
-      → _≡_ {A = Preview} (record { verdict = w .verdict; a = a; b = b; section = s }) (preview s bytes)
+      → _≡_ {A = Previewed} (record { verdict = w .verdict; a = a; b = b; section = s }) (preview s bytes)
   unfolding preview judge
   in-range-is ea eb = rw (h, ea, eb, ew)
 
