@@ -2,9 +2,10 @@
 use Prim.Native.Nat.{ℕ, _*_, _<_, _≤_}
 use mathlib.Core.Bool.{Bool, true, false, cond, _&&_, _||_}
 use mathlib.Core.List.{List}
+use mathlib.Core.Path.{_≡_, ap}
 use native.Mathlib.Omega.{arith}
 use lib.Dec.{eqb, ltb}
-use lib.ListN.{length, length-append}
+use lib.ListN.{length, getD, length-append}
 use Rattle.section.specs.declared.Answer.{Answer}
 use Rattle.section.specs.declared.Indications.{Indications}
 use Rattle.section.specs.declared.Section.{Section}
@@ -12,9 +13,11 @@ use Rattle.section.specs.Bytes.{byte}
 use Rattle.section.specs.Numbers.{mostPosts}
 use Rattle.section.specs.Range.{inRange}
 use Rattle.section.specs.Store.{trackOf}
+use Rattle.section.proofs.Laws.{posts-right, settings-in-range}
 use Rattle.rules.specs.Site.{siteOn}
-use Rattle.rules.specs.Indications.{Lamps, lampsAt, circulation, troncon, shown, dark, indicationsOn, indications}
-use Rattle.text.proofs.Laws.{decimal-length, first-texts-length}
+use Rattle.rules.specs.Indications.{Lamps, lampsAt, circulation, troncon, shown, dark, indicationsOn, indications, trackIndications}
+use Rattle.track_indications.proofs.Laws.{at-its-place}
+use Rattle.text.proofs.Laws.{decimal-length, first-texts-length, same-texts}
 use Rattle.text.specs.Text.{firstTexts}
 use Rattle.panel_lines.specs.PanelLine.{postField, postFields, panelFields, panelLine, panelLineRoom}
 
@@ -48,18 +51,30 @@ one-digit s track p =
     chosen (inRange s && (ltb track 2 && ltb p (s .settings .posts)))
     (lampsAt (s .settings) (siteOn (eqb track 1) p (trackOf s (eqb track 1))) (trackOf s (eqb track 1) .trains))
 
--- ## Six bytes each
+-- at its place in the list of a track's posts too
+pub one-digit-at : (s : Section) (track p : ℕ) → OneDigit (getD (trackIndications s track) p dark)
+one-digit-at s track p = rw (at-its-place s track p) (one-digit s track p)
 
-abbrev pub postFieldAt : Section → ℕ → ℕ → List ℕ
-postFieldAt s track p = postField (indications s track p)
+-- ## The fields, and six bytes each
 
-pub six-each : (s : Section) (track m : ℕ) → length (firstTexts (postFieldAt s track) m) ≤ 6 * m
+abbrev pub fieldAt : List Indications → ℕ → List ℕ
+fieldAt shown p = postField (getD shown p dark)
+
+-- the fields by the list
+pub fields-listed : (s : Section) (track : ℕ) → firstTexts (fieldAt (trackIndications s track)) (s .settings .posts) ≡ postFields s track
+unfolding postFields
+fields-listed s track = same-texts _ _ (s .settings .posts) (λ p h. ap postField (at-its-place s track p))
+
+pub six-each : (shown : List Indications) (m : ℕ) → length (firstTexts (fieldAt shown) m) ≤ 6 * m
 unfolding postField
-six-each s track m = first-texts-length (postFieldAt s track) 6 m (λ p. omega arith)
+six-each shown m = first-texts-length (fieldAt shown) 6 m (λ p. omega arith)
 
 pub post-fields-length : (s : Section) (track : ℕ) → length (postFields s track) ≤ 6 * s .settings .posts
-unfolding postFields
-post-fields-length s track = six-each s track (s .settings .posts)
+post-fields-length s track = rw (← fields-listed s track) (six-each (trackIndications s track) (s .settings .posts))
+
+-- a section in its ranges has at most sixteen posts
+pub few-posts : (s : Section) → inRange s ≡ true → s .settings .posts ≤ mostPosts
+few-posts s h = posts-right (s .settings) (settings-in-range s h) .1
 
 pub panel-line-length :
     (index : ℕ) (bytes : List ℕ) (answer : Answer) → answer .section .settings .posts ≤ mostPosts

@@ -5,16 +5,14 @@ use mathlib.Core.Path.{_≡_, refl, _∙_, ap}
 use mathlib.Core.List.{List}
 use native.Mathlib.Omega.{arith}
 use native.Mathlib.Nat.{mul-suc, mul-le-mul-left}
-use borrow.Author.Tests.{leb-true}
-use lib.Dec.{leb}
 use lib.ListN.{length, drop, length-drop, length-append}
 use lib.Seq.{length-take-le}
 use Rattle.section.specs.declared.Answer.{Answer}
 use Rattle.section.specs.declared.Section.{Section}
 use Rattle.section.specs.declared.Settings.{Settings}
-use Rattle.section.specs.Bytes.{byte, within}
+use Rattle.section.specs.Bytes.{byte}
 use Rattle.section.specs.Fresh.{freshSection}
-use Rattle.section.specs.Numbers.{leastPosts, mostPosts, stepLength}
+use Rattle.section.specs.Numbers.{mostPosts, stepLength}
 use Rattle.section.specs.Range.{inRange}
 use Rattle.section.specs.Settings.{settingsInRange}
 use Rattle.section.proofs.Laws.{and-left, and-right, fresh-in-range}
@@ -38,21 +36,13 @@ use Rattle.whole_day.proofs.Laws.{in-range-before, note-written}
 use Rattle.lines.specs.Noted.{notedLine, noteAt, notedLines}
 use Rattle.lines.proofs.listing.Laws.{line-noted}
 use Rattle.panel_lines.specs.PanelLine.{panelFields, panelLine, panelLineRoom}
-use Rattle.panel_lines.proofs.Laws.{panel-line-length}
+use Rattle.panel_lines.proofs.Laws.{panel-line-length, few-posts}
 use Rattle.sheets.specs.declared.Sheet.{Sheet}
 use Rattle.sheets.specs.declared.Sheet.the-variants.{Listing, Panel}
 use Rattle.sheets.specs.Printed.{lines, printedRead, printed}
 use Rattle.sheets.specs.Sheet.{lineOn, lineRoom, room}
 
 -- ## The ranges along a day
-
--- a section in its ranges has few enough posts
-pub few-posts : (s : Section) → inRange s ≡ true → s .settings .posts ≤ mostPosts
-unfolding inRange settingsInRange within
-few-posts s e =
-    let n = s .settings .posts in
-    let within-limits = and-left (leb leastPosts n && leb n mostPosts) _ (and-left (settingsInRange (s .settings)) _ e) in
-    leb-true n mostPosts (and-right (leb leastPosts n) (leb n mostPosts) within-limits)
 
 -- ## How long a line and a sheet are
 

@@ -6,7 +6,7 @@ use mathlib.Core.List.{[], _∷_}
 use Rattle.panel_lines.specs.PanelLine.{postFields, panelFields}
 use Rattle.text.proofs.Laws.{then}
 use Rattle.lines.proofs.Puts.{number-length, number-then}
-use Rattle.panel_lines.proofs.Laws.{post-fields-length}
+use Rattle.panel_lines.proofs.Laws.{post-fields-length, few-posts}
 use Rattle.panel_lines.proofs.put_panel.Statement.{statement}
 use Rattle.panel_lines.proofs.put_panel.Tie as tie
 
@@ -16,12 +16,13 @@ put-byte-requires c κs = omega (arith, number-length (c .before .before .before
 put-posts-requires : tie.Need-put-posts-requires
 put-posts-requires c κs =
     let entry = c .before .before .before .before .before .before .before .before .before .before .before in
-    omega (arith, number-length (entry .args .index) 32)
+    (omega (arith, number-length (entry .args .index) 32, few-posts _ (entry .pre .1)), entry .pre .1)
 
 put-byte-requires-2 : tie.Need-put-byte-requires-2
 put-byte-requires-2 c κs =
     let entry = c .before .before .before .before .before .before .before .before .before .before .before .before .before .before .before in
-    let a = entry .args in omega (arith, number-length (a .index) 32, post-fields-length (a .s) (a .track))
+    let a = entry .args in
+    omega (arith, number-length (a .index) 32, post-fields-length (a .s) (a .track), few-posts _ (entry .pre .1))
 
 returns : tie.Need-returns
 unfolding panelFields
@@ -35,6 +36,7 @@ returns c =
     let a = entry .args in
     let h = number-length (a .index) 32 in
     let k = post-fields-length (a .s) (a .track) in
+    let few = few-posts (a .s) (entry .pre .1) in
     rw (← at-track-name .track-name .ensures)
     (number-then (now (a .buffer)) _ _ (a .at) _ _ (a .index) 32 _ (omega arith) (at-put-number .put-number .ensures)
     (then _ _ _ _ _ _ (at-track-name .track-name .result ∷ []) _ (omega arith) (at-put-byte .put-byte .ensures)
