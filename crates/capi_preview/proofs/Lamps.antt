@@ -1,8 +1,8 @@
 -- The lamps of a track take 48 bytes. The answers of a preview, each by the branch that led to it.
-use Prim.Native.Nat.{ℕ, _*_, _<_, _≤_}
+use Prim.Native.Nat.{ℕ, _+_, _*_, _<_, _≤_}
 use mathlib.Core.Bool.{true, false}
 use mathlib.Core.List.{List, _++_}
-use mathlib.Core.Path.{_≡_, _∙_}
+use mathlib.Core.Path.{_≡_, refl, _∙_}
 use native.Mathlib.Nat.{mul-comm}
 use native.Mathlib.Omega.{arith}
 use lib.Dec.{ltb}
@@ -13,7 +13,7 @@ use Rattle.section.specs.declared.Section.{Section}
 use Rattle.section.specs.Numbers.{mostPosts}
 use Rattle.rules.specs.Indications.{dark}
 use Rattle.text.specs.Text.{written, firstTexts}
-use Rattle.text.proofs.Laws.{first-texts-whole}
+use Rattle.text.proofs.Laws.{first-texts-whole, then}
 use Rattle.packed.specs.Packed.{packedVerdict}
 use Rattle.image.specs.Image.{imageWellFormed, sectionOf}
 use Rattle.engine.specs.Preview.{preview}
@@ -31,6 +31,15 @@ lamps-length shown m = first-texts-whole (lampsAt shown) 3 m (λ p. omega arith)
 pub track-lamps-length : (shown : List Indications) → length (trackLamps shown) ≡ trackLampsLength
 unfolding trackLamps
 track-lamps-length shown = lamps-length shown mostPosts
+
+-- a track's lamps, then the other's
+pub lamps-put :
+    (l m k : List ℕ) (a b : List Indications) (r : ℕ) → lampsLength ≤ length l
+    → (r ≡ 0 + trackLampsLength) × (m ≡ written l 0 (trackLamps a)) → k ≡ written m r (trackLamps b) → k ≡ written l 0 (lamps a b)
+unfolding lamps
+lamps-put l m k a b r room first second =
+    then l m k 0 r (r + length (trackLamps b)) (trackLamps a) (trackLamps b)
+    (rw (track-lamps-length a) (omega arith)) (rw (track-lamps-length a) first) (refl, second) .1
 
 -- ## The answers
 

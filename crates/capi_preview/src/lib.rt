@@ -7,13 +7,14 @@ ghost use Rattle.text.specs.Text.{written};
 ghost use Rattle.capi_preview.specs.Preview.{lampsLength, trackLampsLength, trackLamps, lamps, previewAnswer, previewLamps};
 use image::reader;
 use packed::packed_verdict;
-use section::Indications;
 use section::MOST_POSTS;
 use track_indications::PostsShown;
 use track_indications::all_posts_dark;
 
-// Of a track: three bytes for each of sixteen posts.
-const TRACK_LAMPS: usize = 3 * MOST_POSTS as usize;
+const POSTS: usize = MOST_POSTS as usize;
+
+// Of a track: three bytes a post.
+const TRACK_LAMPS: usize = 3 * POSTS;
 
 const LAMPS: usize = 2 * TRACK_LAMPS;
 
@@ -30,7 +31,7 @@ fn put_track(buffer: &mut [u8], at: usize, shown: PostsShown) -> usize
 {
     let mut next = at;
     let mut p = 0;
-    while p < MOST_POSTS as usize {
+    while p < POSTS {
         let l = shown[p];
         next = text::put_text(buffer, next, &[l.circulation, l.troncon, l.permission]);
         p += 1;

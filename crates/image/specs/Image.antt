@@ -1,6 +1,6 @@
 -- The image of a section, 466 bytes, little-endian: the layout's number, the settings with their crossings, then track A and track B. The layout
 -- may change with any delivery, and its number with it.
-use Prim.Native.Nat.{ℕ, _+_, _*_, _/_, _%_}
+use Prim.Native.Nat.{ℕ, zero, suc, _+_, _*_, _/_, _%_}
 use mathlib.Core.Bool.{Bool, true, cond, _&&_}
 use mathlib.Core.List.{List, [], _∷_, _++_}
 use lib.ListN.{length, take, drop, getD}

@@ -1,6 +1,6 @@
 -- The lines of a day: how long they are, and what the loop over the steps keeps.
 use Prim.Native.Nat.{ℕ, _+_, _*_, _<_, _≤_}
-use mathlib.Core.Bool.{true, _&&_}
+use mathlib.Core.Bool.{true}
 use mathlib.Core.Path.{_≡_, refl, _∙_, ap}
 use mathlib.Core.List.{List}
 use native.Mathlib.Omega.{arith}
@@ -15,7 +15,7 @@ use Rattle.section.specs.Fresh.{freshSection}
 use Rattle.section.specs.Numbers.{mostPosts, stepLength}
 use Rattle.section.specs.Range.{inRange}
 use Rattle.section.specs.Settings.{settingsInRange}
-use Rattle.section.proofs.Laws.{and-left, and-right, fresh-in-range}
+use Rattle.section.proofs.Laws.{and-left, fresh-in-range}
 use Rattle.rules.specs.Judge.{judge}
 use Rattle.rules.proofs.RangeLaw.{ranges-kept}
 use Rattle.layout.specs.Layout.{mostSteps, settingsOf, settingsIn, stepAt, stepsIn, stepsPart}

@@ -4,6 +4,7 @@ use mathlib.Core.Path.{_≡_, refl}
 use native.Mathlib.Omega.{arith}
 use borrow.Author.Needs.{needs}
 use lib.ListN.{length}
+use Rattle.rules.specs.Indications.{dark}
 use Rattle.text.specs.Text.{firstTexts}
 use Rattle.text.proofs.Laws.{Putting, none-put, one-more-put}
 use Rattle.capi_preview.specs.Preview.{lampBytes, trackLamps}
@@ -21,13 +22,16 @@ abbrev μ-loop : tie.MeasureT-loop
 loop-holds : tie.Need-loop-holds Inv-loop μ-loop
 loop-holds c = (omega arith, (refl, none-put _ _ _))
 
+mul-l : tie.Need-mul-l Inv-loop μ-loop
+mul-l c = omega arith
+
 array-copy-out-l : tie.Need-array-copy-out-l Inv-loop μ-loop
 array-copy-out-l c = omega arith
 
 put-text-requires : tie.Need-put-text-requires Inv-loop μ-loop
 put-text-requires c κs =
     let a = c .before .before .before .before in
-    omega (arith, lamps-length (a .before .before .args .shown) (a .loop .p), a .loop .inv .1 .0, a .loop .inv .1 .1 .0)
+    omega (arith, lamps-length (a .before .before .args .t3) (a .loop .p), a .loop .inv .1 .0, a .loop .inv .1 .1 .0)
 
 add-p : tie.Need-add-p Inv-loop μ-loop
 add-p c = omega arith
@@ -36,11 +40,11 @@ loop-less : tie.Need-loop-less Inv-loop μ-loop
 loop-less c = omega arith
 
 loop-again : tie.Need-loop-again Inv-loop μ-loop
-unfolding lampBytes
+unfolding lampBytes dark
 loop-again c =
     let put = c .before .before in
-    let a = put .before .before .before .before in
-    let n = lamps-length (a .before .before .args .shown) (a .loop .p) in (
+    let a = put .before .before .before .before .before in
+    let n = lamps-length (a .before .before .args .t3) (a .loop .p) in (
       omega arith,
       (
         omega (arith, a .loop .inv .1 .0, put .put-text .kept),
@@ -54,7 +58,7 @@ returns c =
     let a = c .before .loop in
     let e : a .p ≡ 16 = omega arith in
     let put = rw e at (a .inv .1 .1) in
-    (omega (arith, put .0, lamps-length (c .before .before .before .args .shown) 16), put .1)
+    (omega (arith, put .0, lamps-length (c .before .before .before .args .t3) 16), put .1)
 
 pub put-track-spec : {M : Type 1} → statement M
 put-track-spec =
@@ -63,6 +67,7 @@ put-track-spec =
     Inv-loop
     μ-loop
     loop-holds
+    mul-l
     array-copy-out-l
     (λ c. search needs)
     put-text-requires

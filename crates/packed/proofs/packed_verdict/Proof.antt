@@ -9,12 +9,21 @@ mul-result : tie.Need-mul-result
 mul-result c = omega (arith, said-small _ (c .said-number .ensures))
 
 add-result : tie.Need-add-result
-add-result c = omega (arith, said-small _ (c .before .said-number .ensures))
+add-result c = omega (arith, said-small _ (c .said-number .ensures))
 
 returns : tie.Need-returns
 unfolding packedVerdict
-returns c = rw (c .before .before .said-number .ensures, c .before .before .before .said-by .ensures)
+returns c = rw (c .before .before .refusal-of .ensures, c .said-number .ensures, c .before .said-by .ensures)
 
 pub packed-verdict-spec : {M : Type 1} → statement M
 packed-verdict-spec =
-    tie.close (tie.spec (λ c κs. search needs) (λ c κs. search needs) (λ c κs. search needs) mul-result add-result returns)
+    tie.close
+    (tie.spec
+    (λ c κs. search needs)
+    (λ c. search needs)
+    (λ c κs. search needs)
+    (λ c κs. search needs)
+    (λ c. search needs)
+    mul-result
+    add-result
+    returns)
