@@ -1,12 +1,13 @@
 //! Direction blocking between two end stations: a second implementation, written from
-//! document 01, request 1 of document 02 and the readings that AMBIGUITIES.md names as given
-//! beforehand.
+//! document 01, requests 1 and 2 of document 02 and the readings that AMBIGUITIES.md names as
+//! given beforehand.
 
 pub mod dayfile;
 pub mod engine;
 pub mod generate;
 pub mod indications;
 pub mod listing;
+pub mod preview;
 pub mod program;
 pub mod section;
 pub mod settings;
