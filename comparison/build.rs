@@ -3,9 +3,10 @@
 use std::path::Path;
 use std::{env, process};
 
-const LIBRARIES: [&str; 5] = [
+const LIBRARIES: [&str; 6] = [
     "capi_files",
     "capi_sections",
+    "capi_preview",
     "capi_listings",
     "capi_day",
     "capi_singly",

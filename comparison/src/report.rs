@@ -74,10 +74,31 @@ pub fn same<T: PartialEq + Debug>(
     if proved == second {
         return Ok(());
     }
-    Err(Failure(format!(
-        "DIFFERENCE: {what}\n{}\nproved: {proved:?}\nsecond: {second:?}",
-        input()
-    )))
+    let sides = [("proved", &proved as &dyn Debug), ("second", &second)];
+    Err(difference(what, sides, input))
+}
+
+/// A failure unless the proved implementation's preview gave what it gave when the step was taken.
+pub fn same_as_taken<T: PartialEq + Debug>(
+    what: &str,
+    preview: T,
+    taken: T,
+    input: &dyn Fn() -> String,
+) -> Outcome {
+    if preview == taken {
+        return Ok(());
+    }
+    let sides = [("preview", &preview as &dyn Debug), ("taken", &taken)];
+    Err(difference(what, sides, input))
+}
+
+fn difference(what: &str, sides: [(&str, &dyn Debug); 2], input: &dyn Fn() -> String) -> Failure {
+    let answers = sides.map(|(side, answer)| format!("\n{side}: {answer:?}"));
+    Failure(format!(
+        "DIFFERENCE: {what}\n{}{}",
+        input(),
+        answers.concat()
+    ))
 }
 
 /// A failure unless both implementations left the same bytes.

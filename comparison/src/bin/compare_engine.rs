@@ -1,6 +1,7 @@
 //! Compares the engines, on single sections and along days.
 
 use comparison::engine::days::DayComparison;
+use comparison::engine::preview_cases::{CASES, CASES_OF_DAYS};
 use comparison::engine::sections::SectionComparison;
 use comparison::report::{run, Outcome, Run};
 use std::process::ExitCode;
@@ -14,13 +15,22 @@ fn compare_engine(run: &Run) -> Outcome {
     let days: DayComparison = run.compare(3)?;
     sections.tally.print("sections");
     days.tally.print("days");
+    sections.previews.cases.print("sections");
+    days.previews.cases.print("days");
     sections.tally.fits_table("sections", &[4, 6])?;
     // A day from fresh is never answered 6.
     days.tally.fits_table("days", &[4])?;
-    println!("sections: {} steps compared", sections.tally.total());
+    sections.previews.cases.have(&CASES, "sections")?;
+    days.previews.cases.have(&CASES_OF_DAYS, "days")?;
     println!(
-        "days: {} steps compared, {} fresh sections, {} days noted",
+        "sections: {} steps and {} previews compared",
+        sections.tally.total(),
+        sections.previews.cases.total()
+    );
+    println!(
+        "days: {} steps and {} previews compared, {} fresh sections, {} days noted",
         days.tally.total(),
+        days.previews.cases.total(),
         days.fresh_sections,
         days.days_noted
     );

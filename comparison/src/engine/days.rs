@@ -3,6 +3,7 @@
 use super::judging::Both;
 use super::notes::{room_for, second_notes};
 use super::offers::offer;
+use super::previews::Previews;
 use super::tally::Tally;
 use crate::files::bounds::settings_bytes_at_bounds;
 use crate::files::{settings_bytes, settings_lent, settings_of_other_lengths, sound_step};
@@ -23,6 +24,7 @@ const OUT_OF_RANGE: u8 = 6;
 
 pub struct DayComparison {
     rng: Rng,
+    pub previews: Previews,
     pub tally: Tally,
     pub fresh_sections: u64,
     pub days_noted: u64,
@@ -38,6 +40,7 @@ struct Day {
 impl Comparison for DayComparison {
     fn new(rng: Rng) -> DayComparison {
         DayComparison {
+            previews: Previews::beside(&rng),
             rng,
             tally: Tally::default(),
             fresh_sections: 0,
@@ -183,8 +186,10 @@ impl DayComparison {
         })
     }
 
+    /// At times after the preview of another one, which has to leave the image and so the day's answers as they are.
     fn take_any_step(&mut self, day: &mut Day) -> Outcome {
         let section = day.both.section.unwrap_or(Section::fresh(day.settings));
+        self.previews.compare_another(&mut day.both, &section)?;
         let step = match self.rng.chance(1, 3) {
             true => {
                 let track = self.rng.flag();
@@ -196,7 +201,8 @@ impl DayComparison {
     }
 
     fn take(&mut self, day: &mut Day, step: &[u8]) -> Outcome {
-        day.both.judge(&mut self.rng, step, &mut self.tally)?;
+        day.both
+            .judge(&mut self.rng, step, &mut self.previews, &mut self.tally)?;
         if step.len() == STEP_LENGTH {
             day.steps.extend(step);
         }

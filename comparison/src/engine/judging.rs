@@ -1,6 +1,7 @@
-//! One step judged by both engines, and what all posts show after it.
+//! One step tried and then judged by both engines, and what all posts show after it.
 
 use crate::engine::cautions::Fate;
+use crate::engine::previews::{Previews, Tried};
 use crate::engine::tally::Tally;
 use crate::image::{cell_name, image_of, posts_said};
 use crate::lent::{same_buffers, Lent};
@@ -10,6 +11,7 @@ use reference::engine::judge_in_place;
 use reference::generate::Rng;
 use reference::indications::indications;
 use reference::section::Section;
+use reference::settings::MOST_POSTS;
 
 const NO_SECTION: u8 = 6;
 
@@ -22,7 +24,14 @@ pub struct Both {
 
 impl Both {
     /// The refusal, 0 for none.
-    pub fn judge(&mut self, rng: &mut Rng, step: &[u8], tally: &mut Tally) -> Result<u8, Failure> {
+    pub fn judge(
+        &mut self,
+        rng: &mut Rng,
+        step: &[u8],
+        previews: &mut Previews,
+        tally: &mut Tally,
+    ) -> Result<u8, Failure> {
+        let tried = previews.compare(self, step)?;
         let before = self.image.clone();
         let section_before = self.section;
         let input = || format!("image: {}\nstep:  {}", hex(before.content()), hex(step));
@@ -30,9 +39,10 @@ impl Both {
         let (refusal, said) = self.second_answer(step);
         let second = (u16::from(refusal), u16::from(said));
         same("refusal and what is said", proved, second, &input)?;
+        tried.same_answer(proved, &input)?;
         let expected = self.expected_image(&before, refusal);
         self.same_image(&expected, &input)?;
-        self.compare_indications(rng, &input)?;
+        self.compare_indications(rng, &tried, &input)?;
         tally.count(step, refusal, said);
         if let (Some(section), 0) = (section_before, refusal) {
             tally.count_fate(Fate::of(&section, step));
@@ -65,18 +75,31 @@ impl Both {
         same_buffers(&what, &self.image, expected, input)
     }
 
-    /// Every post and one past, on each track and one past, and any other pair.
-    fn compare_indications(&self, rng: &mut Rng, input: &dyn Fn() -> String) -> Outcome {
+    /// Every post and one past, on either track; a post on the track past them, and any other pair.
+    fn compare_indications(
+        &self,
+        rng: &mut Rng,
+        tried: &Tried,
+        input: &dyn Fn() -> String,
+    ) -> Outcome {
         let n = posts_said(self.image.content());
-        for track in 0..=2 {
+        for track in 0..=1 {
             for post in 0..=n {
-                self.same_indications(track, post, input)?;
+                self.same_indications(track, post, tried, input)?;
             }
         }
-        self.same_indications(rng.byte(), rng.byte(), input)
+        let (track, post) = (rng.byte(), rng.byte());
+        self.same_indications(2, post % (MOST_POSTS as u8 + 1), tried, input)?;
+        self.same_indications(track, post, tried, input)
     }
 
-    fn same_indications(&self, track: u8, post: u8, input: &dyn Fn() -> String) -> Outcome {
+    fn same_indications(
+        &self,
+        track: u8,
+        post: u8,
+        tried: &Tried,
+        input: &dyn Fn() -> String,
+    ) -> Outcome {
         let proved = proved::engine::indications(self.image.content(), track, post);
         let (circulation, troncon, permission) = match &self.section {
             Some(section) => indications(section, track, post),
@@ -87,8 +110,8 @@ impl Both {
             u16::from(troncon),
             u16::from(permission),
         );
-        same("indications after the step", proved, second, &|| {
-            format!("{}\ntrack: {track}\npost:  {post}", input())
-        })
+        let input = || format!("{}\ntrack: {track}\npost:  {post}", input());
+        same("indications after the step", proved, second, &input)?;
+        tried.same_indications(track, post, proved, &input)
     }
 }

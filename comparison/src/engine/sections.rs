@@ -2,6 +2,7 @@
 
 use super::judging::Both;
 use super::offers::offer;
+use super::previews::Previews;
 use super::tally::Tally;
 use crate::files::bounds::crossings_at_bounds;
 use crate::image::{fill_unread_bytes, image_of, make_representable, put_layout};
@@ -24,12 +25,14 @@ const CAUTIONS: [u16; 8] = [0, 1, 9_998, 9_999, 10_000, 10_001, 16_384, 65_535];
 
 pub struct SectionComparison {
     rng: Rng,
+    pub previews: Previews,
     pub tally: Tally,
 }
 
 impl Comparison for SectionComparison {
     fn new(rng: Rng) -> SectionComparison {
         SectionComparison {
+            previews: Previews::beside(&rng),
             rng,
             tally: Tally::default(),
         }
@@ -175,7 +178,7 @@ impl SectionComparison {
             image: Lent::holding(image),
             section: section_of(image),
         };
-        both.judge(&mut self.rng, &step, &mut self.tally)?;
+        both.judge(&mut self.rng, &step, &mut self.previews, &mut self.tally)?;
         Ok(())
     }
 }

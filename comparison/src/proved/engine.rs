@@ -9,6 +9,14 @@ extern "C" {
     ) -> u8;
     fn bsr_judge(image: *mut u8, image_length: usize, step: *const u8, step_length: usize) -> u16;
     fn bsr_indications(image: *const u8, image_length: usize, track: u8, post: u8) -> u16;
+    fn bsr_preview(
+        image: *const u8,
+        image_length: usize,
+        step: *const u8,
+        step_length: usize,
+        lamps: *mut u8,
+        lamps_length: usize,
+    ) -> u16;
     fn bsr_day(
         settings: *const u8,
         settings_length: usize,
@@ -42,6 +50,10 @@ pub fn fresh(settings: &[u8], image: &mut [u8]) -> u8 {
 /// The refusal (0 for none) and what is said.
 pub fn judge(image: &mut [u8], step: &[u8]) -> (u16, u16) {
     let answer = unsafe { bsr_judge(image.as_mut_ptr(), image.len(), step.as_ptr(), step.len()) };
+    unpacked(answer)
+}
+
+fn unpacked(answer: u16) -> (u16, u16) {
     (answer & 0xff, answer >> 8)
 }
 
@@ -49,6 +61,23 @@ pub fn judge(image: &mut [u8], step: &[u8]) -> (u16, u16) {
 pub fn indications(image: &[u8], track: u8, post: u8) -> (u16, u16, u16) {
     let answer = unsafe { bsr_indications(image.as_ptr(), image.len(), track, post) };
     (answer & 7, answer >> 3 & 7, answer >> 6)
+}
+
+/// What judging the step would answer, or 5 for a buffer too short; the lamps are written at its
+/// front. The image is lent as one that might be written, for the compiler trusts a borrow that
+/// is only read, and a look at it afterwards would tell nothing.
+pub fn preview(image: &mut [u8], step: &[u8], lamps: &mut [u8]) -> (u16, u16) {
+    let answer = unsafe {
+        bsr_preview(
+            image.as_mut_ptr(),
+            image.len(),
+            step.as_ptr(),
+            step.len(),
+            lamps.as_mut_ptr(),
+            lamps.len(),
+        )
+    };
+    unpacked(answer)
 }
 
 /// How the steps of a day are judged.
