@@ -25,7 +25,8 @@ unfoldable listingOf : List ℕ → List ℕ
 unfolding refusedLine header verdictFields fields stepLine sectionBefore answerTo lines printedRead printed listing firstTexts word letter trackLetter
     decimalDigits decimal
     refusals fresh saidBy readOf readVerdict refusalNumber lengthWrong lengthSuits trailerFits trailerWellFormed hasMark markOf
-    tailIn tailOf settingsWellFormed zerosWellFormed someMalformed firstMalformed leading wellAt wellFormed trailerIn settingsIn stepsIn fromEnd settingsOf stepAt le32At le32
+    tailIn tailOf settingsWellFormed zerosWellFormed someMalformed firstMalformed leading wellAt wellFormed
+    trailerIn settingsIn stepsIn fromEnd settingsOf stepAt le32At le32
 listingOf file = listing file
 
 unfoldable panelOf : List ℕ → List ℕ

@@ -39,8 +39,7 @@ put-post-requires c κs =
     let at-loop = c .before .before .before in
     let listed = at-loop .before in
     let a = listed .before .before .args in
-    let p = at-loop .loop .p in
-    (
+    let p = at-loop .loop .p in (
       omega (arith, six-each (listed .track-indications .result) p),
       rw (listed .track-indications .ensures) (one-digit-at (a .s) (a .track) p),
     )
