@@ -11,7 +11,6 @@ use reference::engine::judge_in_place;
 use reference::generate::Rng;
 use reference::indications::indications;
 use reference::section::Section;
-use reference::settings::MOST_POSTS;
 
 const NO_SECTION: u8 = 6;
 
@@ -75,7 +74,7 @@ impl Both {
         same_buffers(&what, &self.image, expected, input)
     }
 
-    /// Every post and one past, on either track; a post on the track past them, and any other pair.
+    /// Every post and one past, on either track and the one past them, and any other pair.
     fn compare_indications(
         &self,
         rng: &mut Rng,
@@ -83,13 +82,12 @@ impl Both {
         input: &dyn Fn() -> String,
     ) -> Outcome {
         let n = posts_said(self.image.content());
-        for track in 0..=1 {
+        for track in 0..=2 {
             for post in 0..=n {
                 self.same_indications(track, post, tried, input)?;
             }
         }
         let (track, post) = (rng.byte(), rng.byte());
-        self.same_indications(2, post % (MOST_POSTS as u8 + 1), tried, input)?;
         self.same_indications(track, post, tried, input)
     }
 
