@@ -1,4 +1,4 @@
--- What a post shows (document 01). The indications are a function of eight bits of the state.
+-- What a post shows (document 01; document 02, request 3). The indications are a function of eight bits of the state.
 use Prim.Native.Nat.{ℕ, zero, suc}
 use mathlib.Core.Bool.{Bool, false, cond, not, _&&_, _||_}
 use mathlib.Core.List.{List}
@@ -17,7 +17,7 @@ use Rattle.section.specs.Range.{inRange}
 use Rattle.section.specs.Settings.{isMaterialised}
 use Rattle.section.specs.Store.{trackOf}
 use Rattle.rules.specs.declared.Site.{Site}
-use Rattle.rules.specs.Site.{siteOn, rankAt, upAt, atReceivingEnd, watchedOccupied}
+use Rattle.rules.specs.Site.{siteOn, rankAt, upAt, commands, watchedOccupied}
 
 -- how many posts, from the sending end on, have set in this reversal: "the posts before the turn's post have set, and that post too when
 -- its act is announce"
@@ -38,8 +38,8 @@ pub record Lamps : Type 0 where
   pub nextToSet : Bool  -- the post before has set in this reversal and this one hasn't
   pub fault1 : Bool
   pub fault3 : Bool
-  pub occupied : Bool  -- a train in the part that the post watches
-  pub commands : Bool  -- the post is not the receiving end
+  pub occupied : Bool  -- a train in the part that the post commands
+  pub commands : Bool  -- the post commands a part
   pub permission : Bool
 
 -- "0 dark (fault 3), else 3 VNS or 4 CVT flashing, the direction its device does not stand at, .. else 1 VNS or 2 CVT as the device stands"
@@ -47,7 +47,7 @@ unfoldable pub circulation : Lamps → ℕ
 circulation l =
     cond (l .fault3) 0 (cond (l .materialised && l .nextToSet) (cond (l .cvt) 3 4) (cond (l .cvt) 2 1))
 
--- "0 none at the receiving end; else 2 red if fault 1 or the block section ahead holds a train; else 1 white"
+-- "0 none at the receiving end" and at a post that commands no part; "else 2 red if fault 1 or" the part "holds a train; else 1 white"
 unfoldable pub troncon : Lamps → ℕ
 troncon l = cond (l .commands) (cond (l .fault1 || l .occupied) 2 1) 0
 
@@ -63,7 +63,7 @@ lampsAt c e trains = record {
   fault1 = e .own .faults .one;
   fault3 = e .own .faults .three;
   occupied = watchedOccupied c e trains;
-  commands = not (atReceivingEnd c e);
+  commands = commands c e;
   permission = e .own .permission;
 }
 

@@ -1,4 +1,4 @@
--- What a step looks at (document 01, "The section", "Steps, checks in order"; document 02, request 1): the site, where it is taken, and the
+-- What a step looks at (document 01, "The section", "Steps, checks in order"; document 02, requests 1 and 3): the site, where it is taken, and the
 -- occupancy, the trains that it asks for and the other track. An effect takes the site alone.
 use Prim.Native.Nat.{ℕ, zero, suc, _-_}
 use mathlib.Core.Bool.{Bool, true, false, cond, not, _&&_, _||_}
@@ -16,7 +16,7 @@ use Rattle.rules.specs.declared.Site.{Site}
 use Rattle.section.specs.Geometry.{upward, rank, block, isFirst, isLast}
 use Rattle.section.specs.Crossings.{liesIn, lacksZones}
 use Rattle.section.specs.Numbers.{mostCrossings}
-use Rattle.section.specs.Settings.{isSignalled}
+use Rattle.section.specs.Settings.{isMaterialised, isSignalled}
 use Rattle.section.specs.Store.{trackOf, postOn}
 
 -- ## The walk of a reversal
@@ -76,15 +76,15 @@ unfoldable pub reach : (ℕ → Bool) → (ℕ → Bool) → ℕ → ℕ → Boo
 reach ends test zero j = false
 reach ends test (suc f) j = test j || (not (ends (suc j)) && reach ends test f (suc j))
 
--- whether a train is in the stretch that begins at the post of rank j, f block sections before the receiving end: `ends` tells at which
--- ranks a stretch ends, `train` which train follows a rank
+-- whether a train is in the stretch or the part that begins at the post of rank j, f block sections before the receiving end: `ends` tells
+-- at which ranks one ends, `train` which train follows a rank
 abbrev pub stretchHolds : (ℕ → Bool) → (ℕ → ℕ) → ℕ → ℕ → Bool
 stretchHolds ends train f j = reach ends (λ (i : ℕ). isTrain (train i)) f j
 
 -- ## The occupancy
 
 pub record Occupancy : Type 0 where
-  pub watched : Bool  -- a train in the part that the post watches
+  pub watched : Bool  -- a train in the part that the post commands
   pub trainBefore : ℕ  -- the train in the block section before the post, 0 where there is none
   pub lastAhead : ℕ  -- the last train that entered the block section ahead, 0 where there is none
   pub anywhere : Bool  -- a train anywhere on the track
@@ -133,9 +133,19 @@ module _ (c : Settings) where
   unfoldable pub zonesLackAhead : Site → Bool
   zonesLackAhead e = not (atReceivingEnd e) && anyOf (λ (b : ℕ). liesIn (blockAhead e) b && lacksZones b) mostCrossings (c .crossings)
 
-  -- a train in the part that the post watches: the block section ahead ("the last post has none")
+  -- a part ends, and the next begins, at the post of rank j: "On materialised lines, art. 910 gives the control of a part to the posts with
+  -- counter-track signals", in both directions; "Telephone lines keep the earlier rule": every post ends one
+  unfoldable pub partEnds : Bool → Bool → ℕ → Bool
+  partEnds track cvt j = not (isMaterialised c) || isSignalled (c .mask) (rank (c .posts) (upward track cvt) j)
+
+  -- the post commands a part: one begins there ("the last post has none")
+  unfoldable pub commands : Site → Bool
+  commands e = not (atReceivingEnd e) && partEnds (e .track) (e .cvt) (rankAt e)
+
+  -- a train in the part that the post commands: "all block sections up to the next signalled post ahead"; a post without one "checks no track"
   unfoldable pub watchedOccupied : Site → List ℕ → Bool
-  watchedOccupied e trains = not (atReceivingEnd e) && isTrain (getD trains (blockAhead e) 0)
+  watchedOccupied e trains =
+      commands e && stretchHolds (partEnds (e .track) (e .cvt)) (trainAt (e .track) (e .cvt) trains) (c .posts - suc (rankAt e)) (rankAt e)
 
   -- the train in the block section before the post; the sending end has none
   unfoldable pub trainBefore : Site → List ℕ → ℕ

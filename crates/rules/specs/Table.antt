@@ -1,4 +1,4 @@
--- The table of steps (document 01, "Steps, checks in order"; document 02, request 1): for each kind its checks in the paper's order, and its
+-- The table of steps (document 01, "Steps, checks in order"; document 02, requests 1 and 3): for each kind its checks in the paper's order, and its
 -- effect.
 use Prim.Native.Nat.{ℕ}
 use mathlib.Core.Bool.{Bool, true, false, cond, not, _&&_, _||_}
@@ -24,7 +24,7 @@ use Rattle.rules.specs.declared.Movement.{Movement}
 use Rattle.rules.specs.declared.Movement.the-variants.{Stays, Enters, Moves, Leaves}
 use Rattle.rules.specs.declared.Effect.{Effect}
 use Rattle.rules.specs.Site.{isSettled, isTurn, Occupancy, rankAt, atSendingEnd, atReceivingEnd, blockAhead, blockBefore, nextPost, stretchEnds}
-use Rattle.rules.specs.Site.{crossingAhead, zonesLackAhead}
+use Rattle.rules.specs.Site.{crossingAhead, zonesLackAhead, commands}
 
 -- a check: what must hold, and the refusal where it does not
 pub record Check : Type 0 where
@@ -61,7 +61,7 @@ abbrev pub measuresSuffice : Site → Bool
 measuresSuffice e = e .cvt || e .own .measures
 
 module _ (c : Settings) where
-  -- 13 of order: "telephone form: a train anywhere on the track (art. 907); materialised: one in the block section ahead"
+  -- 13 of order: "telephone form: a train anywhere on the track (art. 907)"; materialised: one in the part
   abbrev pub orderOccupied : Occupancy → Bool
   orderOccupied g = cond (isMaterialised c) (g .watched) (g .anywhere)
 
@@ -73,9 +73,9 @@ module _ (c : Settings) where
   abbrev pub releaseInTurn : Site → Bool
   releaseInTurn e = isTurn (e .walk) (e .post) act.Set || (isSettled (e .walk) && atSendingEnd c e)
 
-  -- 18: "fault 1 without a mark (never at the last post)"
+  -- 18: "fault 1 without a mark (never at the last post)"; a post that commands no part "disregards fault 1"
   abbrev pub fault1Confirmed : Site → Bool
-  fault1Confirmed e = atReceivingEnd c e || (not (e .own .faults .one) || e .own .mark)
+  fault1Confirmed e = not (commands c e) || (not (e .own .faults .one) || e .own .mark)
 
   -- 22: "Start or pass into a block section with a crossing, under fault 4 or in CVT without zones, needs an E.S. 379 form for that train"
   abbrev pub cautionNeeded : Site → Bool
@@ -105,8 +105,9 @@ module _ (c : Settings) where
   checks (MeasuresOff p) e g = (e .own .measures else 21) ∷ (not (e .own .device) else 16) ∷ []
   checks (FaultOn p f) e g = (not (hasFault f (e .own)) else 21) ∷ []
   checks (FaultOff p f) e g = (hasFault f (e .own) else 21) ∷ []
+  -- a post that commands no part "is given 12 by release"
   checks (Release p number) e g =
-      (releaseInTurn e else 15) ∷ (not (atReceivingEnd c e) else 12) ∷ (e .own .faults .one else 21) ∷ (not (g .watched) else 13)
+      (releaseInTurn e else 15) ∷ (commands c e else 12) ∷ (e .own .faults .one else 21) ∷ (not (g .watched) else 13)
       ∷ (eqb (g .lastAhead) number else 17) ∷ []
   checks (Key p) e g =
       (isTurn (e .walk) (e .post) act.Set else 15) ∷ (e .own .faults .two else 21) ∷ (not (g .watched) else 13) ∷ (fault1Confirmed e else 18)
