@@ -19,7 +19,7 @@ use Rattle.section.specs.Settings.{isMaterialised}
 use Rattle.section.specs.Store.{trackOf}
 use Rattle.section.proofs.Laws.{turn-right}
 use Rattle.rules.specs.declared.Site.{Site}
-use Rattle.rules.specs.Site.{siteOn, upAt, rankAt, atReceivingEnd, watchedOccupied}
+use Rattle.rules.specs.Site.{siteOn, upAt, rankAt, commands, watchedOccupied}
 use Rattle.rules.specs.Indications.{setCount, isNextToSet, lampsAt, circulation, troncon, shown, dark, indicationsOn, indications}
 
 pub next-first : (count j : ℕ) → j ≡ 0 → false ≡ isNextToSet count j
@@ -84,11 +84,11 @@ pub flashing-is :
 flashing-is n k j rank r u up w a b d e = cc
 
 pub shown-parts :
-    (c : Settings) (e : Site) (trains : List ℕ) (r₁ r₂ r₃ : ℕ) (flashing last occupied : Bool)
+    (c : Settings) (e : Site) (trains : List ℕ) (r₁ r₂ r₃ : ℕ) (flashing commanded occupied : Bool)
     → r₁ ≡ cond (e .own .faults .three) 0 (cond flashing (cond (e .own .device) 3 4) (cond (e .own .device) 2 1))
     → flashing ≡ (isMaterialised c && isNextToSet (setCount (c .posts) (upAt c e) (e .walk)) (rankAt c e))
-    → r₂ ≡ cond (not last) (cond (e .own .faults .one || occupied) 2 1) 0 → last ≡ atReceivingEnd c e → occupied ≡ watchedOccupied c e trains
+    → r₂ ≡ cond commanded (cond (e .own .faults .one || occupied) 2 1) 0 → commanded ≡ commands c e → occupied ≡ watchedOccupied c e trains
     → r₃ ≡ truthNumber (e .own .permission)
     → _≡_ {A = Indications} (record { circulation = r₁; troncon = r₂; permission = r₃ }) (shown (lampsAt c e trains))
 unfolding lampsAt shown circulation troncon
-shown-parts c e trains r₁ r₂ r₃ flashing last occupied e₁ f e₂ l o e₃ = rw (e₁, f, e₂, l, o, e₃)
+shown-parts c e trains r₁ r₂ r₃ flashing commanded occupied e₁ f e₂ l o e₃ = rw (e₁, f, e₂, l, o, e₃)

@@ -8,7 +8,7 @@ ghost use Rattle.section.specs.Settings.{isMaterialised, settingsInRange};
 ghost use Rattle.rules.specs.Site.{siteOn, upAt, rankAt};
 ghost use Rattle.rules.specs.Indications.{setCount, isNextToSet, shown, lampsAt, dark, indications};
 ghost use Rattle.site.specs.InItsRanges.{InItsRanges};
-use occupancy::trains;
+use occupancy::part::watched_occupied;
 use rules::Site;
 use section::Act;
 use section::Indications;
@@ -19,6 +19,7 @@ use section::Trains;
 use section::Walk;
 use section::positions;
 use section::truth_number;
+use site::part::commands;
 use site::place;
 
 // CIRCULATION, in the paper's numbers.
@@ -116,9 +117,9 @@ fn shown_at(c: Settings, e: Site, trains: &Trains) -> Indications
     Indications {
         circulation: circulation(own.faults.three, is_flashing(c, e), own.device),
         troncon: troncon(
-            !place::at_receiving_end(c, e),
+            commands(c, e),
             own.faults.one,
-            trains::watched_occupied(c, e, trains),
+            watched_occupied(c, e, trains),
         ),
         permission: truth_number(own.permission),
     }

@@ -1,2 +1,3 @@
+pub mod Reach
 pub mod Stretch
 pub mod Sought

@@ -1,22 +1,19 @@
 // The trains in the block sections. Cells and numbers are compared at 64 bits.
-ghost use mathlib.Core.Bool.{false, cond};
+ghost use mathlib.Core.Bool.{false};
 ghost use mathlib.Core.Path.{_≡_};
-ghost use Prim.Native.Nat.{_+_, _-_, _<_, _≤_};
+ghost use Prim.Native.Nat.{_+_, _<_, _≤_};
 ghost use lib.ListN.{getD};
 ghost use Rattle.section.specs.Numbers.{mostBlocks, mostPosts};
 ghost use Rattle.section.specs.Geometry.{block};
-ghost use Rattle.section.specs.Settings.{isMaterialised};
-ghost use Rattle.rules.specs.Site.{isTrain, anyOf, atSendingEnd, atReceivingEnd, blockAhead, watchedOccupied, trainBefore};
+ghost use Rattle.rules.specs.Site.{anyOf, atSendingEnd, atReceivingEnd, blockAhead, trainBefore};
 ghost use Rattle.site.specs.OnTheLine.{OnTheLine};
 ghost use Rattle.occupancy.specs.Sought.{isSought};
 use rules::Site;
 use section::Settings;
 use section::Trains;
 use section::positions;
-use site::place::at_receiving_end;
 use site::place::block_ahead;
 use site::place::block_before;
-use site::place::is_materialised;
 
 fn widened(number: u16) -> u64
     ensures { λ r. ⌜ r ≡ number ⌝ }
@@ -84,26 +81,4 @@ pub fn train_ahead(c: Settings, e: Site, cells: &Trains) -> u64
     ensures { λ r. ⌜ r ≡ getD (now (cells .entry)) (blockAhead c e) 0 ⌝ }
 {
     train_in(cells, block_ahead(c, e))
-}
-
-// A train in the part that the post watches.
-pub fn watched_occupied(c: Settings, e: Site, trains: &Trains) -> bool
-    requires { ⌜ OnTheLine c e ⌝ }
-    ensures { λ r. ⌜ r ≡ watchedOccupied c e (now (trains .entry)) ⌝ }
-{
-    if at_receiving_end(c, e) {
-        return false;
-    }
-    train_ahead(c, e, trains) != 0
-}
-
-// 13 of order: by telephone a train anywhere on the track, materialised one in the part that the post watches.
-pub fn order_occupied(c: Settings, e: Site, trains: &Trains) -> bool
-    requires { ⌜ OnTheLine c e ⌝ }
-    ensures { λ r. ⌜ r ≡ cond (isMaterialised c) (watchedOccupied c e (now (trains .entry))) (anyOf isTrain (c .posts - 1) (now (trains .entry))) ⌝ }
-{
-    if is_materialised(c) {
-        return watched_occupied(c, e, trains);
-    }
-    any_of(c.posts - 1, Sought::AnyTrain, trains)
 }

@@ -5,8 +5,8 @@ ghost use mathlib.Core.Path.{_≡_};
 ghost use Rattle.section.specs.declared.Step.the-variants.{Release, Key};
 ghost use Rattle.site.specs.OnTheLine.{OnTheLine};
 ghost use Rattle.site.specs.VerdictAt.{verdictAt};
+use occupancy::part::watched_occupied;
 use occupancy::trains::train_ahead;
-use occupancy::trains::watched_occupied;
 use rules::Site;
 use section::Act;
 use section::MOST_SEALS;
@@ -18,7 +18,7 @@ use site::conditions::fault1_confirmed;
 use site::conditions::is_turn;
 use site::conditions::measures_suffice;
 use site::conditions::release_in_turn;
-use site::place::at_receiving_end;
+use site::part::commands;
 
 pub fn release(c: Settings, e: Site, number: u16, trains: &Trains, last: &Trains) -> Verdict
     requires { ⌜ OnTheLine c e ⌝ }
@@ -27,7 +27,7 @@ pub fn release(c: Settings, e: Site, number: u16, trains: &Trains, last: &Trains
     if !release_in_turn(c, e) {
         return Verdict::Refused(15);
     }
-    if at_receiving_end(c, e) {
+    if !commands(c, e) {
         return Verdict::Refused(12);
     }
     if !e.own.faults.one {

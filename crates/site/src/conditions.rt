@@ -4,6 +4,7 @@ ghost use mathlib.Core.Path.{_≡_};
 ghost use Rattle.rules.specs.Site.{isSettled, sameAct, isTurn, atSendingEnd, atReceivingEnd};
 ghost use Rattle.rules.specs.Table.{orderAllowed, releaseInTurn, measuresSuffice, fault1Confirmed};
 ghost use Rattle.site.specs.OnTheLine.{OnTheLine};
+use crate::part::commands;
 use crate::place::at_receiving_end;
 use crate::place::at_sending_end;
 use rules::Site;
@@ -104,12 +105,12 @@ pub fn measures_suffice(e: Site) -> bool
     e.own.measures
 }
 
-// 18: fault 1 is confirmed by a mark; at the last post it counts for nothing.
+// 18: fault 1 is confirmed by a mark; at a post that commands no part it counts for nothing.
 pub fn fault1_confirmed(c: Settings, e: Site) -> bool
     requires { ⌜ OnTheLine c e ⌝ }
     ensures { λ r. ⌜ r ≡ fault1Confirmed c e ⌝ }
 {
-    if at_receiving_end(c, e) {
+    if !commands(c, e) {
         return true;
     }
     if !e.own.faults.one {

@@ -9,7 +9,7 @@ returns c =
     let f = c .before .before .before .before in
     let a = f .before .before .before .args in
     shown-parts (a .c) (a .e) (now (a .trains)) _ _ _ _ _ _ (f .circulation .ensures) (f .before .is-flashing .ensures) (c .before .troncon .ensures)
-    (c .before .before .before .at-receiving-end .ensures) (c .before .before .watched-occupied .ensures) (c .truth-number .ensures .0)
+    (c .before .before .before .commands .ensures) (c .before .before .watched-occupied .ensures) (c .truth-number .ensures .0)
 
 pub shown-at-spec : {M : Type 1} → statement M
 shown-at-spec =

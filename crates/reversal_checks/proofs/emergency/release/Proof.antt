@@ -3,10 +3,11 @@ use mathlib.Core.Bool.{false, not}
 use mathlib.Core.List.{List}
 use mathlib.Core.Path.{_≡_, refl}
 use Rattle.section.specs.declared.Step.the-variants.{Release}
-use Rattle.section.proofs.Told.{told}
+use Rattle.section.proofs.Told.{told-true}
 use Rattle.rules.specs.Site.{atReceivingEnd, lastEntered, occupancyAt}
 use Rattle.rules.specs.Table.{Check, checks, effect}
 use Rattle.site.specs.VerdictAt.{rowAt}
+use Rattle.site.proofs.part.Laws.{commands-not-receiving}
 use Rattle.site.proofs.Row.{AskedAt, AskedEqual, none, accepted, unless, unless-equal, when}
 use Rattle.reversal_checks.proofs.emergency.release.Statement.{statement}
 use Rattle.reversal_checks.proofs.emergency.release.Tie as tie
@@ -18,11 +19,11 @@ row c = rowAt (c .args .c) false (Release (c .args .e .post) (c .args .number)) 
 abbrev from-in-turn : tie.After-release-in-turn → tie.Start
 from-in-turn c = c .before
 
-abbrev from-block-ahead : tie.After-at-receiving-end → tie.Start
-from-block-ahead c = from-in-turn (c .before .before)
+abbrev from-commanding : tie.After-commands → tie.Start
+from-commanding c = from-in-turn (c .before .before)
 
 abbrev from-faulty : tie.After-struct-known → tie.Start
-from-faulty c = from-block-ahead (c .before .before)
+from-faulty c = from-commanding (c .before .before)
 
 abbrev from-free : tie.After-watched-occupied → tie.Start
 from-free c = from-faulty (c .before .before)
@@ -34,20 +35,23 @@ in-turn : (c : tie.After-release-in-turn) → AskedAt 1 15 (row (from-in-turn c)
 unfolding checks occupancyAt
 in-turn c = unless none (c .release-in-turn .ensures)
 
-block-ahead : (c : tie.After-at-receiving-end) → AskedAt 2 12 (row (from-block-ahead c)) (c .at-receiving-end .result)
+commanding : (c : tie.After-commands) → AskedAt 2 12 (row (from-commanding c)) (not (c .commands .result))
 unfolding checks occupancyAt
-block-ahead c = when (in-turn (c .before .before) .left (c .before .if1 .left)) (c .at-receiving-end .ensures)
+commanding c = unless (in-turn (c .before .before) .left (c .before .if1 .left)) (c .commands .ensures)
 
 faulty : (c : tie.After-struct-known) → AskedAt 3 21 (row (from-faulty c)) (not (from-faulty c .args .e .own .faults .one))
 unfolding checks occupancyAt
-faulty c = unless (block-ahead (c .before .before) .left (c .before .if2 .left)) refl
+faulty c = unless (commanding (c .before .before) .left (c .before .if2 .left)) refl
 
 free : (c : tie.After-watched-occupied) → AskedAt 4 13 (row (from-free c)) (c .watched-occupied .result)
 unfolding checks occupancyAt
 free c = when (faulty (c .before .before) .left (c .before .if3 .left)) (c .watched-occupied .ensures)
 
 not-receiving : (c : tie.Else4) → let a = from-free (c .before) .args in atReceivingEnd (a .c) (a .e) ≡ false
-not-receiving c = let b = c .before .before .before .before in told (b .before .at-receiving-end .ensures) (b .if2 .left)
+not-receiving c =
+    let b = c .before .before .before .before in
+    let a = from-commanding (b .before) .args in
+    commands-not-receiving (a .c) (a .e) (told-true (b .before .commands .ensures) (b .if2 .left))
 
 -- the last train of the block section ahead
 last-ahead : (c : tie.After-train-ahead) →
@@ -70,7 +74,7 @@ release-spec =
     (λ c κs. c .pre)
     (λ c. in-turn (c .before) .taken _ (c .if1 .taken))
     (λ c κs. from-in-turn (c .before) .pre)
-    (λ c. block-ahead (c .before) .taken _ (c .if2 .taken))
+    (λ c. commanding (c .before) .taken _ (c .if2 .taken))
     (λ c. faulty (c .before) .taken _ (c .if3 .taken))
     (λ c κs. from-faulty (c .before) .pre)
     (λ c. free (c .before) .taken _ (c .if4 .taken))

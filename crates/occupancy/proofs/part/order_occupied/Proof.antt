@@ -1,8 +1,8 @@
 -- By the form, one search or the other.
 use borrow.Author.Needs.{needs}
 use Rattle.section.proofs.Told.{told}
-use Rattle.occupancy.proofs.trains.order_occupied.Statement.{statement}
-use Rattle.occupancy.proofs.trains.order_occupied.Tie as tie
+use Rattle.occupancy.proofs.part.order_occupied.Statement.{statement}
+use Rattle.occupancy.proofs.part.order_occupied.Tie as tie
 
 returns : tie.Need-returns
 returns c = rw (told (c .before .before .is-materialised .ensures) (c .before .if1 .taken)) (c .watched-occupied .ensures)

@@ -1,0 +1,10 @@
+-- Where a stretch or a part ends: the code's one test for both. A stretch ends at every post in VNS and at the signalled ones in CVT, a part at
+-- every post by telephone and at the signalled ones on materialised lines.
+use Prim.Native.Nat.{ℕ}
+use mathlib.Core.Bool.{Bool, not, _||_}
+use Rattle.section.specs.declared.Settings.{Settings}
+use Rattle.section.specs.Geometry.{rank}
+use Rattle.section.specs.Settings.{isSignalled}
+
+abbrev pub endsAt : Settings → Bool → Bool → ℕ → Bool
+endsAt c signalledOnly up j = not signalledOnly || isSignalled (c .mask) (rank (c .posts) up j)
