@@ -5,6 +5,7 @@ pub mod days;
 pub mod judging;
 pub mod notes;
 pub mod offers;
+pub mod parts;
 pub mod preview_cases;
 pub mod previews;
 pub mod sections;

@@ -1,6 +1,7 @@
 //! Compares the engines, on single sections and along days.
 
 use comparison::engine::days::DayComparison;
+use comparison::engine::parts::{OF_DAYS, OF_SECTIONS};
 use comparison::engine::preview_cases::{CASES, CASES_OF_DAYS};
 use comparison::engine::sections::SectionComparison;
 use comparison::report::{run, Outcome, Run};
@@ -20,6 +21,8 @@ fn compare_engine(run: &Run) -> Outcome {
     sections.tally.fits_table("sections", &[4, 6])?;
     // A day from fresh is never answered 6.
     days.tally.fits_table("days", &[4])?;
+    sections.tally.fits_parts("sections", &OF_SECTIONS)?;
+    days.tally.fits_parts("days", &OF_DAYS)?;
     sections.previews.cases.have(&CASES, "sections")?;
     days.previews.cases.have(&CASES_OF_DAYS, "days")?;
     println!(

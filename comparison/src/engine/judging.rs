@@ -1,6 +1,7 @@
 //! One step tried and then judged by both engines, and what all posts show after it.
 
 use crate::engine::cautions::Fate;
+use crate::engine::parts::ByPart;
 use crate::engine::previews::{Previews, Tried};
 use crate::engine::tally::Tally;
 use crate::image::{cell_name, image_of, posts_said};
@@ -43,8 +44,11 @@ impl Both {
         self.same_image(&expected, &input)?;
         self.compare_indications(rng, &tried, &input)?;
         tally.count(step, refusal, said);
-        if let (Some(section), 0) = (section_before, refusal) {
-            tally.count_fate(Fate::of(&section, step));
+        if let Some(section) = section_before {
+            tally.count_by_part(ByPart::of(&section, step, refusal));
+            if refusal == 0 {
+                tally.count_fate(Fate::of(&section, step));
+            }
         }
         Ok(refusal)
     }

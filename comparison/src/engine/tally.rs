@@ -1,6 +1,7 @@
 //! How often each kind of step was answered how.
 
 use super::cautions::{Fate, FATES};
+use super::parts::{ByPart, OF_SECTIONS};
 use crate::report::{fail_if_any, Outcome};
 use reference::step::STEP_LENGTH;
 use reference::stored::table::ANSWERS_BY_KIND;
@@ -33,6 +34,7 @@ pub struct Tally {
     answers: [[u64; LAST_REFUSAL as usize + 1]; KINDS.len()],
     said: [u64; 5],
     fates: [u64; FATES.len()],
+    by_part: [u64; OF_SECTIONS.len()],
 }
 
 impl Tally {
@@ -46,6 +48,12 @@ impl Tally {
     pub fn count_fate(&mut self, fate: Option<Fate>) {
         if let Some(fate) = fate {
             self.fates[fate as usize] += 1;
+        }
+    }
+
+    pub fn count_by_part(&mut self, by_part: Option<ByPart>) {
+        if let Some(by_part) = by_part {
+            self.by_part[by_part as usize] += 1;
         }
     }
 
@@ -83,6 +91,27 @@ impl Tally {
             print!("  {} {times}", fate.name());
         }
         println!();
+        print!("by the part:");
+        for (by_part, times) in OF_SECTIONS.iter().zip(self.by_part) {
+            print!("  {} {times}", by_part.name());
+        }
+        println!();
+    }
+
+    /// Each of these came up, and no other.
+    pub fn fits_parts(&self, part: &str, expected: &[ByPart]) -> Outcome {
+        let named = |keep: &dyn Fn(ByPart, u64) -> bool| -> Vec<String> {
+            OF_SECTIONS
+                .iter()
+                .zip(self.by_part)
+                .filter(|&(&by_part, times)| keep(by_part, times))
+                .map(|(by_part, _)| by_part.name().to_string())
+                .collect()
+        };
+        let missing = named(&|by_part, times| expected.contains(&by_part) && times == 0);
+        fail_if_any(&format!("NEVER SEEN, {part}"), &missing)?;
+        let strange = named(&|by_part, times| !expected.contains(&by_part) && times > 0);
+        fail_if_any(&format!("NOT REACHED BY THE RULES, {part}"), &strange)
     }
 
     /// Every answer of the table, each of these refusals from the input, each word and all that can become of a caution form came up, and for each

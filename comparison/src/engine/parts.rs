@@ -1,0 +1,105 @@
+//! Where the part that a post commands decided otherwise than the block section ahead would have (document 02, request 3).
+
+use reference::section::{Section, FAULT_1};
+use reference::settings::MATERIALISED;
+use reference::step::{decode, Step};
+
+const NOT_AT_THIS_POST: u8 = 12;
+const OCCUPIED: u8 = 13;
+
+#[derive(Clone, Copy, PartialEq)]
+pub enum ByPart {
+    OrderSeesFartherOn,
+    SetSeesFartherOn,
+    ReleaseSeesFartherOn,
+    /// At a post without signals; no state reached from a fresh section gives it.
+    SetWithATrainAhead,
+    SetUnderFault1,
+    ReleaseWithoutAPart,
+}
+
+pub const OF_SECTIONS: [ByPart; 6] = [
+    ByPart::OrderSeesFartherOn,
+    ByPart::SetSeesFartherOn,
+    ByPart::ReleaseSeesFartherOn,
+    ByPart::SetWithATrainAhead,
+    ByPart::SetUnderFault1,
+    ByPart::ReleaseWithoutAPart,
+];
+
+pub const OF_DAYS: [ByPart; 5] = [
+    ByPart::OrderSeesFartherOn,
+    ByPart::SetSeesFartherOn,
+    ByPart::ReleaseSeesFartherOn,
+    ByPart::SetUnderFault1,
+    ByPart::ReleaseWithoutAPart,
+];
+
+impl ByPart {
+    /// By the answer to a step on that section.
+    pub fn of(before: &Section, step: &[u8], refusal: u8) -> Option<ByPart> {
+        let (track, taken) = decode(step, before.settings.n)?;
+        let site = Site::of(before, usize::from(track), &taken)?;
+        match (taken, refusal) {
+            (Step::Order { .. }, OCCUPIED) if !site.train_ahead => Some(ByPart::OrderSeesFartherOn),
+            (Step::Set { .. } | Step::Key { .. }, OCCUPIED) if !site.train_ahead => {
+                Some(ByPart::SetSeesFartherOn)
+            }
+            (Step::Release { .. }, OCCUPIED) if !site.train_ahead => {
+                Some(ByPart::ReleaseSeesFartherOn)
+            }
+            (Step::Release { .. }, NOT_AT_THIS_POST) if site.without_signals => {
+                Some(ByPart::ReleaseWithoutAPart)
+            }
+            (Step::Set { .. } | Step::Key { .. }, 0) if site.without_signals => {
+                site.of_accepted_set()
+            }
+            _ => None,
+        }
+    }
+
+    pub fn name(self) -> &'static str {
+        match self {
+            ByPart::OrderSeesFartherOn => "order 13 by a train farther on",
+            ByPart::SetSeesFartherOn => "set or key 13 by a train farther on",
+            ByPart::ReleaseSeesFartherOn => "release 13 by a train farther on",
+            ByPart::SetWithATrainAhead => "set or key without signals, a train ahead",
+            ByPart::SetUnderFault1 => "set or key without signals under fault 1",
+            ByPart::ReleaseWithoutAPart => "release 12 without signals",
+        }
+    }
+}
+
+/// The post of a step, on a materialised line.
+struct Site {
+    train_ahead: bool,
+    /// An intermediate post.
+    without_signals: bool,
+    fault_1_without_mark: bool,
+}
+
+impl Site {
+    fn of(section: &Section, track: usize, step: &Step) -> Option<Site> {
+        let (Step::Order { post } | Step::Set { post } | Step::Key { post } | Step::Release { post, .. }) = *step else {
+            return None;
+        };
+        if section.settings.form != MATERIALISED {
+            return None;
+        }
+        let ahead = section.way(track).ahead(post);
+        let record = section.tracks[track].posts[usize::from(post)];
+        Some(Site {
+            train_ahead: ahead.is_some_and(|ahead| section.tracks[track].trains[ahead] != 0),
+            without_signals: !section.settings.signalled(post),
+            fault_1_without_mark: record.faults & FAULT_1 != 0 && record.mark == 0,
+        })
+    }
+
+    fn of_accepted_set(&self) -> Option<ByPart> {
+        match (self.train_ahead, self.fault_1_without_mark) {
+            (true, _) => Some(ByPart::SetWithATrainAhead),
+            (false, true) => Some(ByPart::SetUnderFault1),
+            (false, false) => None,
+        }
+    }
+}
