@@ -47,14 +47,14 @@ module _ (c : Settings) (right : settingsInRange c ≡ true) (P : Section → Li
       go (refused k e) f = subst After (sym e) (f s ds r h)
       go (accepted x q ok e) f =
           subst After (sym e) (rw (append-assoc ds (acceptedAs c s x bytes ∷ []) (acceptedSteps (sectionAfterStep c s x) offered))
-          at (f (sectionAfterStep c s x) (ds ++ acceptedAs c s x bytes ∷ []) (reached-kept c (posts-right c right .1) s x ok r)
+          at (f (sectionAfterStep c s x) (ds ++ acceptedAs c s x bytes ∷ []) (reached-kept c right s x ok r)
           (step s ds x bytes r (decoded-says (c .posts) bytes (shown x) q) ok h)))
 
   unfoldable pub from-fresh : KeptByAccepted → P (freshSection c) [] → (offered : List (List ℕ))
       → P (stateAfter (freshSection c) offered) (acceptedSteps (freshSection c) offered)
   unfolding along judged
   from-fresh step h offered =
-      along step offered (freshSection c) [] (fresh-reached c (posts-right c right .0) (posts-right c right .1)) h
+      along step offered (freshSection c) [] (fresh-reached c right) h
 
 -- ## All that is kept
 
@@ -73,7 +73,7 @@ module _ (c : Settings) (right : settingsInRange c ≡ true) where
 
   unfoldable kept : KeptByAccepted c right Kept
   kept s ds x bytes r says ok k = record {
-    reached = reached-kept c n16 s x ok r;
+    reached = reached-kept c right s x ok r;
     runs = runs-kept c n2 n16 ds (acceptedAs c s x bytes) x says s ok (r .sound) (k .runs);
     agrees = agrees-kept c n2 s ds (acceptedAs c s x bytes) x says ok (k .agrees);
     progress = progress c n2 s ds r (x .track)
@@ -84,4 +84,4 @@ module _ (c : Settings) (right : settingsInRange c ≡ true) where
   unfolding from-fresh kept progress fresh-progress
   all-kept =
       from-fresh c right Kept kept
-      (record { reached = fresh-reached c n2 n16; runs = fresh-runs c n2 n16; agrees = fresh-agrees c; progress = fresh-progress c })
+      (record { reached = fresh-reached c right; runs = fresh-runs c n2 n16; agrees = fresh-agrees c; progress = fresh-progress c })

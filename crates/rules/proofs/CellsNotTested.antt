@@ -30,8 +30,8 @@ use Rattle.section.proofs.Laws.{rank-lt, block-lt, and-right}
 use Rattle.rules.specs.declared.Site.{Site}
 use Rattle.rules.specs.declared.Movement.{Movement}
 use Rattle.rules.specs.declared.Movement.the-variants.{Stays, Enters, Moves, Leaves}
-use Rattle.rules.specs.Site.{siteOn, settledVns, otherSettledOnVns, isTrain, isNumber, anyOf, reach, stretchHolds, upAt, atSendingEnd}
-use Rattle.rules.specs.Site.{atReceivingEnd, blockAhead, blockBefore, stretchEnds, trainAt}
+use Rattle.rules.specs.Site.{siteOn, settledVns, otherSettledOnVns, isTrain, isNumber, anyOf, reach, stretchHolds, upAt, rankAt, atSendingEnd}
+use Rattle.rules.specs.Site.{atReceivingEnd, blockAhead, blockBefore, stretchEnds, trainAt, partEnds, commands}
 use Rattle.rules.specs.Site.{watchedOccupied, trainBefore, lastEntered, Occupancy, occupancyAt}
 use Rattle.rules.specs.Table.{effect, vacated, cellsAfter, trackAfter}
 use Rattle.rules.specs.Judge.{answerOf, siteOf, occupancyOf, verdictOn, sectionAfter, judgeStep, judgeDecoded, judgeInRange, judge}
@@ -82,14 +82,16 @@ module _ (c : Settings) (e : Site) (below : e .post < c .posts) (l k : List ℕ)
   ahead-alike : atReceivingEnd c e ≡ false → getD l (blockAhead c e) 0 ≡ getD k (blockAhead c e) 0
   ahead-alike q = same _ (ahead-lt (c .posts) (upAt c e) (e .post) below q)
 
+  -- a stretch or a part that begins at the post
+  reach-alike : (ends : ℕ → Bool) → stretchHolds ends (trainAt c (e .track) (e .cvt) l) (c .posts - suc (rankAt c e)) (rankAt c e)
+      ≡ stretchHolds ends (trainAt c (e .track) (e .cvt) k) (c .posts - suc (rankAt c e)) (rankAt c e)
+  reach-alike ends =
+      holds-alike ends (trainAt c (e .track) (e .cvt) l) (trainAt c (e .track) (e .cvt) k) _ _
+      (λ i h. same _ (block-lt (c .posts) (upAt c e) i (omega (arith, rank-lt (c .posts) (upAt c e) (e .post) below))))
+
   watched-alike : watchedOccupied c e l ≡ watchedOccupied c e k
   unfolding watchedOccupied
-  watched-alike = go (atReceivingEnd c e) refl
-    where
-      go : (last : Bool) → atReceivingEnd c e ≡ last
-          → (not last && not (eqb (getD l (blockAhead c e) 0) 0)) ≡ (not last && not (eqb (getD k (blockAhead c e) 0) 0))
-      go true q = refl
-      go false q = rw (ahead-alike q) refl
+  watched-alike = ap (λ (x : Bool). commands c e && x) (reach-alike (partEnds c (e .track) (e .cvt)))
 
   occupied-alike : lampsAt c e l .occupied ≡ lampsAt c e k .occupied
   unfolding lampsAt
@@ -125,9 +127,7 @@ module _ (c : Settings) (v : Bool) (e : Site) (below : e .post < c .posts) (numb
 
   stretch-alike : one .stretchOccupied ≡ other .stretchOccupied
   unfolding occupancyAt
-  stretch-alike =
-      holds-alike (stretchEnds c (e .track) (e .cvt)) (trainAt c (e .track) (e .cvt) trains) (trainAt c (e .track) (e .cvt) trains′) _ _
-      (λ i h. same _ (block-lt (c .posts) (upAt c e) i (omega (arith, rank-lt (c .posts) (upAt c e) (e .post) below))))
+  stretch-alike = reach-alike c e below trains trains′ same (stretchEnds c (e .track) (e .cvt))
 
   occupancy-alike : one ≡ other
   unfolding occupancyAt

@@ -27,7 +27,8 @@ use Rattle.section.specs.Step.{faultWellFormed, numberWellFormed, placeWellForm
 use Rattle.section.specs.Step.{postOf, faultNumber, numberOf, bytesOf, encoded}
 use Rattle.section.specs.Store.{trackOf, withTrack, postOn, withPost}
 use Rattle.section.specs.Words.{refusalOf}
-use Rattle.rules.specs.Site.{reach, anyOf, stretchEnds, crossingAhead, zonesLackAhead, watchedOccupied, trainBefore, lastEntered, occupancyAt}
+use Rattle.rules.specs.Site.{reach, anyOf, stretchEnds, crossingAhead, zonesLackAhead, partEnds, commands, watchedOccupied, trainBefore}
+use Rattle.rules.specs.Site.{lastEntered, occupancyAt}
 use Rattle.rules.specs.Table.{checks, effect, cellsAfter, trackAfter}
 use Rattle.rules.specs.Judge.{verdictOf, answerOf, verdictOn, sectionAfter, judgeStep, judgeDecoded, judgeInRange, judge}
 
@@ -134,7 +135,8 @@ offeredAs steps = map encoded steps
 -- the answers to a day, 0 or the refusal; unfolded, judging computes
 unfoldable pub refusals : Section → List (List ℕ) → List ℕ
 unfolding judge judgeInRange judgeDecoded judgeStep sectionAfter verdictOn answerOf verdictOf refusalOf
-    checks effect cellsAfter trackAfter reach anyOf stretchEnds crossingAhead zonesLackAhead watchedOccupied trainBefore lastEntered occupancyAt
+    checks effect cellsAfter trackAfter reach anyOf stretchEnds crossingAhead zonesLackAhead partEnds commands watchedOccupied
+    trainBefore lastEntered occupancyAt
     inRange trackInRange walkInRange actInRange numbersInRange postsInRange postInRange settingsInRange crossingsInRange noneFrom isSignalled isMaterialised
     upward rank block isFirst isLast
     decoded stepSaid stepOf faultOf wellFormed fieldsWellFormed placeWellFormed numberWellFormed faultWellFormed le16 within postOf numberOf

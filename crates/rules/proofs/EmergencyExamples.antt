@@ -142,7 +142,7 @@ pub key-refused-21 :
 unfolding judged
 key-refused-21 = refl
 
--- "one in the block section ahead"
+-- "one in the block section ahead", the part where every post is signalled
 pub key-refused-13 :
     Holds
     ((judged (materialised 3 7)
@@ -151,8 +151,8 @@ pub key-refused-13 :
     ∷ (judged (materialised 3 7)
     (on B (Start 2 7 ∷ Pass 1 7 ∷ MeasuresOn 2 ∷ MeasuresOn 1 ∷ FaultOn 1 Two ∷ Order 2 ∷ Set 2 ∷ Announce 2 ∷ Acknowledge 1 ∷ Key 1 ∷ []))
     gives refused 13)
-    -- the block section, not the stretch
-    ∷ (judged (materialised 3 5) (on A (reversalToCvt (0 ∷ 1 ∷ 2 ∷ []) ++ Start 2 7 ∷ Pass 1 7 ∷ FaultOn 2 Two ∷ Order 2 ∷ Key 2 ∷ [])) gives accepted)
+    -- not one that is further ahead, back to VNS
+    ∷ (judged (materialised 3 7) (on A (reversalToCvt (0 ∷ 1 ∷ 2 ∷ []) ++ Start 2 7 ∷ Pass 1 7 ∷ FaultOn 2 Two ∷ Order 2 ∷ Key 2 ∷ [])) gives accepted)
     ∷ [])
 unfolding judged
 key-refused-13 = refl

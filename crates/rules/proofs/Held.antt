@@ -14,7 +14,7 @@ use Rattle.section.specs.Geometry.{upward}
 use Rattle.section.specs.Numbers.{mostSeals}
 use Rattle.section.specs.Post.{hasFault}
 use Rattle.rules.specs.declared.Site.{Site}
-use Rattle.rules.specs.Site.{isSettled, isTurn, siteOn, Occupancy, atSendingEnd, atReceivingEnd, blockBefore, crossingAhead, occupancyAt}
+use Rattle.rules.specs.Site.{isSettled, isTurn, siteOn, Occupancy, atSendingEnd, atReceivingEnd, blockBefore, crossingAhead, commands, occupancyAt}
 use Rattle.rules.specs.Table.{orderAllowed, measuresSuffice, orderOccupied, passOccupied, releaseInTurn, fault1Confirmed, cautionHeld, checks}
 use Rattle.rules.proofs.Facts.{nor-l, nor-r, before-is, last-not-first}
 use Rattle.rules.proofs.View.{order, setDevice, announce, acknowledge, key, start, pass, leave, measures, fault, caution, walks, runs, notes}
@@ -89,7 +89,7 @@ module _ (c : Settings) (e : Site) (g : Occupancy) where
 
   pub record ReleaseHeld (z : ℕ) : Type 0 where
     pub in-turn : releaseInTurn c e ≡ true
-    pub not-last : atReceivingEnd c e ≡ false
+    pub in-command : commands c e ≡ true
     pub fault1 : e .own .faults .one ≡ true
     pub free : g .watched ≡ false
     pub last-train : eqb (g .lastAhead) z ≡ true
@@ -183,7 +183,7 @@ module _ {c : Settings} {v b : Bool} {p : ℕ} {t : Track} where
   unfolding checks flat
   release-held h = record {
     in-turn = h .held .0;
-    not-last = not-true _ (h .held .1 .0);
+    in-command = h .held .1 .0;
     fault1 = h .held .1 .1 .0;
     free = not-true _ (h .held .1 .1 .1 .0);
     last-train = h .held .1 .1 .1 .1 .0;
@@ -232,4 +232,4 @@ module _ {c : Settings} {v b : Bool} {p : ℕ} {t : Track} where
   pub release-accepted : {z : ℕ} → Fits (c .posts) p (releases z) → ReleaseHeld c (siteOn b p t) (occupancyOn c v b p (releases z) t) z
       → AcceptedOn c v b p (releases z) t
   unfolding checks flat
-  release-accepted f h = record { fits = f; held = (h .in-turn, (ap not (h .not-last), (h .fault1, (ap not (h .free), (h .last-train, tt))))) }
+  release-accepted f h = record { fits = f; held = (h .in-turn, (h .in-command, (h .fault1, (ap not (h .free), (h .last-train, tt))))) }

@@ -72,7 +72,7 @@ pub flashes-the-other-direction :
     Holds
     ((shownAfter (materialised 2 3) (on A (reversalToCvt (0 ∷ 1 ∷ []) ++ Order 1 ∷ Set 1 ∷ [])) A 0 gives some (lamps 3 0 0))
     ∷ (shownAfter (materialised 2 3) (on A (reversalToCvt (0 ∷ 1 ∷ []) ++ Order 1 ∷ Set 1 ∷ [])) A 1 gives some (lamps 1 1 0))
-    ∷ (shownAfter (materialised 4 9) (on B (MeasuresOn 3 ∷ Order 3 ∷ Set 3 ∷ [])) B 2 gives some (lamps 4 1 0))
+    ∷ (shownAfter (materialised 4 9) (on B (MeasuresOn 3 ∷ Order 3 ∷ Set 3 ∷ [])) B 2 gives some (lamps 4 0 0))
     ∷ (shownAfter (materialised 2 3) (on B (reversalToCvt (1 ∷ 0 ∷ []) ++ Order 0 ∷ Set 0 ∷ [])) B 1 gives some (lamps 3 0 0))
     ∷ [])
 unfolding shownAfter

@@ -1,7 +1,7 @@
 -- What holds of a track in every state reached: what a reversal has cleared holds no train, only the sending end of a settled track has
 -- permission, and the ranges hold. Each accepted step keeps this, kind by kind.
 use Prim.Native.Nat.{ℕ, suc, _-_, _≤_, _<_}
-use mathlib.Core.Bool.{Bool, true, false, cond, not, _&&_, _||_, false≢true, true≢false}
+use mathlib.Core.Bool.{Bool, true, false, cond, not, _||_, false≢true}
 use mathlib.Core.Path.{_≡_, refl, sym, _∙_, subst}
 use mathlib.Core.Logic.{_≢_, _⊎_, inl, inr}
 use mathlib.Core.List.{List}
@@ -9,10 +9,9 @@ use native.Mathlib.Omega.{arith}
 use native.Mathlib.Decide.{ℕ-discrete, decLt}
 use lib.ListN.{getD, set, length, length-set}
 use lib.Seq.{getD-set-other, getD-set-same}
-use lib.Dec.{eqb}
-use borrow.Author.Tests.{eqb-true, not-false}
 use Rattle.section.specs.declared.Settings.{Settings}
 use Rattle.section.specs.declared.Post.{Post}
+use Rattle.section.specs.declared.Act.{Act}
 use Rattle.section.specs.declared.Act.the-variants as act
 use Rattle.section.specs.declared.Walk.{Walk}
 use Rattle.section.specs.declared.Walk.the-variants.{Settled, Turn}
@@ -20,25 +19,29 @@ use Rattle.section.specs.declared.Track.{Track}
 use Rattle.section.specs.Geometry.{upward, block, isLast}
 use Rattle.section.specs.Numbers.{mostPosts, mostBlocks}
 use Rattle.section.specs.Post.{blank}
-use Rattle.section.proofs.Laws.{rank-lt, rank-inj, block-inj, block-lt, block-block}
+use Rattle.section.specs.Settings.{settingsInRange}
+use Rattle.section.proofs.Laws.{rank-lt, rank-inj, block-inj, block-lt, block-block, posts-right}
 use Rattle.rules.specs.declared.Site.{Site}
 use Rattle.rules.specs.Site.{siteOn, isTurn, atReceivingEnd, blockAhead, blockBefore, nextPost, trainAt, watchedOccupied}
-use Rattle.rules.specs.Site.{occupancyAt}
+use Rattle.rules.specs.Site.{occupancyAt, partEnds}
 use Rattle.rules.specs.Table.{checks, effect, cellsAfter, trackAfter}
 use Rattle.rules.proofs.Facts.{first-rank, not-first-rank, last-rank, not-last-rank, next-rank, far-end, set-zero}
 use Rattle.rules.proofs.View.{order, setDevice, announce, acknowledge, key, start, pass, leave, View, walks, runs, notes, releases, flat}
 use Rattle.rules.proofs.Frame.{is-turn, is-settled, movesNoTrain, keepsRunning, running-kept, no-movement, cells-length}
 use Rattle.rules.proofs.Accept.{AcceptedOn, trackAfterStep}
 use Rattle.rules.proofs.Held.{order-held, set-held, key-held, announce-held, acknowledge-held, start-held, pass-held, pass-before}
-use Rattle.rules.proofs.Cleared.{none-below, cleared, cleared-settled, cleared-order, cleared-set, cleared-announced, cleared-acknowledged, cleared-all}
+use Rattle.rules.proofs.Stretches.{free-there}
+use Rattle.rules.proofs.Parts.{begins-commands, part-free}
+use Rattle.rules.proofs.Cleared.{Cleared, cleared-back, cleared-settled, cleared-order, cleared-turn, cleared-all, OwnPart, cleared-set}
+use Rattle.rules.proofs.Cleared.{cleared-announced, cleared-acknowledged}
 use Rattle.rules.proofs.Ranges.{rankOn, TurnFits, InRange, announce-next, in-range-kept}
 
 module _ (c : Settings) (b : Bool) where
   -- ## What is kept
 
   -- the block sections that the reversal has cleared hold no train
-  abbrev pub ClearedBelow : Bool → Walk → List ℕ → Type 0
-  ClearedBelow cvt w l = (j : ℕ) → j < cleared c b cvt w → suc j < c .posts → trainAt c b cvt l j ≡ 0
+  abbrev pub ClearedFree : Bool → Walk → List ℕ → Type 0
+  ClearedFree cvt w l = (j : ℕ) → Cleared c b cvt w j → suc j < c .posts → trainAt c b cvt l j ≡ 0
 
   -- a post of that rank may have permission: the sending end, while no reversal is under way
   abbrev pub MayHold : Walk → ℕ → Type 0
@@ -54,7 +57,7 @@ module _ (c : Settings) (b : Bool) where
     pub last : length (t .last) ≡ mostBlocks
 
   pub record Sound (t : Track) : Type 0 where
-    pub clear : ClearedBelow (t .cvt) (t .walk) (t .trains)
+    pub clear : ClearedFree (t .cvt) (t .walk) (t .trains)
     pub permits : Permits (t .cvt) (t .walk) (t .posts)
     pub sizes : Sizes t
     pub ranges : InRange c b t
@@ -68,79 +71,79 @@ module _ (c : Settings) (b : Bool) where
 
     -- ## What is cleared
 
-    -- the block section ahead, of a post that is not the last
-    pub ahead-free : isLast (c .posts) (upward b (t .cvt)) p ≡ false → watchedOccupied c e (t .trains) ≡ false → trainAt c b (t .cvt) (t .trains) r ≡ 0
-    unfolding watchedOccupied
-    ahead-free n h = eqb-true (trainAt c b (t .cvt) (t .trains) r) 0 (go (isLast (c .posts) (upward b (t .cvt)) p) n h)
+    clear-set : settingsInRange c ≡ true → (last : Bool) → isLast (c .posts) (upward b (t .cvt)) p ≡ last → isTurn (t .walk) p act.Set ≡ true
+        → watchedOccupied c e (t .trains) ≡ false → ClearedFree (t .cvt) (t .walk) (t .trains)
+        → ClearedFree (cond last (not (t .cvt)) (t .cvt)) (cond last Settled (Turn p act.Announce)) (t .trains)
+    clear-set right true q hw ha clear j h k = absurd (cleared-settled c b right (not (t .cvt)) j h)
+    clear-set right false q hw ha clear j h k = go (cleared-set c b (t .cvt) p j h)
       where
-        empty : Bool
-        empty = eqb (trainAt c b (t .cvt) (t .trains) r) 0
+        before : ClearedFree (t .cvt) (Turn p act.Set) (t .trains)
+        before = subst (λ (w : Walk). ClearedFree (t .cvt) w (t .trains)) (is-turn (t .walk) p act.Set hw) clear
 
-        go : (last : Bool) → last ≡ false → (not last && not empty) ≡ false → empty ≡ true
-        go true x y = absurd (true≢false x)
-        go false x y = not-false empty y
+        go : Cleared c b (t .cvt) (Turn p act.Set) j ⊎ OwnPart c b (t .cvt) p j → trainAt c b (t .cvt) (t .trains) j ≡ 0
+        go (inl l) = before j l k
+        go (inr own) =
+            free-there (c .posts) (partEnds c b (t .cvt)) (trainAt c b (t .cvt) (t .trains)) r j
+            (part-free c e (t .trains) (begins-commands c e q (own .begins)) ha) (own .not-before) k (own .same-part)
 
-    clear-set : (last : Bool) → isLast (c .posts) (upward b (t .cvt)) p ≡ last → isTurn (t .walk) p act.Set ≡ true → watchedOccupied c e (t .trains) ≡ false
-        → ClearedBelow (t .cvt) (t .walk) (t .trains) → ClearedBelow (cond last (not (t .cvt)) (t .cvt)) (cond last Settled (Turn p act.Announce)) (t .trains)
-    clear-set true q hw ha clear j h k = absurd (none-below j _ (cleared-settled c b (not (t .cvt))) h)
-    clear-set false q hw ha clear j h k = go (cleared-set c b (t .cvt) p j h)
+    -- the train before a post stands where nothing is cleared
+    not-cleared : (z : ℕ) → p < c .posts → r ≢ 0 → 0 < z → trainAt c b (t .cvt) (t .trains) (r - 1) ≡ z
+        → ClearedFree (t .cvt) (t .walk) (t .trains) → Cleared c b (t .cvt) (t .walk) (r - 1) → ⊥
+    not-cleared z p<n r0 z0 hb clear h =
+        let r<n : r < c .posts = rank-lt (c .posts) (upward b (t .cvt)) p p<n in
+        let e0 : trainAt c b (t .cvt) (t .trains) (r - 1) ≡ 0 = clear (r - 1) h (omega arith) in
+        omega arith
+
+    -- so that post is past the turn's
+    pub past-turn : (turn : ℕ) (a : Act) → t .walk ≡ Turn turn a → (z : ℕ) → p < c .posts → r ≢ 0 → 0 < z
+        → trainAt c b (t .cvt) (t .trains) (r - 1) ≡ z → ClearedFree (t .cvt) (t .walk) (t .trains) → rankOn c b (t .cvt) turn < r
+    past-turn turn a ew z p<n r0 z0 hb clear = go (decLt (rankOn c b (t .cvt) turn) r)
       where
-        before : ClearedBelow (t .cvt) (Turn p act.Set) (t .trains)
-        before = subst (λ (w : Walk). ClearedBelow (t .cvt) w (t .trains)) (is-turn (t .walk) p act.Set hw) clear
-
-        go : (j ≡ r) ⊎ (j < cleared c b (t .cvt) (Turn p act.Set)) → trainAt c b (t .cvt) (t .trains) j ≡ 0
-        go (inl x) = rw x (ahead-free q ha)
-        go (inr l) = before j l k
-
-    -- a train before a post stands at or past what is cleared
-    pub past-cleared : (z : ℕ) → p < c .posts → r ≢ 0 → 0 < z → trainAt c b (t .cvt) (t .trains) (r - 1) ≡ z
-        → ClearedBelow (t .cvt) (t .walk) (t .trains) → cleared c b (t .cvt) (t .walk) < r
-    past-cleared z p<n r0 z0 hb clear = go (decLt (cleared c b (t .cvt) (t .walk)) r)
-      where
-        go : Dec (cleared c b (t .cvt) (t .walk) < r) → cleared c b (t .cvt) (t .walk) < r
+        go : Dec (rankOn c b (t .cvt) turn < r) → rankOn c b (t .cvt) turn < r
         go (yes h) = h
         go (no h) =
-            let r<n : r < c .posts = rank-lt (c .posts) (upward b (t .cvt)) p p<n in
-            let e0 : trainAt c b (t .cvt) (t .trains) (r - 1) ≡ 0 = clear (r - 1) (omega arith) (omega arith) in
-            absurd (omega arith)
+            absurd (not-cleared z p<n r0 z0 hb clear
+            (subst (λ (w : Walk). Cleared c b (t .cvt) w (r - 1)) (sym ew) (cleared-turn c b (t .cvt) turn a (r - 1) (omega arith))))
 
     clear-pass : (z : ℕ) → p < c .posts → r ≢ 0 → suc r < c .posts → 0 < z → trainAt c b (t .cvt) (t .trains) (r - 1) ≡ z
-        → ClearedBelow (t .cvt) (t .walk) (t .trains) → ClearedBelow (t .cvt) (t .walk) (set (set (t .trains) (blockBefore c e) 0) (blockAhead c e) z)
+        → ClearedFree (t .cvt) (t .walk) (t .trains) → ClearedFree (t .cvt) (t .walk) (set (set (t .trains) (blockBefore c e) 0) (blockAhead c e) z)
     clear-pass z p<n r0 rn z0 hb clear j h k =
-        let lim : cleared c b (t .cvt) (t .walk) < r = past-cleared z p<n r0 z0 hb clear in
         getD-set-other (set (t .trains) (blockBefore c e) 0) (blockAhead c e) (block (c .posts) (upward b (t .cvt)) j) z 0
-        (λ q. absurd (omega (arith, block-inj (c .posts) (upward b (t .cvt)) j r k rn q)))
+        (λ q. not-cleared z p<n r0 z0 hb clear
+        (cleared-back c b (t .cvt) (t .walk) (r - 1) j (omega (arith, block-inj (c .posts) (upward b (t .cvt)) j r k rn q)) h))
         ∙ set-zero (t .trains) (blockBefore c e) (block (c .posts) (upward b (t .cvt)) j) (clear j h k)
 
     -- a step that moves no train and leaves walk and direction alone
-    clear-unmoved : (k : View) → movesNoTrain k ≡ true → keepsRunning k ≡ true → ClearedBelow (t .cvt) (t .walk) (t .trains)
-        → ClearedBelow (trackAfterStep c b p k t .cvt) (trackAfterStep c b p k t .walk) (trackAfterStep c b p k t .trains)
+    clear-unmoved : (k : View) → movesNoTrain k ≡ true → keepsRunning k ≡ true → ClearedFree (t .cvt) (t .walk) (t .trains)
+        → ClearedFree (trackAfterStep c b p k t .cvt) (trackAfterStep c b p k t .walk) (trackAfterStep c b p k t .trains)
     unfolding trackAfter cellsAfter
     clear-unmoved k i j clear = rw (no-movement c p k e i, running-kept c p k e j .walk, running-kept c p k e j .cvt) clear
 
-    clear-kept : (k : View) → AcceptedOn c v b p k t → ClearedBelow (t .cvt) (t .walk) (t .trains) → TurnFits c b (t .cvt) (t .walk)
-        → ClearedBelow (trackAfterStep c b p k t .cvt) (trackAfterStep c b p k t .walk) (trackAfterStep c b p k t .trains)
+    clear-kept : settingsInRange c ≡ true → (k : View) → AcceptedOn c v b p k t → ClearedFree (t .cvt) (t .walk) (t .trains)
+        → TurnFits c b (t .cvt) (t .walk)
+        → ClearedFree (trackAfterStep c b p k t .cvt) (trackAfterStep c b p k t .walk) (trackAfterStep c b p k t .trains)
     unfolding checks occupancyAt trackAfter effect cellsAfter flat
-    clear-kept (walks order) h clear f =
-        λ j l m. absurd (none-below j _ (cleared-order c b (t .cvt) p (first-rank (c .posts) (upward b (t .cvt)) p (order-held h .first))) l)
-    clear-kept (walks setDevice) h clear f = clear-set (atReceivingEnd c e) refl (set-held h .in-turn) (set-held h .free) clear
-    clear-kept (walks announce) h clear f = λ j l m.
-        subst (λ (w : Walk). ClearedBelow (t .cvt) w (t .trains)) (is-turn (t .walk) p act.Announce (announce-held h .in-turn)) clear j
-        (subst (λ (m : ℕ). j < m) (cleared-announced c b (t .cvt) p (nextPost c e)
-        (next-rank (c .posts) (upward b (t .cvt)) p (h .fits .below) (announce-next c b v t p (announce-held h .in-turn) f))) l) m
-    clear-kept (walks acknowledge) h clear f = λ j l m.
-        subst (λ (w : Walk). ClearedBelow (t .cvt) w (t .trains)) (is-turn (t .walk) p act.Acknowledge (acknowledge-held h .in-turn)) clear j
-        (subst (λ (m : ℕ). j < m) (cleared-acknowledged c b (t .cvt) p) l) m
-    clear-kept (walks key) h clear f = clear-set (atReceivingEnd c e) refl (key-held h .in-turn) (key-held h .free) clear
-    clear-kept (runs start z) h clear f =
-        λ j l m. absurd (none-below j _ (cleared-settled c b (t .cvt))
-        (subst (λ (w : Walk). j < cleared c b (t .cvt) w) (is-settled (t .walk) (start-held h .settled)) l))
-    clear-kept (runs pass z) h clear f =
+    clear-kept right (walks order) h clear f =
+        λ j l m. absurd (cleared-order c b right (t .cvt) p j (first-rank (c .posts) (upward b (t .cvt)) p (order-held h .first)) l)
+    clear-kept right (walks setDevice) h clear f = clear-set right (atReceivingEnd c e) refl (set-held h .in-turn) (set-held h .free) clear
+    clear-kept right (walks announce) h clear f = λ j l m.
+        subst (λ (w : Walk). ClearedFree (t .cvt) w (t .trains)) (is-turn (t .walk) p act.Announce (announce-held h .in-turn)) clear j
+        (cleared-announced c b (t .cvt) p (nextPost c e) j
+        (next-rank (c .posts) (upward b (t .cvt)) p (h .fits .below) (announce-next c b v t p (announce-held h .in-turn) f)) l) m
+    clear-kept right (walks acknowledge) h clear f = λ j l m.
+        subst (λ (w : Walk). ClearedFree (t .cvt) w (t .trains)) (is-turn (t .walk) p act.Acknowledge (acknowledge-held h .in-turn)) clear j
+        (cleared-acknowledged c b (t .cvt) p j l) m
+    clear-kept right (walks key) h clear f = clear-set right (atReceivingEnd c e) refl (key-held h .in-turn) (key-held h .free) clear
+    clear-kept right (runs start z) h clear f =
+        λ j l m. absurd (cleared-settled c b right (t .cvt) j
+        (subst (λ (w : Walk). Cleared c b (t .cvt) w j) (is-settled (t .walk) (start-held h .settled)) l))
+    clear-kept right (runs pass z) h clear f =
         clear-pass z (h .fits .below) (not-first-rank (c .posts) (upward b (t .cvt)) p (pass-held h .not-first))
         (not-last-rank (c .posts) (upward b (t .cvt)) p (h .fits .below) (pass-held h .not-last)) (h .fits .number .0) (pass-before h) clear
-    clear-kept (runs leave z) h clear f = λ j l m. set-zero (t .trains) (blockBefore c e) (block (c .posts) (upward b (t .cvt)) j) (clear j l m)
-    clear-kept (notes k) h clear f = clear-unmoved (notes k) refl refl clear
-    clear-kept (releases z) h clear f = clear
+    clear-kept right (runs leave z) h clear f =
+        λ j l m. set-zero (t .trains) (blockBefore c e) (block (c .posts) (upward b (t .cvt)) j) (clear j l m)
+    clear-kept right (notes k) h clear f = clear-unmoved (notes k) refl refl clear
+    clear-kept right (releases z) h clear f = clear
 
     -- ## Permission
 
@@ -222,10 +225,10 @@ module _ (c : Settings) (b : Bool) where
       last = cells-length c false (effect c (flat p k) e .train) e (t .last) ∙ z .last;
     }
 
-    pub sound-kept : c .posts ≤ mostPosts → (k : View) → AcceptedOn c v b p k t → Sound t → Sound (trackAfterStep c b p k t)
-    sound-kept n16 k h s = record {
-      clear = clear-kept k h (s .clear) (s .ranges .turn);
-      permits = permits-kept n16 (s .sizes) k h (s .permits);
+    pub sound-kept : settingsInRange c ≡ true → (k : View) → AcceptedOn c v b p k t → Sound t → Sound (trackAfterStep c b p k t)
+    sound-kept right k h s = record {
+      clear = clear-kept right k h (s .clear) (s .ranges .turn);
+      permits = permits-kept (posts-right c right .1) (s .sizes) k h (s .permits);
       sizes = sizes-kept k (s .sizes);
       ranges = in-range-kept c b v t p k h (s .ranges);
     }
@@ -236,7 +239,7 @@ abbrev pub NoTrain : Settings → Track → Type 0
 NoTrain c t = (i : ℕ) → suc i < c .posts → getD (t .trains) i 0 ≡ 0
 
 pub all-free : (c : Settings) (b : Bool) (t : Track) (p : ℕ) → isLast (c .posts) (upward b (t .cvt)) p ≡ true
-    → ClearedBelow c b (t .cvt) (Turn p act.Set) (t .trains) → NoTrain c t
+    → ClearedFree c b (t .cvt) (Turn p act.Set) (t .trains) → NoTrain c t
 all-free c b t p hr clear i h =
     let e : suc (rankOn c b (t .cvt) p) ≡ c .posts = last-rank (c .posts) (upward b (t .cvt)) p hr in
     let l : suc (block (c .posts) (upward b (t .cvt)) i) < c .posts = block-lt (c .posts) (upward b (t .cvt)) i h in
@@ -244,6 +247,6 @@ all-free c b t p hr clear i h =
 
 -- a turn at the last post, with its act set
 pub last-free : (c : Settings) (b : Bool) (t : Track) (p : ℕ) → isLast (c .posts) (upward b (t .cvt)) p ≡ true → isTurn (t .walk) p act.Set ≡ true
-    → ClearedBelow c b (t .cvt) (t .walk) (t .trains) → NoTrain c t
+    → ClearedFree c b (t .cvt) (t .walk) (t .trains) → NoTrain c t
 last-free c b t p hr hw clear =
-    all-free c b t p hr (subst (λ (w : Walk). ClearedBelow c b (t .cvt) w (t .trains)) (is-turn (t .walk) p act.Set hw) clear)
+    all-free c b t p hr (subst (λ (w : Walk). ClearedFree c b (t .cvt) w (t .trains)) (is-turn (t .walk) p act.Set hw) clear)

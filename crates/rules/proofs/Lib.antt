@@ -7,13 +7,14 @@ pub mod Frame
 pub mod CellsNotTested
 pub mod Ranges
 pub mod RangeLaw
+pub mod Stretches
+pub mod Parts
 pub mod Cleared
 pub mod Invariant
 pub mod Swap
 pub mod Exchange
 pub mod CellsKept
 pub mod Reached
-pub mod Stretches
 pub mod Runs
 pub mod TrainSteps
 pub mod Trains

@@ -89,7 +89,7 @@ module _ (c : Settings) where
       (sym (accepted-judge c s (r .settings) (reached-in-range c right s r) (i .as-accepted .bytes) (stepOf b i) (i .says .decodes) ok)) (
         ap Accepted said,
         record { empty = λ d u. cl d (settled-not d u) },
-        performed-performs right (behind ++ i .as-accepted ∷ []) (reached-kept c (posts-right c right .1) s (stepOf b i) ok r) after rest,
+        performed-performs right (behind ++ i .as-accepted ∷ []) (reached-kept c right s (stepOf b i) ok r) after rest,
       )
     where
       after : Agrees c (sectionAfterStep c s (stepOf b i)) (behind ++ i .as-accepted ∷ [])

@@ -31,7 +31,7 @@ use Rattle.rules.proofs.Frame.{is-turn, is-settled}
 use Rattle.rules.proofs.Accept.{AcceptedOn, trackAfterStep, AcceptedIn, sectionAfterStep, Judged, refused, accepted, judged}
 use Rattle.rules.proofs.Held.{order-held, set-held, key-held, announce-held, acknowledge-held}
 use Rattle.rules.proofs.RangeLaw.{section-out}
-use Rattle.rules.proofs.Cleared.{none-below, cleared-settled}
+use Rattle.rules.proofs.Cleared.{cleared-settled}
 use Rattle.rules.proofs.Invariant.{Sound, sound-kept}
 use Rattle.rules.proofs.Exchange.{here-after, there-after, settings-after, vns-kept}
 
@@ -66,11 +66,11 @@ module _ (c : Settings) where
   other-other s true = refl
   other-other s false = refl
 
-  pub reached-kept : c .posts ≤ mostPosts → (s : Section) (x : Seen) → AcceptedIn c s x → Reached s → Reached (sectionAfterStep c s x)
+  pub reached-kept : settingsInRange c ≡ true → (s : Section) (x : Seen) → AcceptedIn c s x → Reached s → Reached (sectionAfterStep c s x)
   unfolding AcceptedIn
-  reached-kept n16 s x h r = record {
+  reached-kept right s x h r = record {
     settings = settings-after c s x ∙ r .settings;
-    sound = by-track (λ d. Sound c d (trackOf after d)) b (rw here (sound-kept c b v (trackOf s b) p n16 k h (r .sound b))) (rw there (r .sound (not b)));
+    sound = by-track (λ d. Sound c d (trackOf after d)) b (rw here (sound-kept c b v (trackOf s b) p right k h (r .sound b))) (rw there (r .sound (not b)));
     single = by-track (λ d. (settledOnVns (trackOf after d) || otherSettledOnVns after d) ≡ true) b (rw (here, there) one)
         (rw (other-other after b, here, there) (or-comm v (settledOnVns (trackAfterStep c b p k (trackOf s b))) ∙ one));
   }
@@ -108,17 +108,23 @@ module _ (c : Settings) where
       go (yes q) = q
       go (no ne) = absurd (false≢true (rw (getD-set-other (replicate mostPosts blank) e p o blank ne, getD-replicate mostPosts p blank blank h) at t))
 
-  module _ (n2 : leastPosts ≤ c .posts) (n16 : c .posts ≤ mostPosts) where
+  module _ (right : settingsInRange c ≡ true) where
+    n2 : leastPosts ≤ c .posts
+    n2 = posts-right c right .0
+
+    n16 : c .posts ≤ mostPosts
+    n16 = posts-right c right .1
+
     fresh-permits : (b : Bool) (p : ℕ) → p < c .posts → getD (freshTrack (c .posts) b .posts) p blank .permission ≡ true
         → rank (c .posts) (upward b false) p ≡ 0
     unfolding freshTrack rank upward
-    fresh-permits false p p<n h = fresh-only 0 p (permitted true blank) (omega arith) h
-    fresh-permits true p p<n h = omega (arith, fresh-only (c .posts - 1) p (permitted true blank) (omega arith) h)
+    fresh-permits false p p<n h = fresh-only 0 p (permitted true blank) (omega (arith, n16)) h
+    fresh-permits true p p<n h = omega (arith, fresh-only (c .posts - 1) p (permitted true blank) (omega (arith, n16)) h)
 
     fresh-sound : (b : Bool) → Sound c b (freshTrack (c .posts) b)
     unfolding freshTrack postInRange
     fresh-sound b = record {
-      clear = λ j h k. absurd (none-below j _ (cleared-settled c b false) h);
+      clear = λ j h k. absurd (cleared-settled c b right false j h);
       permits = λ p p<n h. fresh-permits b p p<n h;
       sizes = record { posts = length-set (replicate mostPosts blank) (cond b (c .posts - 1) 0) (permitted true blank); trains = refl; last = refl };
       ranges = record {
@@ -159,4 +165,4 @@ module _ (c : Settings) where
     where
       go : Judged c s (r .settings) (reached-in-range w s r) bytes → Reached (judge s bytes .section)
       go (refused k e) = rw e r
-      go (accepted x d h e) = rw e (reached-kept (posts-right c w .1) s x h r)
+      go (accepted x d h e) = rw e (reached-kept w s x h r)

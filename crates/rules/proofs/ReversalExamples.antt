@@ -83,15 +83,15 @@ pub order-refused-13-by-telephone :
 unfolding judged
 order-refused-13-by-telephone = refl
 
--- "materialised: one in the block section ahead"
+-- "materialised: one in the block section ahead"; request 3: in the part, here the block section where every post is signalled
 pub order-refused-13-materialised :
     Holds
     ((judged (materialised 3 7) (on A (Start 0 7 ∷ Order 0 ∷ [])) gives refused 13)
     ∷ (judged (materialised 3 7) (on A (Start 0 7 ∷ Pass 1 7 ∷ Order 0 ∷ [])) gives accepted)
     ∷ (judged (materialised 4 15) (on B (Start 3 7 ∷ Pass 2 7 ∷ Pass 1 7 ∷ Order 3 ∷ [])) gives accepted)
     ∷ (judged (materialised 3 7) (on A (reversalToCvt (0 ∷ 1 ∷ 2 ∷ []) ++ Start 2 7 ∷ Order 2 ∷ [])) gives refused 13)
-    -- the block section, not the stretch
-    ∷ (judged (materialised 3 5) (on A (reversalToCvt (0 ∷ 1 ∷ 2 ∷ []) ++ Start 2 7 ∷ Pass 1 7 ∷ Order 2 ∷ [])) gives accepted)
+    -- and over post 1, which is not signalled
+    ∷ (judged (materialised 3 5) (on A (reversalToCvt (0 ∷ 1 ∷ 2 ∷ []) ++ Start 2 7 ∷ Pass 1 7 ∷ Order 2 ∷ [])) gives refused 13)
     ∷ [])
 unfolding judged
 order-refused-13-materialised = refl
@@ -133,7 +133,7 @@ pub set-refused-15 :
 unfolding judged
 set-refused-15 = refl
 
--- "one in the block section ahead"
+-- "one in the block section ahead", the part where every post is signalled
 pub set-refused-13 :
     Holds
     ((judged (materialised 3 7)
@@ -149,8 +149,8 @@ pub set-refused-13 :
     ∷ (judged (materialised 4 15)
     (on A (Start 0 7 ∷ Pass 1 7 ∷ Pass 2 7 ∷ MeasuresOn 0 ∷ MeasuresOn 1 ∷ Order 0 ∷ Set 0 ∷ Announce 0 ∷ Acknowledge 1 ∷ Set 1 ∷ []))
     gives accepted)
-    -- the block section, not the stretch
-    ∷ (judged (materialised 3 5) (on A (reversalToCvt (0 ∷ 1 ∷ 2 ∷ []) ++ Start 2 7 ∷ Pass 1 7 ∷ Order 2 ∷ Set 2 ∷ [])) gives accepted)
+    -- back to VNS
+    ∷ (judged (materialised 3 7) (on A (reversalToCvt (0 ∷ 1 ∷ 2 ∷ []) ++ Start 2 7 ∷ Pass 1 7 ∷ Order 2 ∷ Set 2 ∷ [])) gives accepted)
     ∷ [])
 unfolding judged
 set-refused-13 = refl

@@ -31,8 +31,7 @@ use Rattle.rules.proofs.Frame.{is-turn, is-settled, movesNoTrain, keeps
 use Rattle.rules.proofs.Accept.{AcceptedOn, trackAfterStep, AcceptedIn, saidIn, sectionAfterStep}
 use Rattle.rules.proofs.Held.{order-held, set-held, key-held, announce-held, acknowledge-held, start-held, release-held}
 use Rattle.rules.proofs.Ranges.{rankOn, announce-next}
-use Rattle.rules.proofs.Cleared.{cleared, cleared-turn}
-use Rattle.rules.proofs.Invariant.{Sound, past-cleared, NoTrain, last-free}
+use Rattle.rules.proofs.Invariant.{Sound, past-turn, NoTrain, last-free}
 use Rattle.rules.proofs.Swap.{onward-facts}
 use Rattle.rules.proofs.Exchange.{here-after, there-after, walk-kept, cvt-kept, walks-kept, cvts-kept, says-nothing, Exchanged, exchange-note}
 use Rattle.rules.proofs.Exchange.{exchange-onward, exchange-other}
@@ -85,14 +84,7 @@ module _ (c : Settings) where
     does-onward : (q : ℕ) (m : Motion) (z : ℕ) → onward m ≡ true → AcceptedOn c v b q (runs m z) t → Does v b t p q (runs m z)
     does-onward q m z o h =
         let f = onward-facts c v b n2 m z q t o h in
-        let l : rankOn c b (t .cvt) p ≤ cleared c b (t .cvt) (t .walk) =
-        subst (λ (w : Walk). rankOn c b (t .cvt) p ≤ cleared c b (t .cvt) w) (sym e) (cleared-turn c b (t .cvt) p a) in
-        let g : cleared c b (t .cvt) (t .walk) < rankOn c b (t .cvt) q =
-        past-cleared c b v t q z (f .below) (f .not-first) (f .number) (f .before) (so .clear) in
-        movesOn m z refl o (before (rankOn c b (t .cvt) p) (cleared c b (t .cvt) (t .walk)) (rankOn c b (t .cvt) q) l g)
-      where
-        before : (x y z : ℕ) → x ≤ y → y < z → x < z
-        before x y z h k = omega arith
+        movesOn m z refl o (past-turn c b v t q p a e z (f .below) (f .not-first) (f .number) (f .before) (so .clear))
 
     pub release-turn : (q : ℕ) → (isTurn (t .walk) q act.Set || (isSettled (t .walk) && atSendingEnd c (siteOn b q t))) ≡ true → q ≡ p
     release-turn q h =

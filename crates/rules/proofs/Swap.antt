@@ -1,27 +1,25 @@
 -- Two steps on one track at different posts change places, where the first moves no train and leaves the direction, and the second notes a
 -- condition, passes or leaves. The second sees only the direction, the trains and its own post's record, which the first leaves. The first finds
--- the same or fewer trains where it looks, so its checks still hold.
+-- the same or fewer trains where it looks, so its checks still hold: a train that rolls on within the part that it watches was there before.
 use Prim.Native.Nat.{ℕ, suc, _-_, _≤_, _<_}
-use mathlib.Core.Bool.{Bool, true, false, cond, not, _&&_, false≢true}
+use mathlib.Core.Bool.{Bool, true, false, cond, false≢true}
 use mathlib.Core.Path.{_≡_, refl, sym, ap, ap₂, _∙_}
 use mathlib.Core.Logic.{_≢_}
 use mathlib.Core.List.{List}
 use native.Mathlib.Omega.{arith}
 use lib.ListN.{getD, set}
 use lib.Seq.{getD-set-other, set-comm}
-use lib.Dec.{eqb}
-use borrow.Author.Tests.{eqb-true, not-false, eq-eqb}
 use Rattle.section.specs.declared.Settings.{Settings}
 use Rattle.section.specs.declared.Post.{Post}
 use Rattle.section.specs.declared.Track.{Track}
-use Rattle.section.specs.Geometry.{upward, isLast}
+use Rattle.section.specs.Geometry.{upward, block, isLast}
 use Rattle.section.specs.Post.{blank}
 use Rattle.section.specs.Settings.{isMaterialised}
 use Rattle.section.specs.Store.{postOn, withPost}
 use Rattle.section.proofs.Laws.{rank-lt, rank-inj, block-inj, block-lt}
 use Rattle.rules.specs.declared.Site.{Site}
 use Rattle.rules.specs.Site.{siteOn, Occupancy, isTrain, anyOf, occupancyAt, watchedOccupied, atReceivingEnd, blockAhead, blockBefore}
-use Rattle.rules.specs.Site.{trainAt, crossingAhead, zonesLackAhead, trainBefore}
+use Rattle.rules.specs.Site.{trainAt, crossingAhead, zonesLackAhead, partEnds, trainBefore}
 use Rattle.rules.specs.Table.{checks, effect, cellsAfter, trackAfter}
 use Rattle.rules.proofs.Facts.{not-first-rank, not-last-rank, entered-is, set-zero, any-zero}
 use Rattle.rules.proofs.View.{order, setDevice, announce, acknowledge, key, Motion, start, pass, leave, Condition, measures, fault, caution, View}
@@ -31,6 +29,8 @@ use Rattle.rules.proofs.Accept.{AllHold, occupancyOn, AcceptedOn, track
 use Rattle.rules.proofs.Held.{order-held, order-accepted, set-held, set-accepted, key-held, key-accepted, announce-held, announce-accepted}
 use Rattle.rules.proofs.Held.{acknowledge-held, acknowledge-accepted, release-held, release-accepted}
 use Rattle.rules.proofs.Held.{pass-held, pass-before, leave-not-first, leave-before}
+use Rattle.rules.proofs.Stretches.{free-stays}
+use Rattle.rules.proofs.Parts.{commands-not-last, part-free, free-part}
 use Rattle.rules.proofs.Ranges.{rankOn}
 
 -- a track with other trains
@@ -206,10 +206,10 @@ module _ (c : Settings) (v b : Bool) where
       let k = release-held h in
       release-accepted (h .fits) (record {
         in-turn = k .in-turn;
-        not-last = k .not-last;
+        in-command = k .in-command;
         fault1 = k .fault1;
         free = f .watched (k .free);
-        last-train = rw (f .last-ahead (k .not-last)) at (k .last-train);
+        last-train = rw (f .last-ahead (commands-not-last c (siteOn b p t) (k .in-command))) at (k .last-train);
       })
 
   -- a pass or a leave is not at the sending end, and its train stands before the post
@@ -283,28 +283,37 @@ module _ (c : Settings) (v b : Bool) where
 
   module _ (n2 : 2 ≤ c .posts) (q : ℕ) (l : View) (p : ℕ) (m : Motion) (z : ℕ) (t : Track)
       (o : onward m ≡ true) (i : movesNoTrain l ≡ true) (apart : q ≢ p) where
-    elsewhere : q < c .posts → p < c .posts → isLast (c .posts) (upward b (t .cvt)) q ≡ false → NotAhead p t (blockAhead c (siteOn b q t))
-    elsewhere q<n p<n u w e =
-        apart (rank-inj (c .posts) (upward b (t .cvt)) q p q<n p<n
-        (block-inj (c .posts) (upward b (t .cvt)) (rankOn c b (t .cvt) q) (rankOn c b (t .cvt) p)
-        (not-last-rank (c .posts) (upward b (t .cvt)) q q<n u) (not-last-rank (c .posts) (upward b (t .cvt)) p p<n w) e))
+    -- a block section that does not follow p is not ahead of it
+    elsewhere : (j : ℕ) → suc j < c .posts → j ≢ rankOn c b (t .cvt) p → p < c .posts → NotAhead p t (block (c .posts) (upward b (t .cvt)) j)
+    elsewhere j jn ne p<n w e =
+        ne (block-inj (c .posts) (upward b (t .cvt)) j (rankOn c b (t .cvt) p) jn (not-last-rank (c .posts) (upward b (t .cvt)) p p<n w) e)
 
-    watched-less : (last : Bool) → isLast (c .posts) (upward b (t .cvt)) q ≡ last → q < c .posts → AcceptedOn c v b p (runs m z) t
-        → (not last && not (eqb (getD (t .trains) (blockAhead c (siteOn b q t)) 0) 0)) ≡ false
-        → (not last && not (eqb (getD (trainsOf m z p t) (blockAhead c (siteOn b q t)) 0) 0)) ≡ false
-    watched-less true e q<n hx u = refl
-    watched-less false e q<n hx u =
-        ap not (eq-eqb (getD (trainsOf m z p t) (blockAhead c (siteOn b q t)) 0) 0
-        (stays-empty m z p t (blockAhead c (siteOn b q t)) o (elsewhere q<n (hx .fits .below) e) hx
-        (eqb-true (getD (t .trains) (blockAhead c (siteOn b q t)) 0) 0 (not-false (eqb (getD (t .trains) (blockAhead c (siteOn b q t)) 0) 0) u))))
+    other-rank : q < c .posts → p < c .posts → rankOn c b (t .cvt) q ≢ rankOn c b (t .cvt) p
+    other-rank q<n p<n e = apart (rank-inj (c .posts) (upward b (t .cvt)) q p q<n p<n e)
+
+    -- the part that q commands stays free
+    watched-less : q < c .posts → AcceptedOn c v b p (runs m z) t → watchedOccupied c (siteOn b q t) (t .trains) ≡ false
+        → watchedOccupied c (siteOn b q t) (trainsOf m z p t) ≡ false
+    watched-less q<n hx u =
+        let f = onward-facts n2 m z p t o hx in
+        free-part c (siteOn b q t) (trainsOf m z p t) (λ k.
+        free-stays (c .posts) (partEnds c b (t .cvt)) (trainAt c b (t .cvt) (t .trains)) (trainAt c b (t .cvt) (trainsOf m z p t))
+        (rankOn c b (t .cvt) q) (rankOn c b (t .cvt) p) (other-rank q<n (f .below)) (f .not-first) (λ x. omega (arith, f .number, f .before))
+        (λ j jn ne. stays-empty m z p t (block (c .posts) (upward b (t .cvt)) j) o (elsewhere j jn ne (f .below)) hx)
+        (part-free c (siteOn b q t) (t .trains) k u))
+
+    last-kept : q < c .posts → AcceptedOn c v b p (runs m z) t → isLast (c .posts) (upward b (t .cvt)) q ≡ false
+        → getD (t .last) (blockAhead c (siteOn b q t)) 0 ≡ getD (lastOf m z p t) (blockAhead c (siteOn b q t)) 0
+    last-kept q<n hx u =
+        stays-last m z p t (blockAhead c (siteOn b q t)) o
+        (elsewhere (rankOn c b (t .cvt) q) (not-last-rank (c .posts) (upward b (t .cvt)) q q<n u) (other-rank q<n (hx .fits .below)) (hx .fits .below)) hx
 
     onward-light : AcceptedOn c v b q l t → AcceptedOn c v b p (runs m z) t → AcceptedOn c v b q l (rolled m z p t)
-    unfolding occupancyAt watchedOccupied
+    unfolding occupancyAt
     onward-light hl hx = fewer-trains l q t (trainsOf m z p t) (lastOf m z p t) i (record {
-      watched = watched-less (atReceivingEnd c (siteOn b q t)) refl (hl .fits .below) hx;
+      watched = watched-less (hl .fits .below) hx;
       anywhere = λ y. absurd (not-empty z p t (onward-facts n2 m z p t o hx) y);
-      last-ahead = λ u. rw (entered-is c (siteOn b q t) (t .last) u, entered-is c (siteOn b q t) (lastOf m z p t) u)
-          (stays-last m z p t (blockAhead c (siteOn b q t)) o (elsewhere (hl .fits .below) (hx .fits .below) u) hx);
+      last-ahead = λ u. rw (entered-is c (siteOn b q t) (t .last) u, entered-is c (siteOn b q t) (lastOf m z p t) u) (last-kept (hl .fits .below) hx u);
     }) hl
 
     rolled-then : trackAfterStep c b q l t .cvt ≡ t .cvt → trackAfterStep c b q l (rolled m z p t) ≡ rolled m z p (trackAfterStep c b q l t)

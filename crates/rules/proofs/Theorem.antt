@@ -60,7 +60,7 @@ module _ (c : Settings) (right : settingsInRange c ≡ true) where
       posts-in-sequence = λ b p. o .kept .in-sequence (aPost b p);
       trains-in-sequence = λ z. o .kept .in-sequence (aTrain z);
       announcements = o .kept .in-sequence announcers;
-      performs = performed-performs c right [] (fresh-reached c (n2 c right) (n16 c right)) (fresh-agrees c) (o .performed);
+      performs = performed-performs c right [] (fresh-reached c right) (fresh-agrees c) (o .performed);
     }
 
     pub all-settled : ((b : Bool) → underWay (c .posts) b steps ≡ false) → (b : Bool) → isSettled (trackOf end b .walk) ≡ true

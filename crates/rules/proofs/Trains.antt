@@ -26,7 +26,7 @@ use Rattle.rules.proofs.View.{flat}
 use Rattle.rules.proofs.Frame.{movesNoTrain, running-kept, no-movement}
 use Rattle.rules.proofs.Accept.{AcceptedOn, trackAfterStep}
 use Rattle.rules.proofs.Held.{set-held, key-held, start-held, pass-held, leave-held, pass-before, leave-before}
-use Rattle.rules.proofs.Invariant.{ClearedBelow, NoTrain, last-free}
+use Rattle.rules.proofs.Invariant.{ClearedFree, NoTrain, last-free}
 use Rattle.rules.proofs.Stretches.{TrainEnters, TrainMoves, TrainLeaves, Spaced, FreeFrom, free-from, free-ahead, free-first, enters-spaced}
 use Rattle.rules.proofs.Stretches.{moves-spaced, leaves-spaced, empty-spaced}
 use Rattle.rules.proofs.Runs.{Follows, empty-follows, enters-follows, moves-follows, leaves-follows}
@@ -200,7 +200,7 @@ module _ (c : Settings) (n2 : 2 ≤ c .posts) (n16 : c .posts ≤ mostPosts) whe
       empty-cells : NoTrain c t → (cvt : Bool) (j : ℕ) → suc j < c .posts → trainAt c b cvt (t .trains) j ≡ 0
       empty-cells h cvt j k = h (block (c .posts) (upward b cvt) j) (block-lt (c .posts) (upward b cvt) j k)
 
-      set-kept : (w : Reversal) (last : Bool) → atReceivingEnd c e ≡ last → isTurn (t .walk) p act.Set ≡ true → ClearedBelow c b (t .cvt) (t .walk) (t .trains)
+      set-kept : (w : Reversal) (last : Bool) → atReceivingEnd c e ≡ last → isTurn (t .walk) p act.Set ≡ true → ClearedFree c b (t .cvt) (t .walk) (t .trains)
           → TrainsKept (t .cvt) (t .trains) (cond last (not (t .cvt)) (t .cvt)) (t .trains) (walks w) p
       set-kept w true q hw clear = record {
         spaced = λ sp. empty-spaced (c .posts) (stretchEnds c b (not (t .cvt))) (trainAt c b (not (t .cvt)) (t .trains)) (empty (not (t .cvt)));
@@ -227,7 +227,7 @@ module _ (c : Settings) (n2 : 2 ≤ c .posts) (n16 : c .posts ≤ mostPosts) whe
 
       -- ## The whole
 
-      pub trains-kept : (k : View) → AcceptedOn c v b p k t → ClearedBelow c b (t .cvt) (t .walk) (t .trains) → Kept k
+      pub trains-kept : (k : View) → AcceptedOn c v b p k t → ClearedFree c b (t .cvt) (t .walk) (t .trains) → Kept k
       unfolding checks trackAfter effect cellsAfter flat
       trains-kept (walks order) h clear = unmoved-kept (walks order) refl refl
       trains-kept (walks setDevice) h clear = set-kept setDevice (atReceivingEnd c e) refl (set-held h .in-turn) clear

@@ -1,6 +1,7 @@
 pub mod Site
 pub mod Table
 pub mod Judge
+pub mod Parts
 pub mod Indications
 pub mod Demand3
 pub mod VoieOccupee

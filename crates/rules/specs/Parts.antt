@@ -1,7 +1,7 @@
 -- "Telephone lines keep the earlier rule." (document 02, request 3): there the part is the block section ahead, and every post but the
 -- receiving end commands one. `telephone-keeps-the-rule` (proofs/Parts.antt) proves it.
 use Prim.Native.Nat.{ℕ, _<_}
-use mathlib.Core.Bool.{Bool, false, not, _&&_}
+use mathlib.Core.Bool.{false, not, _&&_}
 use mathlib.Core.Path.{_≡_}
 use mathlib.Core.List.{List}
 use lib.ListN.{getD}
