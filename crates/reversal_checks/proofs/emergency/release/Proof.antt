@@ -6,8 +6,8 @@ use Rattle.section.specs.declared.Step.the-variants.{Release}
 use Rattle.section.proofs.Told.{told-true}
 use Rattle.rules.specs.Site.{atReceivingEnd, lastEntered, occupancyAt}
 use Rattle.rules.specs.Table.{Check, checks, effect}
+use Rattle.rules.proofs.Parts.{commands-not-last}
 use Rattle.site.specs.VerdictAt.{rowAt}
-use Rattle.site.proofs.part.Laws.{commands-not-receiving}
 use Rattle.site.proofs.Row.{AskedAt, AskedEqual, none, accepted, unless, unless-equal, when}
 use Rattle.reversal_checks.proofs.emergency.release.Statement.{statement}
 use Rattle.reversal_checks.proofs.emergency.release.Tie as tie
@@ -51,7 +51,7 @@ not-receiving : (c : tie.Else4) → let a = from-free (c .before) .args in atRec
 not-receiving c =
     let b = c .before .before .before .before in
     let a = from-commanding (b .before) .args in
-    commands-not-receiving (a .c) (a .e) (told-true (b .before .commands .ensures) (b .if2 .left))
+    commands-not-last (a .c) (a .e) (told-true (b .before .commands .ensures) (b .if2 .left))
 
 -- the last train of the block section ahead
 last-ahead : (c : tie.After-train-ahead) →
