@@ -1,8 +1,8 @@
 //! The judging of single steps: the checks in the order of the table, then the effect.
 
 use crate::section::{
-    Post, Section, Track, ACKNOWLEDGE, ANNOUNCE, FAULT_1, FAULT_2, FAULT_4, MOST_SEALS,
-    NO_REVERSAL, SET,
+    holds_train, Post, Section, Track, ACKNOWLEDGE, ANNOUNCE, FAULT_1, FAULT_2, FAULT_4,
+    MOST_SEALS, NO_REVERSAL, SET,
 };
 use crate::settings::{Settings, TELEPHONE};
 use crate::step::{self, Step};
@@ -117,7 +117,7 @@ impl JudgedTrack<'_> {
 
     fn set(&mut self, post: u8) -> Result<(), u8> {
         refuse_if(!self.is_turn(post, SET), 15)?;
-        refuse_if(self.train_ahead(post), 13)?;
+        refuse_if(self.train_in_part(post), 13)?;
         refuse_if(self.unconfirmed_fault_1(post), 18)?;
         refuse_if(self.measures_missing(post), 16)?;
         refuse_if(self.has_fault(post, FAULT_2), 19)?;
@@ -128,7 +128,7 @@ impl JudgedTrack<'_> {
     fn key(&mut self, post: u8) -> Result<(), u8> {
         refuse_if(!self.is_turn(post, SET), 15)?;
         refuse_if(!self.has_fault(post, FAULT_2), 21)?;
-        refuse_if(self.train_ahead(post), 13)?;
+        refuse_if(self.train_in_part(post), 13)?;
         refuse_if(self.unconfirmed_fault_1(post), 18)?;
         refuse_if(self.measures_missing(post), 16)?;
         refuse_if(self.post(post).seals == MOST_SEALS, 20)?;
@@ -242,10 +242,10 @@ impl JudgedTrack<'_> {
 
     fn release(&mut self, post: u8, train: u16) -> Result<(), u8> {
         refuse_if(!self.in_turn_for_release(post), 15)?;
-        let ahead = self.way.ahead(post).ok_or(12)?;
+        refuse_if(!self.commands_part(post), 12)?;
         refuse_if(!self.has_fault(post, FAULT_1), 21)?;
-        refuse_if(self.track.trains[ahead] != 0, 13)?;
-        refuse_if(self.track.last[ahead] != train, 17)?;
+        refuse_if(self.train_in_part(post), 13)?;
+        refuse_if(!self.last_train_ahead(post, train), 17)?;
         self.post(post).mark = 1;
         Ok(())
     }
@@ -283,10 +283,11 @@ impl JudgedTrack<'_> {
         }
     }
 
-    /// Fault 1 without a mark; the last post controls no block section.
+    /// Fault 1 without a mark. The last post has nothing to control, and a post of a
+    /// materialised line "without signals ... disregards fault 1".
     fn unconfirmed_fault_1(&self, post: u8) -> bool {
         let marked = self.track.posts[usize::from(post)].mark == 1;
-        post != self.way.receiving_end() && self.has_fault(post, FAULT_1) && !marked
+        self.has_fault(post, FAULT_1) && !marked && self.commands_part(post)
     }
 
     fn measures_missing(&self, post: u8) -> bool {
@@ -299,16 +300,27 @@ impl JudgedTrack<'_> {
 
     fn order_finds_train(&self, post: u8) -> bool {
         if self.settings.form == TELEPHONE {
-            self.trains().iter().any(|&train| train != 0)
+            holds_train(self.trains())
         } else {
-            self.train_ahead(post)
+            self.train_in_part(post)
         }
     }
 
-    fn train_ahead(&self, post: u8) -> bool {
+    fn commands_part(&self, post: u8) -> bool {
+        self.way.commands_part(&self.settings, post)
+    }
+
+    /// A post that commands no part "checks no track".
+    fn train_in_part(&self, post: u8) -> bool {
+        self.way
+            .part(&self.settings, post)
+            .is_some_and(|part| holds_train(&self.track.trains[part]))
+    }
+
+    fn last_train_ahead(&self, post: u8, train: u16) -> bool {
         self.way
             .ahead(post)
-            .is_some_and(|ahead| self.track.trains[ahead] != 0)
+            .is_some_and(|ahead| self.track.last[ahead] == train)
     }
 
     fn train_before(&self, post: u8, train: u16) -> bool {
@@ -323,7 +335,7 @@ impl JudgedTrack<'_> {
 
     fn train_in_stretch(&self, post: u8) -> bool {
         let stretch = self.way.stretch(&self.settings, self.track.direction, post);
-        self.track.trains[stretch].iter().any(|&train| train != 0)
+        holds_train(&self.track.trains[stretch])
     }
 
     fn form_missing(&self, post: u8, train: u16) -> bool {

@@ -1,6 +1,6 @@
 //! What a post shows: CIRCULATION, TRONÇON and the start permission.
 
-use crate::section::{Post, Section, Track, ANNOUNCE, FAULT_1, FAULT_3};
+use crate::section::{holds_train, Post, Section, Track, ANNOUNCE, FAULT_1, FAULT_3};
 use crate::settings::MATERIALISED;
 use crate::way::{Way, VNS};
 
@@ -23,10 +23,12 @@ pub fn indications(section: &Section, track: u8, post: u8) -> (u8, u8, u8) {
     let way = section.way(usize::from(track));
     let kept = &section.tracks[usize::from(track)];
     let record = &kept.posts[usize::from(post)];
+    let part = way.part(&section.settings, post);
+    let trains = part.map(|part| &kept.trains[part]);
     let awaited = section.settings.form == MATERIALISED && awaits_set(kept, way, post);
     (
         circulation(record, awaited),
-        troncon(kept, way, post),
+        troncon(record, trains),
         record.permission,
     )
 }
@@ -60,11 +62,12 @@ fn posts_that_have_set(track: &Track, way: Way) -> u8 {
     }
 }
 
-fn troncon(track: &Track, way: Way, post: u8) -> u8 {
-    let record = &track.posts[usize::from(post)];
-    match way.ahead(post) {
+/// By the trains of the part that the post commands. One that commands none shows nothing, fault
+/// 1 or not.
+fn troncon(post: &Post, trains: Option<&[u16]>) -> u8 {
+    match trains {
         None => NO_LAMP,
-        Some(ahead) if record.faults & FAULT_1 != 0 || track.trains[ahead] != 0 => RED,
+        Some(trains) if post.faults & FAULT_1 != 0 || holds_train(trains) => RED,
         Some(_) => WHITE,
     }
 }

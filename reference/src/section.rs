@@ -112,6 +112,11 @@ impl Track {
     }
 }
 
+/// One of the block sections has a train in it.
+pub fn holds_train(trains: &[u16]) -> bool {
+    trains.iter().any(|&train| train != 0)
+}
+
 // Both tests below gather first and compare once: they run before every step.
 
 fn posts_in_range(posts: &[Post]) -> bool {

@@ -6,6 +6,7 @@ mod coverage;
 mod crossings;
 mod every_refusal;
 mod lengths;
+mod parts;
 mod refused;
 mod stretches;
 pub mod table;
@@ -68,6 +69,7 @@ pub fn days() -> Vec<StoredDay> {
     add_written(&mut days);
     add_every_refusal(&mut days);
     add_stretches(&mut days);
+    add_parts(&mut days);
     add_crossings(&mut days);
     add_drawn(&mut days);
     add_lengths(&mut days);
@@ -109,6 +111,21 @@ fn add_stretches(days: &mut Vec<StoredDay>) {
         ("stretches_some_posts_b", TELEPHONE, 0x8421, B),
     ] {
         add(days, name, stretches::day(form, mask, track));
+    }
+}
+
+fn add_parts(days: &mut Vec<StoredDay>) {
+    for (track, track_name) in TRACKS {
+        for (line, n, mask) in parts::LINES_WITH_TRAINS {
+            let name = format!("parts_behind_trains_{line}_{track_name}");
+            add(days, &name, parts::behind_trains(n, mask, track));
+        }
+        for (line, n, mask) in parts::LINES_WITH_FAULTS {
+            let name = format!("parts_fault_1_{line}_{track_name}");
+            add(days, &name, parts::fault_1(n, mask, track));
+        }
+        let name = format!("parts_telephone_{track_name}");
+        add(days, &name, parts::telephone(track));
     }
 }
 

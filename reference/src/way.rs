@@ -1,6 +1,6 @@
 //! Which way trains run on a track, and what is ahead of or before a post.
 
-use crate::settings::Settings;
+use crate::settings::{Settings, TELEPHONE};
 use std::ops::Range;
 
 pub const VNS: u8 = 0;
@@ -88,8 +88,27 @@ impl Way {
 
     /// The block sections of the stretch that begins at the post; not for the receiving end.
     pub fn stretch(self, settings: &Settings, direction: u8, post: u8) -> Range<usize> {
+        self.sections_up_to(post, |end| ends_stretch(settings, direction, end))
+    }
+
+    /// The block sections that the post watches: "all block sections up to the next signalled
+    /// post ahead" where the line is materialised, the one ahead by telephone. `None` for a post
+    /// that commands no part.
+    pub fn part(self, settings: &Settings, post: u8) -> Option<Range<usize>> {
+        self.commands_part(settings, post)
+            .then(|| self.sections_up_to(post, |end| ends_part(settings, end)))
+    }
+
+    /// By telephone any post but the receiving end; of a materialised line only those that are
+    /// signalled.
+    pub fn commands_part(self, settings: &Settings, post: u8) -> bool {
+        post != self.receiving_end() && ends_part(settings, post)
+    }
+
+    /// The block sections from the post to the nearest end ahead; the receiving end has to be one.
+    fn sections_up_to(self, post: u8, is_end: impl Fn(u8) -> bool) -> Range<usize> {
         let mut end = self.next_post(post);
-        while !ends_stretch(settings, direction, end) {
+        while !is_end(end) {
             end = self.next_post(end);
         }
         usize::from(post.min(end))..usize::from(post.max(end))
@@ -101,10 +120,27 @@ pub fn ends_stretch(settings: &Settings, direction: u8, post: u8) -> bool {
     direction == VNS || settings.signalled(post)
 }
 
+/// A part ends, and the next one begins, at every post by telephone and at signalled posts of a
+/// materialised line, in either direction.
+fn ends_part(settings: &Settings, post: u8) -> bool {
+    settings.form == TELEPHONE || settings.signalled(post)
+}
+
 #[cfg(test)]
 mod tests {
     use super::*;
-    use crate::settings::NO_CROSSINGS;
+    use crate::settings::{MATERIALISED, NO_CROSSINGS};
+
+    /// Posts 0, 2 and 5 of six are signalled.
+    fn six_posts(form: u8) -> Settings {
+        Settings {
+            n: 6,
+            form,
+            mask: 0b100101,
+            line: 1,
+            crossings: NO_CROSSINGS,
+        }
+    }
 
     #[test]
     fn track_b_runs_the_other_way() {
@@ -131,13 +167,7 @@ mod tests {
 
     #[test]
     fn stretches() {
-        let settings = Settings {
-            n: 6,
-            form: 0,
-            mask: 0b100101,
-            line: 1,
-            crossings: NO_CROSSINGS,
-        };
+        let settings = six_posts(TELEPHONE);
         let up = Way { upward: true, n: 6 };
         let down = Way {
             upward: false,
@@ -149,5 +179,27 @@ mod tests {
         assert_eq!(down.stretch(&settings, VNS, 5), 4..5);
         assert_eq!(down.stretch(&settings, CVT, 5), 2..5);
         assert_eq!(down.stretch(&settings, CVT, 2), 0..2);
+    }
+
+    #[test]
+    fn parts() {
+        let up = Way { upward: true, n: 6 };
+        let down = Way {
+            upward: false,
+            n: 6,
+        };
+        let parts = |way: Way, form| [0, 1, 2, 3, 4, 5].map(|p| way.part(&six_posts(form), p));
+        assert_eq!(
+            parts(up, MATERIALISED),
+            [Some(0..2), None, Some(2..5), None, None, None]
+        );
+        assert_eq!(
+            parts(down, MATERIALISED),
+            [None, None, Some(0..2), None, None, Some(2..5)]
+        );
+        for way in [up, down] {
+            let ahead = [0, 1, 2, 3, 4, 5].map(|p| way.ahead(p).map(|i| i..i + 1));
+            assert_eq!(parts(way, TELEPHONE), ahead);
+        }
     }
 }

@@ -2,13 +2,14 @@
 
 use reference::engine::judge;
 use reference::generate::{self, Rng};
-use reference::section::Section;
+use reference::section::{holds_train, Section};
 use reference::settings::{Settings, MATERIALISED};
 use reference::step::{decode, encode, Step};
 use reference::{dayfile, stored};
 use std::collections::BTreeMap;
 
 const DAYS: usize = 6_000;
+const DAYS_WITHOUT_SIGNALS: usize = 4_000;
 
 /// One accepted step with its place in the list and what it said.
 #[derive(Clone, Copy, Debug, PartialEq, Eq)]
@@ -43,6 +44,10 @@ struct Tally {
     forms_used: usize,
     faults_4: usize,
     days_with_forms_moved: usize,
+    orders_behind_trains: usize,
+    sets_without_signals: usize,
+    sets_without_signals_behind_trains: usize,
+    reordered_without_signals: usize,
 }
 
 #[test]
@@ -91,21 +96,85 @@ fn demand_3() {
     );
 }
 
+/// Materialised days with posts without signals: "a reversal must still find its track empty
+/// after reordering".
+#[test]
+fn demand_3_with_posts_without_signals() {
+    let mut rng = Rng::new(33);
+    let mut tally = Tally::default();
+    for _ in 0..DAYS_WITHOUT_SIGNALS {
+        let settings = settings_without_signals(&mut rng);
+        let list = random_list(&mut rng, settings);
+        check_list(&list, settings, &mut tally);
+    }
+    println!(
+        "days {DAYS_WITHOUT_SIGNALS}, at rest in the end {}, reversals ended {}, orders behind \
+         trains {}, sets at posts without signals {} (behind trains {}), days that needed a \
+         reordering {} (with such a set {})",
+        tally.days_at_rest,
+        tally.reversals,
+        tally.orders_behind_trains,
+        tally.sets_without_signals,
+        tally.sets_without_signals_behind_trains,
+        tally.reordered,
+        tally.reordered_without_signals
+    );
+    assert!(tally.orders_behind_trains > 0, "no order behind a train");
+    assert!(
+        tally.sets_without_signals > tally.sets_without_signals_behind_trains,
+        "every set at a post without signals was behind a train"
+    );
+    assert!(
+        tally.reordered_without_signals > 0,
+        "no reordered day had a set at a post without signals behind a train"
+    );
+}
+
+/// Materialised, three posts or more, at least one between the ends without signals.
+fn settings_without_signals(rng: &mut Rng) -> Settings {
+    loop {
+        let settings = Settings {
+            form: MATERIALISED,
+            ..generate::random_settings(rng)
+        };
+        if settings.mask.count_ones() < u32::from(settings.n) {
+            return settings;
+        }
+    }
+}
+
 /// The stored days in which forms are handed out to trains ahead of a reversal.
 #[test]
 fn forms_behind_trains_are_put_in_another_order() {
+    let tally = tally_of_stored("crossings_forms_behind_trains");
+    assert_eq!((tally.days_at_rest, tally.reordered), (2, 2));
+    assert_eq!(tally.days_with_forms_moved, 2);
+}
+
+/// The stored days in which reversals are ordered behind a train that has left the first part;
+/// with only the ends signalled none is.
+#[test]
+fn reversals_behind_trains_are_put_in_another_order() {
+    let ends_only = tally_of_stored("parts_behind_trains_ends_only");
+    assert_eq!((ends_only.days_at_rest, ends_only.reordered), (2, 0));
+    let some_posts = tally_of_stored("parts_behind_trains_some_posts");
+    assert_eq!((some_posts.days_at_rest, some_posts.reordered), (2, 2));
+    assert_eq!(some_posts.reordered_without_signals, 2);
+    let every_post = tally_of_stored("parts_behind_trains_every_post");
+    assert_eq!((every_post.days_at_rest, every_post.reordered), (2, 2));
+    assert_eq!(every_post.sets_without_signals, 0);
+}
+
+/// Of the stored days whose names begin so.
+fn tally_of_stored(beginning: &str) -> Tally {
     let mut tally = Tally::default();
     let days = stored::days();
-    let shown = days
-        .iter()
-        .filter(|day| day.name.starts_with("crossings_forms_behind_trains"));
-    for day in shown {
+    for day in days.iter().filter(|day| day.name.starts_with(beginning)) {
         let day = dayfile::read(&day.file).unwrap();
         let list: Vec<Vec<u8>> = day.steps.chunks(8).map(<[u8]>::to_vec).collect();
         check_list(&list, day.settings, &mut tally);
     }
-    assert_eq!((tally.days_at_rest, tally.reordered), (2, 2));
-    assert_eq!(tally.days_with_forms_moved, 2);
+    tally
 }
 
 fn check_day(rng: &mut Rng, tally: &mut Tally) {
@@ -119,6 +188,7 @@ fn check_list(list: &[Vec<u8>], settings: Settings, tally: &mut Tally) {
     tally.offered += list.len();
     tally.accepted += accepted.len();
     count_forms(&accepted, settings, tally);
+    count_reversing(&accepted, settings, tally);
     check_runs(&accepted, &end, tally);
     check_starters(&end);
     if at_rest(&end) {
@@ -220,6 +290,30 @@ fn count_forms(accepted: &[Accepted], settings: Settings, tally: &mut Tally) {
             }
             _ => {}
         }
+    }
+}
+
+fn count_reversing(accepted: &[Accepted], settings: Settings, tally: &mut Tally) {
+    let mut section = Section::fresh(settings);
+    for one in accepted {
+        let behind_trains = usize::from(holds_train(section.trains(one.track)));
+        match one.step {
+            Step::Order { .. } => tally.orders_behind_trains += behind_trains,
+            step if turns_without_signals(&step, &settings) => {
+                tally.sets_without_signals += 1;
+                tally.sets_without_signals_behind_trains += behind_trains;
+            }
+            _ => {}
+        }
+        section = judge(&section, &encode(one.track as u8, &one.step)).section;
+    }
+}
+
+/// A set or key at a post without signals.
+fn turns_without_signals(step: &Step, settings: &Settings) -> bool {
+    match *step {
+        Step::Set { post } | Step::Key { post } => !settings.signalled(post),
+        _ => false,
     }
 }
 
@@ -344,12 +438,20 @@ fn check_order_without_trains_in_reversals(
     let new_order = trains_out_of_the_way(accepted, end.settings);
     if needed {
         tally.reordered += 1;
+        let without_signals = sets_without_signals_behind_a_train(accepted, end.settings);
+        tally.reordered_without_signals += usize::from(without_signals);
         tally.days_with_forms_moved += usize::from(form_moved_ahead(&new_order, accepted));
         assert_eq!(end.settings.form, MATERIALISED);
     } else {
         check_new_order(accepted, accepted, end);
     }
     check_new_order(&new_order, accepted, end);
+}
+
+fn sets_without_signals_behind_a_train(accepted: &[Accepted], settings: Settings) -> bool {
+    let mut tally = Tally::default();
+    count_reversing(accepted, settings, &mut tally);
+    tally.sets_without_signals_behind_trains > 0
 }
 
 fn form_moved_ahead(new_order: &[Accepted], accepted: &[Accepted]) -> bool {
@@ -369,7 +471,7 @@ fn meets_train_in_reversal(accepted: &[Accepted], settings: Settings) -> bool {
 fn train_in_reversal(section: &Section) -> bool {
     (0..2).any(|track| {
         let reversing = section.tracks[track].reversal_under_way();
-        reversing && section.trains(track).iter().any(|&train| train != 0)
+        reversing && holds_train(section.trains(track))
     })
 }
 

@@ -1,5 +1,7 @@
 //! What the stored days must show together.
 
+mod parts;
+
 use super::table::ANSWERS_BY_KIND;
 use super::StoredDay;
 use crate::dayfile::{self, Day, Mark, MOST_STEPS};
@@ -45,6 +47,7 @@ pub fn demand(days: &[StoredDay]) {
         assert!(file_refusals.contains(&(number, 0)));
     }
     assert!(file_refusals.contains(&(4, MOST_STEPS as u32 - 1)));
+    parts::demand(days);
 }
 
 fn collect(day: &Day, seen: &mut BTreeSet<Case>) {
