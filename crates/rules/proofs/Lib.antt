@@ -35,5 +35,6 @@ pub mod ConditionExamples
 pub mod EmergencyExamples
 pub mod StateExamples
 pub mod IndicationExamples
+pub mod PartExamples
 pub mod OfferedExamples
 pub mod ChecksColumn
