@@ -31,7 +31,7 @@ use Rattle.rules.specs.declared.Site.{Site}
 use Rattle.rules.specs.declared.Movement.{Movement}
 use Rattle.rules.specs.declared.Movement.the-variants.{Stays, Enters, Moves, Leaves}
 use Rattle.rules.specs.Site.{siteOn, settledVns, otherSettledOnVns, isTrain, isNumber, anyOf, reach, stretchHolds, upAt, rankAt, atSendingEnd}
-use Rattle.rules.specs.Site.{atReceivingEnd, blockAhead, blockBefore, stretchEnds, trainAt, partEnds, commands}
+use Rattle.rules.specs.Site.{atReceivingEnd, blockAhead, blockBefore, stretchEnds, trainAt}
 use Rattle.rules.specs.Site.{watchedOccupied, trainBefore, lastEntered, Occupancy, occupancyAt}
 use Rattle.rules.specs.Table.{effect, vacated, cellsAfter, trackAfter}
 use Rattle.rules.specs.Judge.{answerOf, siteOf, occupancyOf, verdictOn, sectionAfter, judgeStep, judgeDecoded, judgeInRange, judge}
@@ -91,7 +91,7 @@ module _ (c : Settings) (e : Site) (below : e .post < c .posts) (l k : List ℕ)
 
   watched-alike : watchedOccupied c e l ≡ watchedOccupied c e k
   unfolding watchedOccupied
-  watched-alike = ap (λ (x : Bool). commands c e && x) (reach-alike (partEnds c (e .track) (e .cvt)))
+  watched-alike = simp reach-alike refl
 
   occupied-alike : lampsAt c e l .occupied ≡ lampsAt c e k .occupied
   unfolding lampsAt

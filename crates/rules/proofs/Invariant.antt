@@ -31,7 +31,7 @@ use Rattle.rules.proofs.Frame.{is-turn, is-settled, movesNoTrain, keeps
 use Rattle.rules.proofs.Accept.{AcceptedOn, trackAfterStep}
 use Rattle.rules.proofs.Held.{order-held, set-held, key-held, announce-held, acknowledge-held, start-held, pass-held, pass-before}
 use Rattle.rules.proofs.Stretches.{free-there}
-use Rattle.rules.proofs.Parts.{begins-commands, part-free}
+use Rattle.rules.proofs.Parts.{watches, begins-commands}
 use Rattle.rules.proofs.Cleared.{Cleared, cleared-back, cleared-settled, cleared-order, cleared-turn, cleared-all, OwnPart, cleared-set}
 use Rattle.rules.proofs.Cleared.{cleared-announced, cleared-acknowledged}
 use Rattle.rules.proofs.Ranges.{rankOn, TurnFits, InRange, announce-next, in-range-kept}
@@ -84,7 +84,7 @@ module _ (c : Settings) (b : Bool) where
         go (inl l) = before j l k
         go (inr own) =
             free-there (c .posts) (partEnds c b (t .cvt)) (trainAt c b (t .cvt) (t .trains)) r j
-            (part-free c e (t .trains) (begins-commands c e q (own .begins)) ha) (own .not-before) k (own .same-part)
+            (watches c e (t .trains) .part-free (begins-commands c e q (own .begins)) ha) (own .not-before) k (own .same-part)
 
     -- the train before a post stands where nothing is cleared
     not-cleared : (z : ℕ) → p < c .posts → r ≢ 0 → 0 < z → trainAt c b (t .cvt) (t .trains) (r - 1) ≡ z

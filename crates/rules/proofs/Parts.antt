@@ -1,8 +1,8 @@
--- The part that a post commands, by its laws: the sending end begins one, since end posts are signalled; where a post that commands one is told
--- that no train is in it, before each train ahead a part ends, and the other way. By telephone a part ends at every post, so the search stops
--- after the block section ahead: the earlier rule.
+-- The part that a post commands: a post sees no train in it exactly where before each train ahead a part ends. By telephone one ends at every
+-- post, so the search ends after the block section ahead: the earlier rule. On every line the sending end begins one, since end posts are
+-- signalled.
 use Prim.Native.Nat.{ℕ, suc, _-_, _<_}
-use mathlib.Core.Bool.{Bool, true, false, not, _&&_, or-false}
+use mathlib.Core.Bool.{Bool, true, false, not, _&&_, or-true, or-false}
 use mathlib.Core.Path.{_≡_, refl, ap}
 use mathlib.Core.List.{List}
 use native.Mathlib.Omega.{arith}
@@ -21,50 +21,6 @@ use Rattle.rules.specs.Parts.{TelephoneKeepsTheRule}
 use Rattle.rules.proofs.Facts.{nand-r, or-right, not-last-rank}
 use Rattle.rules.proofs.Stretches.{FreeFrom, free-from, from-free}
 
--- the sending end begins a part
-pub part-first : (c : Settings) → settingsInRange c ≡ true → (b cvt : Bool) → partEnds c b cvt 0 ≡ true
-unfolding settingsInRange partEnds rank
-part-first c right b cvt =
-    let ends = and-right (leb (c .form) 1) _ (and-right (within leastPosts mostPosts (c .posts)) _ right) in
-    or-right (not (isMaterialised c)) (isSignalled (c .mask) (rank (c .posts) (upward b cvt) 0))
-    (go (upward b cvt) (and-left (isSignalled (c .mask) 0) _ ends) (and-left _ _ (and-right (isSignalled (c .mask) 0) _ ends)))
-  where
-    go : (up : Bool) → isSignalled (c .mask) 0 ≡ true → isSignalled (c .mask) (c .posts - 1) ≡ true → isSignalled (c .mask) (rank (c .posts) up 0) ≡ true
-    go true first last = first
-    go false first last = last
-
-module _ (c : Settings) (e : Site) where
-  -- ## Who commands one
-
-  pub commands-not-last : commands c e ≡ true → atReceivingEnd c e ≡ false
-  unfolding commands
-  commands-not-last h = not-true (atReceivingEnd c e) (and-left (not (atReceivingEnd c e)) _ h)
-
-  pub begins-commands : atReceivingEnd c e ≡ false → partEnds c (e .track) (e .cvt) (rankAt c e) ≡ true → commands c e ≡ true
-  unfolding commands
-  begins-commands n h = both (ap not n) h
-
-  -- ## What is watched
-
-  -- no train in the part that begins at the post
-  abbrev pub PartFree : List ℕ → Type 0
-  PartFree l = FreeFrom (c .posts) (partEnds c (e .track) (e .cvt)) (trainAt c (e .track) (e .cvt) l) (rankAt c e)
-
-  pub part-free : (l : List ℕ) → commands c e ≡ true → watchedOccupied c e l ≡ false → PartFree l
-  unfolding watchedOccupied
-  part-free l k h = free-from (c .posts) (partEnds c (e .track) (e .cvt)) (trainAt c (e .track) (e .cvt) l) (rankAt c e) (nand-r (commands c e) _ k h)
-
-  pub free-part : (l : List ℕ) → (commands c e ≡ true → PartFree l) → watchedOccupied c e l ≡ false
-  unfolding watchedOccupied
-  free-part l h =
-      unless (commands c e) _ (λ k. from-free (c .posts) (partEnds c (e .track) (e .cvt)) (trainAt c (e .track) (e .cvt) l) (rankAt c e) (h k))
-    where
-      unless : (x y : Bool) → (x ≡ true → y ≡ false) → (x && y) ≡ false
-      unless true y f = f refl
-      unless false y f = refl
-
--- ## By telephone
-
 and-true : (x : Bool) → (x && true) ≡ x
 and-true true = refl
 and-true false = refl
@@ -74,32 +30,89 @@ one-section : (ends : ℕ → Bool) (f : ℕ → ℕ) (m j : ℕ) → ends (suc 
 unfolding reach
 one-section ends f m j h = rw h (or-false (isTrain (f j)))
 
-module _ (c : Settings) (e : Site) (form : isMaterialised c ≡ false) where
-  each-ends : (j : ℕ) → partEnds c (e .track) (e .cvt) j ≡ true
-  unfolding partEnds
-  each-ends j = rw form refl
+module _ (c : Settings) (e : Site) where
+  -- ## What is watched
 
-  commanded : commands c e ≡ not (atReceivingEnd c e)
-  unfolding commands
-  commanded = rw (each-ends (rankAt c e)) (and-true (not (atReceivingEnd c e)))
+  -- no train in the part that begins at the post
+  abbrev pub PartFree : List ℕ → Type 0
+  PartFree l = FreeFrom (c .posts) (partEnds c (e .track) (e .cvt)) (trainAt c (e .track) (e .cvt) l) (rankAt c e)
 
-  watched : e .post < c .posts → (trains : List ℕ) → watchedOccupied c e trains ≡ (not (atReceivingEnd c e) && isTrain (getD trains (blockAhead c e) 0))
+  -- a post sees no train exactly where it commands no part, or one that is free
+  pub record Watches (l : List ℕ) : Type 0 where
+    pub part-free : commands c e ≡ true → watchedOccupied c e l ≡ false → PartFree l
+    pub sees-none : (commands c e ≡ true → PartFree l) → watchedOccupied c e l ≡ false
+
+  pub watches : (l : List ℕ) → Watches l
   unfolding watchedOccupied
-  watched below trains = rw commanded (go (atReceivingEnd c e) refl)
+  watches l = record {
+    part-free = λ k h. free-from (c .posts) ends f (rankAt c e) (nand-r (commands c e) _ k h);
+    sees-none = λ h. unless (commands c e) _ (λ k. from-free (c .posts) ends f (rankAt c e) (h k));
+  }
     where
-      train : ℕ → ℕ
-      train = trainAt c (e .track) (e .cvt) trains
+      ends : ℕ → Bool
+      ends = partEnds c (e .track) (e .cvt)
 
-      r : ℕ
-      r = rankAt c e
+      f : ℕ → ℕ
+      f = trainAt c (e .track) (e .cvt) l
 
-      go : (last : Bool) → atReceivingEnd c e ≡ last
-          → (not last && stretchHolds (partEnds c (e .track) (e .cvt)) train (c .posts - suc r) r) ≡ (not last && isTrain (train r))
-      go true q = refl
-      go false q =
-          let inside : suc r < c .posts = not-last-rank (c .posts) (upAt c e) (e .post) below q in
-          let left : c .posts - suc r ≡ suc (c .posts - suc (suc r)) = omega arith in
-          rw left (one-section (partEnds c (e .track) (e .cvt)) train (c .posts - suc (suc r)) r (each-ends (suc r)))
+      unless : (x y : Bool) → (x ≡ true → y ≡ false) → (x && y) ≡ false
+      unless true y f = f refl
+      unless false y f = refl
+
+  -- ## Who commands a part
+
+  pub commands-not-last : commands c e ≡ true → atReceivingEnd c e ≡ false
+  unfolding commands
+  commands-not-last h = not-true (atReceivingEnd c e) (and-left (not (atReceivingEnd c e)) _ h)
+
+  pub begins-commands : atReceivingEnd c e ≡ false → partEnds c (e .track) (e .cvt) (rankAt c e) ≡ true → commands c e ≡ true
+  unfolding commands
+  begins-commands n h = both (ap not n) h
+
+  -- ## By telephone
+
+  module _ (form : isMaterialised c ≡ false) where
+    each-ends : (j : ℕ) → partEnds c (e .track) (e .cvt) j ≡ true
+    unfolding partEnds
+    each-ends j = simp form refl
+
+    commanded : commands c e ≡ not (atReceivingEnd c e)
+    unfolding commands
+    commanded = rw (each-ends (rankAt c e)) (and-true (not (atReceivingEnd c e)))
+
+    watched : e .post < c .posts → (trains : List ℕ) → watchedOccupied c e trains ≡ (not (atReceivingEnd c e) && isTrain (getD trains (blockAhead c e) 0))
+    unfolding watchedOccupied
+    watched below trains = rw commanded (go (atReceivingEnd c e) refl)
+      where
+        train : ℕ → ℕ
+        train = trainAt c (e .track) (e .cvt) trains
+
+        r : ℕ
+        r = rankAt c e
+
+        go : (last : Bool) → atReceivingEnd c e ≡ last
+            → (not last && stretchHolds (partEnds c (e .track) (e .cvt)) train (c .posts - suc r) r) ≡ (not last && isTrain (train r))
+        go true q = refl
+        go false q =
+            let inside : suc r < c .posts = not-last-rank (c .posts) (upAt c e) (e .post) below q in
+            let left : c .posts - suc r ≡ suc (c .posts - suc (suc r)) = omega arith in
+            rw left (one-section (partEnds c (e .track) (e .cvt)) train (c .posts - suc (suc r)) r (each-ends (suc r)))
 
 pub telephone-keeps-the-rule : TelephoneKeepsTheRule
 telephone-keeps-the-rule c e form below = record { commanded = commanded c e form; watched = watched c e form below }
+
+-- ## The sending end begins a part
+
+module _ (c : Settings) (right : settingsInRange c ≡ true) where
+  ends-signalled : (isSignalled (c .mask) 0 ≡ true) × (isSignalled (c .mask) (c .posts - 1) ≡ true)
+  unfolding settingsInRange
+  ends-signalled =
+      let rest = and-right (leb (c .form) 1) _ (and-right (within leastPosts mostPosts (c .posts)) _ right) in
+      (and-left (isSignalled (c .mask) 0) _ rest, and-left (isSignalled (c .mask) (c .posts - 1)) _ (and-right (isSignalled (c .mask) 0) _ rest))
+
+  pub part-first : (b cvt : Bool) → partEnds c b cvt 0 ≡ true
+  unfolding partEnds upward rank
+  part-first true true = simp (ends-signalled .0, ends-signalled .1, or-true) refl
+  part-first true false = simp (ends-signalled .0, ends-signalled .1, or-true) refl
+  part-first false true = simp (ends-signalled .0, ends-signalled .1, or-true) refl
+  part-first false false = simp (ends-signalled .0, ends-signalled .1, or-true) refl

@@ -30,7 +30,7 @@ use Rattle.rules.proofs.Held.{order-held, order-accepted, set-held, set
 use Rattle.rules.proofs.Held.{acknowledge-held, acknowledge-accepted, release-held, release-accepted}
 use Rattle.rules.proofs.Held.{pass-held, pass-before, leave-not-first, leave-before}
 use Rattle.rules.proofs.Stretches.{free-stays}
-use Rattle.rules.proofs.Parts.{commands-not-last, part-free, free-part}
+use Rattle.rules.proofs.Parts.{watches, commands-not-last}
 use Rattle.rules.proofs.Ranges.{rankOn}
 
 -- a track with other trains
@@ -296,11 +296,11 @@ module _ (c : Settings) (v b : Bool) where
         → watchedOccupied c (siteOn b q t) (trainsOf m z p t) ≡ false
     watched-less q<n hx u =
         let f = onward-facts n2 m z p t o hx in
-        free-part c (siteOn b q t) (trainsOf m z p t) (λ k.
+        watches c (siteOn b q t) (trainsOf m z p t) .sees-none (λ k.
         free-stays (c .posts) (partEnds c b (t .cvt)) (trainAt c b (t .cvt) (t .trains)) (trainAt c b (t .cvt) (trainsOf m z p t))
         (rankOn c b (t .cvt) q) (rankOn c b (t .cvt) p) (other-rank q<n (f .below)) (f .not-first) (λ x. omega (arith, f .number, f .before))
         (λ j jn ne. stays-empty m z p t (block (c .posts) (upward b (t .cvt)) j) o (elsewhere j jn ne (f .below)) hx)
-        (part-free c (siteOn b q t) (t .trains) k u))
+        (watches c (siteOn b q t) (t .trains) .part-free k u))
 
     last-kept : q < c .posts → AcceptedOn c v b p (runs m z) t → isLast (c .posts) (upward b (t .cvt)) q ≡ false
         → getD (t .last) (blockAhead c (siteOn b q t)) 0 ≡ getD (lastOf m z p t) (blockAhead c (siteOn b q t)) 0
