@@ -18,7 +18,7 @@ use Rattle.section.proofs.Laws.{both, and-left, and-right}
 use Rattle.rules.specs.declared.Site.{Site}
 use Rattle.rules.specs.Site.{isTrain, reach, stretchHolds, upAt, rankAt, atReceivingEnd, blockAhead, trainAt, partEnds, commands, watchedOccupied}
 use Rattle.rules.specs.Parts.{TelephoneKeepsTheRule}
-use Rattle.rules.proofs.Facts.{nand-r, or-right, not-last-rank}
+use Rattle.rules.proofs.Facts.{nand-r, not-last-rank}
 use Rattle.rules.proofs.Stretches.{FreeFrom, free-from, from-free}
 
 and-true : (x : Bool) → (x && true) ≡ x
