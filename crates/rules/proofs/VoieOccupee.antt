@@ -2,13 +2,12 @@
 -- them. So is every block section of the part in which the announcer's lies: the post where that part begins, found backward from the announcer,
 -- has seen it free.
 use Prim.Native.Nat.{ℕ, zero, suc, _-_, _≤_, _<_}
-use mathlib.Core.Bool.{Bool, true, false, not}
+use mathlib.Core.Bool.{Bool, true, false}
 use mathlib.Core.Path.{_≡_, refl, subst}
 use mathlib.Core.Logic.{_⊎_, inl, inr}
 use mathlib.Core.List.{List}
 use native.Mathlib.Omega.{arith}
 use native.Mathlib.Decide.{ℕ-discrete}
-use lib.Dec.{T}
 use Rattle.section.specs.declared.Settings.{Settings}
 use Rattle.section.specs.declared.Act.{Act}
 use Rattle.section.specs.declared.Act.the-variants as act
@@ -21,6 +20,7 @@ use Rattle.section.specs.Settings.{settingsInRange}
 use Rattle.section.specs.Store.{trackOf}
 use Rattle.section.proofs.Laws.{rank-lt}
 use Rattle.rules.specs.Site.{partEnds}
+use Rattle.rules.specs.Indications.{setCount}
 use Rattle.rules.specs.Demand3.{stateAfter}
 use Rattle.rules.specs.VoieOccupee.{SeenFree, FreeToAnnounce, VoieOccupeeNeverSaid}
 use Rattle.rules.proofs.Facts.{true-or-false}
@@ -58,13 +58,6 @@ begins-at ends (suc r) h = go (true-or-false (ends (suc r))) (begins-at ends r h
 
 -- ## Free to announce
 
-not-T : (x : Bool) → x ≡ false → T (not x)
-not-T x h = rw h tt
-
-T-not : (x : Bool) → T (not x) → x ≡ false
-T-not true h = absurd h
-T-not false h = refl
-
 module _ (c : Settings) (right : settingsInRange c ≡ true) (b : Bool) (t : Track) (s : Sound c b t) where
   abbrev ends : ℕ → Bool
   ends = partEnds c b (t .cvt)
@@ -77,16 +70,18 @@ module _ (c : Settings) (right : settingsInRange c ≡ true) (b : Bool) (t : Tra
     clear = subst (λ (w : Walk). ClearedFree c b (t .cvt) w (t .trains)) e (s .clear)
 
   seen-free : (p : ℕ) → t .walk ≡ Turn p act.Announce → SeenFree c b t (rankOn c b (t .cvt) p)
+  unfolding setCount
   seen-free p e =
       let w = begins-at ends (rankOn c b (t .cvt) p) (part-first c right b (t .cvt)) in
       record {
         watcher = w .rank;
         not-after = w .not-after;
-        begins = rw (w .begins) tt;
-        same-part = λ k above upto. not-T (ends k) (w .same-part k above upto);
+        begins = w .begins;
+        has-set = rw e (omega (arith, w .not-after));
+        same-part = w .same-part;
         free = λ j from jn same.
             clear p act.Announce e j
-            (cleared-announcer c b (t .cvt) p (w .rank) j (w .not-after) (λ k above upto. T-not (ends k) (same k above upto))) jn;
+            (cleared-announcer c b (t .cvt) p (w .rank) j (w .not-after) same) jn;
       }
 
   free-to-announce : FreeToAnnounce c b t

@@ -3,10 +3,9 @@
 -- before has seen the section free in its stead, and it still is." For well-formed settings c and every list, refused and malformed steps
 -- included. `voie-occupee-never-said` (proofs/VoieOccupee.antt) proves it.
 use Prim.Native.Nat.{ℕ, suc, _-_, _≤_, _<_}
-use mathlib.Core.Bool.{Bool, not}
+use mathlib.Core.Bool.{Bool, true, false}
 use mathlib.Core.Path.{_≡_}
 use mathlib.Core.List.{List}
-use lib.Dec.{T}
 use lib.ListN.{getD}
 use Rattle.section.specs.declared.Settings.{Settings}
 use Rattle.section.specs.declared.Act.the-variants.{Announce, Acknowledge}
@@ -16,19 +15,21 @@ use Rattle.section.specs.Fresh.{freshSection}
 use Rattle.section.specs.Geometry.{upward, rank, block}
 use Rattle.section.specs.Store.{trackOf}
 use Rattle.rules.specs.Site.{partEnds, trainAt}
+use Rattle.rules.specs.Indications.{setCount}
 use Rattle.rules.specs.Demand3.{stateAfter}
 
 module _ (c : Settings) (b : Bool) (t : Track) where
   -- no part ends after the post of rank i, up to that of rank j
   abbrev pub SamePart : ℕ → ℕ → Type 0
-  SamePart i j = (k : ℕ) → i < k → k ≤ j → T (not (partEnds c b (t .cvt) k))
+  SamePart i j = (k : ℕ) → i < k → k ≤ j → partEnds c b (t .cvt) k ≡ false
 
-  -- the post that commands the part in which the block section ahead of rank r lies, itself or one before it, has set, since the turn is
-  -- past it; that whole part is free
+  -- the post that commands the part in which the block section ahead of rank r lies, itself or one before it, has set in this reversal, and
+  -- so has seen the part free; all of it still is
   pub record SeenFree (r : ℕ) : Type 0 where
     pub watcher : ℕ
     pub not-after : watcher ≤ r
-    pub begins : T (partEnds c b (t .cvt) watcher)
+    pub begins : partEnds c b (t .cvt) watcher ≡ true
+    pub has-set : watcher < setCount (c .posts) (upward b (t .cvt)) (t .walk)
     pub same-part : SamePart watcher r
     pub free : (j : ℕ) → watcher ≤ j → suc j < c .posts → SamePart watcher j → trainAt c b (t .cvt) (t .trains) j ≡ 0
 
