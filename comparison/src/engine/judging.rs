@@ -43,6 +43,7 @@ impl Both {
         let expected = self.expected_image(&before, refusal);
         self.same_image(&expected, &input)?;
         self.compare_indications(rng, &tried, &input)?;
+        self.count_lamps(tally);
         tally.count(step, refusal, said);
         if let Some(section) = section_before {
             tally.count_by_part(ByPart::of(&section, step, refusal));
@@ -93,6 +94,19 @@ impl Both {
         }
         let (track, post) = (rng.byte(), rng.byte());
         self.same_indications(track, post, tried, input)
+    }
+
+    /// What the posts' lamps show of the parts.
+    fn count_lamps(&self, tally: &mut Tally) {
+        let Some(section) = self.section.filter(Section::in_range) else {
+            return;
+        };
+        for track in [0, 1] {
+            for post in 0..section.settings.n {
+                let (_, troncon, _) = indications(&section, track, post);
+                tally.count_by_part(ByPart::shown(&section, track, post, troncon));
+            }
+        }
     }
 
     fn same_indications(
