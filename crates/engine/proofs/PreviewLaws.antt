@@ -1,9 +1,10 @@
--- A step tried first. Both ways of a preview give what its definition says: out of the ranges every list is dark; in them judging keeps the
--- ranges, so both tracks of the section after the step can be shown. A preview hands back the section that came, so a day goes on as without it.
+-- A step tried first. Both ways of a preview give what its definition says: judging answers 6 just where the section is out of its ranges, and
+-- there every list is dark; in them judging keeps the ranges, so both tracks of the section after the step can be shown. A preview hands back the
+-- section that came, so a day goes on as without it.
 use Prim.Native.Nat.{ℕ}
-use mathlib.Core.Bool.{true, false}
+use mathlib.Core.Bool.{Bool, true, false}
 use mathlib.Core.List.{List, [], _∷_}
-use mathlib.Core.Path.{_≡_, refl, ap}
+use mathlib.Core.Path.{_≡_, refl, sym, _∙_, ap}
 use lib.ListN.{replicate}
 use Rattle.section.specs.declared.Answer.{Answer}
 use Rattle.section.specs.declared.Indications.{Indications}
@@ -12,9 +13,11 @@ use Rattle.section.specs.declared.Verdict.{Verdict}
 use Rattle.section.specs.declared.Verdict.the-variants.{Refused}
 use Rattle.section.specs.Numbers.{mostPosts}
 use Rattle.section.specs.Range.{inRange}
+use Rattle.section.specs.Words.{refusalOf}
 use Rattle.rules.specs.Demand3.{stateAfter}
 use Rattle.rules.specs.Indications.{dark, trackIndications}
-use Rattle.rules.specs.Judge.{judge, judgeInRange}
+use Rattle.rules.specs.Judge.{judge}
+use Rattle.rules.proofs.OnlyOutOfRange.{only-out-of-range, out-of-range-gives-6}
 use Rattle.rules.proofs.RangeLaw.{ranges-kept}
 use Rattle.track_indications.proofs.Laws.{dark-out, at-its-place}
 use Rattle.engine.specs.Preview.{preview, AnswersAsJudging, ShowsTheSectionAfter, Request, Taken, Tried, PreviewsLeaveTheDay}
@@ -29,16 +32,23 @@ pub out-of-range-is :
 unfolding preview judge
 out-of-range-is s bytes h = rw (h, ← dark-out s 0 h, ← dark-out s 1 h)
 
-module _ (s : Section) (bytes : List ℕ) {w : Answer} (h : inRange s ≡ true) (ew : w ≡ judgeInRange s bytes) where
-  pub after-in-range : inRange (w .section) ≡ true
-  unfolding judge
-  after-in-range = rw ew (rw h at (ranges-kept s bytes h))
+module _ (s : Section) (bytes : List ℕ) {w : Answer} {k : ℕ} (ew : w ≡ judge s bytes) (ek : k ≡ refusalOf (w .verdict)) where
+  pub answered-6 : k ≡ 6 → inRange s ≡ false
+  answered-6 six = only-out-of-range s bytes (ap (λ (a : Answer). refusalOf (a .verdict)) (sym ew) ∙ sym ek ∙ six)
 
-  pub in-range-is :
+  -- with any other answer the section is in its ranges, and so is the one that judging gives
+  pub after-in-range : (k ≡ 6 → ⊥) → inRange (w .section) ≡ true
+  after-in-range other = rw ew (go (inRange s) refl)
+    where
+      go : (b : Bool) → inRange s ≡ b → inRange (judge s bytes .section) ≡ true
+      go true r = ranges-kept s bytes r
+      go false r = absurd (other (ek ∙ (rw ew (out-of-range-gives-6 s bytes r))))
+
+  pub tried-is :
       {a b : List Indications} → a ≡ trackIndications (w .section) 0 → b ≡ trackIndications (w .section) 1
       → _≡_ {A = Previewed} (record { verdict = w .verdict; a = a; b = b; section = s }) (preview s bytes)
-  unfolding preview judge
-  in-range-is ea eb = rw (h, ea, eb, ew)
+  unfolding preview
+  tried-is ea eb = rw (ea, eb, ew)
 
 -- ## The theorems
 

@@ -2,11 +2,9 @@
 
 mod previews;
 
-ghost use mathlib.Core.Bool.{true};
 ghost use mathlib.Core.Path.{_≡_};
-ghost use Rattle.section.specs.Range.{inRange};
 ghost use Rattle.section.specs.declared.Verdict.{Verdict};
-ghost use Rattle.rules.specs.Judge.{judge, judgeInRange};
+ghost use Rattle.rules.specs.Judge.{judge};
 ghost use Rattle.section.specs.Store.{trackOf};
 pub use indications::indications;
 use judging::on_track::judge_on_track;
@@ -40,11 +38,13 @@ fn track_of(s: Section, track: bool) -> Track
     a
 }
 
-// Judges bytes offered to a section whose ranges hold: 4, then the table. A refusal returns the section as it came.
-fn judge_in_range(s: Section, bytes: &[u8]) -> Answer
-    requires { ⌜ inRange s ≡ true ⌝ }
-    ensures { λ r. ⌜ r ≡ judgeInRange s (now (bytes .entry)) ⌝ }
+// Judges bytes offered to a section: 6, then 4, then the table. A refusal returns the section as it came.
+pub fn judge(s: Section, bytes: &[u8]) -> Answer
+    ensures { λ r. ⌜ r ≡ judge s (now (bytes .entry)) ⌝ }
 {
+    if !ranges::in_range(s) {
+        return refused(6, s);
+    }
     let c = s.settings;
     let d = steps::decode(c.posts, bytes);
     let Decoded::Well(x) = d else {
@@ -77,14 +77,4 @@ fn judge_in_range(s: Section, bytes: &[u8]) -> Answer
             b: b,
         },
     }
-}
-
-// Judges bytes offered to a section: 6, then 4, then the table. A refusal returns the section as it came.
-pub fn judge(s: Section, bytes: &[u8]) -> Answer
-    ensures { λ r. ⌜ r ≡ judge s (now (bytes .entry)) ⌝ }
-{
-    if !ranges::in_range(s) {
-        return refused(6, s);
-    }
-    judge_in_range(s, bytes)
 }

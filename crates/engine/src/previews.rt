@@ -5,9 +5,10 @@ ghost use Rattle.section.specs.Numbers.{mostPosts};
 ghost use Rattle.section.specs.declared.Verdict.{Verdict};
 ghost use Rattle.rules.specs.Indications.{dark};
 ghost use Rattle.engine.specs.Preview.{preview};
-use crate::judge_in_range;
+use crate::judge;
 use section::Section;
 use section::Verdict;
+use section::words::refusal_of;
 use track_indications::PostsShown;
 use track_indications::all_posts_dark;
 use track_indications::track_indications;
@@ -32,15 +33,16 @@ fn out_of_range(state: Section) -> Previewed
     }
 }
 
-// Tries a step: what judging it would answer and show. The section comes back as it was.
+// Tries a step: what judging it would answer and show. The section comes back as it was. Judging tests the ranges, and only a state out of them
+// gives 6.
 pub fn preview(s: Section, bytes: &[u8]) -> Previewed
     ensures { λ r. ⌜ r ≡ preview s (now (bytes .entry)) ⌝ }
 {
-    if !ranges::in_range(s) {
+    let answer = judge(s, bytes);
+    let verdict = answer.verdict;
+    if refusal_of(verdict) == 6 {
         return out_of_range(s);
     }
-    let answer = judge_in_range(s, bytes);
-    let verdict = answer.verdict;
     let after = answer.section;
     Previewed {
         verdict: verdict,

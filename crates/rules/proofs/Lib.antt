@@ -38,3 +38,4 @@ pub mod IndicationExamples
 pub mod PartExamples
 pub mod OfferedExamples
 pub mod ChecksColumn
+pub mod OnlyOutOfRange

@@ -1,13 +1,16 @@
 -- Judging keeps the ranges, in every section whose ranges hold, reachable or not: a refused step leaves the section, an accepted one keeps the
 -- ranges of its own track and leaves the other.
+use Prim.Native.Nat.{ℕ}
 use mathlib.Core.Bool.{Bool, true, not}
+use mathlib.Core.List.{List}
 use mathlib.Core.Path.{_≡_, refl}
+use Rattle.section.specs.declared.Answer.{Answer}
 use Rattle.section.specs.declared.Section.{Section}
 use Rattle.section.specs.Range.{inRange}
 use Rattle.section.specs.Settings.{settingsInRange}
 use Rattle.section.specs.Store.{trackOf}
 use Rattle.section.proofs.Laws.{settings-in-range, track-in-range, section-in-range}
-use Rattle.rules.specs.Judge.{judge}
+use Rattle.rules.specs.Judge.{judgeInRange, judge}
 use Rattle.rules.specs.RangesKept.{RangesKept}
 use Rattle.rules.specs.Site.{otherSettledOnVns}
 use Rattle.rules.proofs.Facts.{by-track}
@@ -45,3 +48,9 @@ ranges-kept s bytes r = go (judged (s .settings) s refl r bytes)
     go : Judged (s .settings) s refl r bytes → inRange (judge s bytes .section) ≡ true
     go (refused k e) = rw e r
     go (accepted x d h e) = rw e (section-out (sectionAfterStep (s .settings) s x) (section-kept s x h (section-in s r)))
+
+-- ## In range, judging is judging by the bytes and the table
+
+pub judged-in-range : (s : Section) (bytes : List ℕ) (after : Answer) → inRange s ≡ true → after ≡ judgeInRange s bytes → after ≡ judge s bytes
+unfolding judge
+judged-in-range s bytes after h e = rw h e

@@ -19,7 +19,7 @@ use Rattle.section.specs.Settings.{settingsInRange}
 use Rattle.section.proofs.Laws.{and-left, and-right}
 use Rattle.rules.specs.Demand3.{stateAfter}
 use Rattle.rules.specs.Judge.{judgeInRange, judge}
-use Rattle.rules.proofs.RangeLaw.{ranges-kept}
+use Rattle.rules.proofs.RangeLaw.{ranges-kept, judged-in-range}
 use Rattle.layout.specs.Layout.{stepAt}
 use Rattle.text.specs.Text.{written, firstTexts}
 use Rattle.text.proofs.Laws.{at-front, Putting, first-texts-whole, one-more-put}
@@ -46,10 +46,6 @@ module _ (first : Section) (steps : List ℕ) where
       → answer ≡ answerTo first steps i
   unfolding answerTo
   answered i s part answer e f g = g ∙ (rw (e, f))
-
-pub judged-in-range : (s : Section) (bytes : List ℕ) (after : Answer) → inRange s ≡ true → after ≡ judgeInRange s bytes → after ≡ judge s bytes
-unfolding judge
-judged-in-range s bytes after h e = rw h e
 
 pub range-kept : (s : Section) (bytes : List ℕ) (after : Answer) → inRange s ≡ true → after ≡ judgeInRange s bytes → inRange (after .section) ≡ true
 range-kept s bytes after h e = rw (judged-in-range s bytes after h e) (ranges-kept s bytes h)

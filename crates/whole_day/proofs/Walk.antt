@@ -18,6 +18,7 @@ use Rattle.section.specs.Settings.{settingsInRange}
 use Rattle.section.specs.Step.{decoded}
 use Rattle.section.proofs.Laws.{fresh-in-range}
 use Rattle.rules.specs.Judge.{judgeInRange}
+use Rattle.rules.proofs.RangeLaw.{judged-in-range}
 use Rattle.layout.specs.Layout.{stepAt}
 use Rattle.text.specs.Text.{written, firstTexts}
 use Rattle.section.specs.Words.{trackLetter}
@@ -28,7 +29,7 @@ use Rattle.judging.proofs.at_post.OnTrack.{malformed}
 use Rattle.whole_day.specs.Day.{sectionBefore, answerTo}
 use Rattle.whole_day.specs.Notes.{noteOn, notesOf}
 use Rattle.whole_day.specs.Rows.{freshPosts, settled, letterAt}
-use Rattle.whole_day.proofs.Laws.{step-after, answered, judged-in-range, range-kept, note-put}
+use Rattle.whole_day.proofs.Laws.{step-after, answered, range-kept, note-put}
 use Rattle.whole_day.proofs.Rows.{sectionIn, Two}
 
 -- after the first i steps

@@ -1,35 +1,32 @@
 use mathlib.Core.Path.{_∙_}
 use borrow.Author.Needs.{needs}
-use Rattle.section.proofs.Told.{told-false, told-true}
-use Rattle.engine.proofs.PreviewLaws.{out-of-range-is, after-in-range, in-range-is}
+use Rattle.engine.proofs.PreviewLaws.{out-of-range-is, answered-6, after-in-range, tried-is}
 use Rattle.engine.proofs.previews.preview.Statement.{statement}
 use Rattle.engine.proofs.previews.preview.Tie as tie
 
 returns : tie.Need-returns
-returns c = c .out-of-range .ensures ∙ out-of-range-is _ _ (told-false (c .before .before .in-range .ensures) (c .before .if1 .taken))
-
-judge-in-range-requires : tie.Need-judge-in-range-requires
-judge-in-range-requires c κs = told-true (c .before .in-range .ensures) (c .if1 .left)
+returns c =
+    let t = c .before in
+    let told = t .before in
+    c .out-of-range .ensures ∙ out-of-range-is _ _ (answered-6 _ _ (told .before .judge .ensures) (told .refusal-of .ensures) (t .if1 .taken))
 
 track-indications-requires : tie.Need-track-indications-requires
 track-indications-requires c κs =
-    let j = c .before in
-    let l = j .before in
-    after-in-range _ _ (told-true (l .before .in-range .ensures) (l .if1 .left)) (j .judge-in-range .ensures)
+    let l = c .before in
+    let told = l .before in
+    after-in-range _ _ (told .before .judge .ensures) (told .refusal-of .ensures) (l .if1 .left)
 
 track-indications-requires-2 : tie.Need-track-indications-requires-2
 track-indications-requires-2 c κs =
-    let j = c .before .before in
-    let l = j .before in
-    after-in-range _ _ (told-true (l .before .in-range .ensures) (l .if1 .left)) (j .judge-in-range .ensures)
+    let l = c .before .before in
+    let told = l .before in
+    after-in-range _ _ (told .before .judge .ensures) (told .refusal-of .ensures) (l .if1 .left)
 
 returns-2 : tie.Need-returns-2
 returns-2 c =
     let a = c .before in
-    let j = a .before .before in
-    let l = j .before in
-    in-range-is _ _ (told-true (l .before .in-range .ensures) (l .if1 .left)) (j .judge-in-range .ensures)
-    (a .track-indications .ensures) (c .track-indications2 .ensures)
+    let told = a .before .before .before in
+    tried-is _ _ (told .before .judge .ensures) (told .refusal-of .ensures) (a .track-indications .ensures) (c .track-indications2 .ensures)
 
 pub preview-spec : {M : Type 1} → statement M
 preview-spec =
@@ -37,8 +34,8 @@ preview-spec =
     (tie.spec
     (λ c κs. search needs)
     (λ c κs. search needs)
+    (λ c κs. search needs)
     returns
-    judge-in-range-requires
     track-indications-requires
     track-indications-requires-2
     returns-2)
