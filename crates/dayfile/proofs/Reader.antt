@@ -1,6 +1,6 @@
 -- The reader's answers, each by the tests that lead to it.
 use mathlib.Core.Path.{_≡_, refl}
-use mathlib.Core.Bool.{Bool, true, false, not, cond, _||_, true≢false}
+use mathlib.Core.Bool.{true, false, not, _||_}
 use mathlib.Core.List.{List}
 use Prim.Native.Nat.{ℕ, suc, _+_, _-_, _%_, _<_, _≤_}
 use native.Mathlib.Omega.{arith}
@@ -14,7 +14,7 @@ use Rattle.layout.specs.Layout.{mostSteps, settingsLength, shortestFile, settin
 use Rattle.layout.specs.Layout.{tailIn, settingsIn, stepsIn, settingsOf}
 use Rattle.layout.proofs.Parts.{steps-length}
 use Rattle.file_tests.specs.Tests.{lengthWrong, trailerFits, settingsWellFormed, someMalformed, firstMalformed}
-use Rattle.file_tests.proofs.Laws.{TrailerFits, trailer-fits}
+use Rattle.file_tests.proofs.Laws.{neither, past, TrailerFits, trailer-fits}
 use Rattle.dayfile.specs.Answers.{refusalNumber}
 use Rattle.dayfile.specs.Answers.{readVerdict, notRead, readOf}
 use Rattle.dayfile.specs.declared.Reading.the-variants.{Day, Refused}
@@ -26,10 +26,6 @@ pub record LengthRight (l : ℕ) : Type 0 where
   pub least : shortestFile ≤ l
   pub most : l ≤ longestFile
   pub whole : l % stepLength ≡ 0
-
-pub neither : (a b : Bool) → a || b ≡ false → (a ≡ false) × (b ≡ false)
-neither true b e = absurd (true≢false e)
-neither false b e = (refl, e)
 
 pub length-right : (l : ℕ) → lengthWrong l ≡ false → LengthRight l
 unfolding lengthWrong
@@ -87,11 +83,6 @@ module _ (file : List ℕ) (e₁ : lengthWrong (length file) ≡ false) where
       answer-day h = rw (e₁, e₂, ← eb, e₃, ← eo, ← es, ← ec, ← ef, le-ltb _ _ h)
 
 -- ## A file that is read
-
--- a test that was passed on the way to an answer that is not its own
-pub past : {A : Type 0} (b : Bool) (x y z : A) → (x ≡ z → ⊥) → cond b x y ≡ z → (b ≡ false) × (y ≡ z)
-past true x y z never e = absurd (never e)
-past false x y z never e = (refl, e)
 
 never-day : (k i n : ℕ) → Refused k i ≡ Day n → ⊥
 never-day k i n e = let z : _≡_ {A = ℕ} 0 1 = cc in omega arith

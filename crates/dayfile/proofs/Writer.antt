@@ -16,7 +16,7 @@ use Rattle.layout.specs.Layout.{mostSteps, settingsLength, stepsDistance, setti
 use Rattle.file_tests.specs.Tests.{firstMalformed, someMalformed}
 use Rattle.dayfile.specs.Answers.{writerRefusalNumber, writeVerdict, writtenInto}
 use Rattle.layout.proofs.Parts.{tail-of, settings-long}
-use Rattle.dayfile.proofs.Reader.{neither, past}
+use Rattle.file_tests.proofs.Laws.{neither, past}
 use Rattle.dayfile.specs.declared.Written.{Written}
 use Rattle.dayfile.specs.declared.Written.the-variants.{Bytes, Refused}
 

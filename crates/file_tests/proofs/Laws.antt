@@ -1,6 +1,6 @@
 -- The length of settings, a trailer that fits its file, the first number that fails a test, and the first malformed step.
 use mathlib.Core.Path.{_≡_, refl, sym, _∙_, ap}
-use mathlib.Core.Bool.{Bool, true, false, cond, true≢false}
+use mathlib.Core.Bool.{Bool, true, false, _||_, cond, true≢false}
 use mathlib.Core.List.{List}
 use Prim.Native.Nat.{ℕ, zero, suc, _+_, _-_, _*_, _/_, _<_, _≤_}
 use native.Mathlib.Nat.{not-suc-le-zero}
@@ -16,6 +16,17 @@ use Rattle.layout.specs.Layout.{mostSteps, settingsLength, settingsDistance, st
 use Rattle.layout.proofs.Parts.{steps-length}
 use Rattle.file_tests.specs.Tests.{lengthSuits, trailerWellFormed, trailerFits, zerosWellFormed, settingsWellFormed}
 use Rattle.file_tests.specs.Tests.{leading, wellAt, firstMalformed, someMalformed}
+
+-- ## Tests passed one after another
+
+pub neither : (a b : Bool) → a || b ≡ false → (a ≡ false) × (b ≡ false)
+neither true b e = absurd (true≢false e)
+neither false b e = (refl, e)
+
+-- a test that was passed on the way to an answer that is not its own
+pub past : {A : Type 0} (b : Bool) (x y z : A) → (x ≡ z → ⊥) → cond b x y ≡ z → (b ≡ false) × (y ≡ z)
+past true x y z never e = absurd (never e)
+past false x y z never e = (refl, e)
 
 -- ## Settings
 

@@ -49,6 +49,14 @@ ranges-kept s bytes r = go (judged (s .settings) s refl r bytes)
     go (refused k e) = rw e r
     go (accepted x d h e) = rw e (section-out (sectionAfterStep (s .settings) s x) (section-kept s x h (section-in s r)))
 
+-- a step leaves the settings
+pub settings-kept : (s : Section) (bytes : List ℕ) → inRange s ≡ true → judge s bytes .section .settings ≡ s .settings
+settings-kept s bytes r = go (judged (s .settings) s refl r bytes)
+  where
+    go : Judged (s .settings) s refl r bytes → judge s bytes .section .settings ≡ s .settings
+    go (refused k e) = rw e
+    go (accepted x d h e) = rw e (settings-after (s .settings) s x)
+
 -- ## In range, judging is judging by the bytes and the table
 
 pub judged-in-range : (s : Section) (bytes : List ℕ) (after : Answer) → inRange s ≡ true → after ≡ judgeInRange s bytes → after ≡ judge s bytes

@@ -1,72 +1,43 @@
--- The steps of a day and their notes.
-use Prim.Native.Nat.{ℕ, zero, suc, _+_, _*_, _≤_, _<_}
+-- The notes of a day.
+use Prim.Native.Nat.{ℕ, zero, suc, _*_, _≤_, _<_}
 use mathlib.Core.Bool.{Bool, true, false, _&&_}
-use mathlib.Core.List.{List, [], _∷_, _++_, append-assoc}
-use mathlib.Core.Path.{_≡_, refl, sym, _∙_, ap}
+use mathlib.Core.List.{List, _++_, append-assoc}
+use mathlib.Core.Path.{_≡_, refl, _∙_, ap}
 use native.Mathlib.Omega.{arith}
-use native.Mathlib.Numerals.{add-one}
 use borrow.Author.Tests.{ltb-true, ltb-false, leb-true, le-leb}
 use lib.Dec.{ltb, leb}
 use lib.ListN.{length, take, drop}
 use lib.Seq.{take-at, drop-at}
-use Rattle.section.specs.declared.Answer.{Answer}
 use Rattle.section.specs.declared.Section.{Section}
 use Rattle.section.specs.declared.Settings.{Settings}
 use Rattle.section.specs.Fresh.{freshSection}
 use Rattle.section.specs.Numbers.{stepLength}
 use Rattle.section.specs.Range.{inRange}
 use Rattle.section.specs.Settings.{settingsInRange}
-use Rattle.section.proofs.Laws.{and-left, and-right}
-use Rattle.rules.specs.Demand3.{stateAfter}
-use Rattle.rules.specs.Judge.{judgeInRange, judge}
-use Rattle.rules.proofs.RangeLaw.{ranges-kept, judged-in-range}
-use Rattle.layout.specs.Layout.{stepAt}
+use Rattle.section.proofs.Laws.{and-left, and-right, fresh-in-range}
 use Rattle.text.specs.Text.{written, firstTexts}
-use Rattle.text.proofs.Laws.{at-front, Putting, first-texts-whole, one-more-put}
+use Rattle.text.proofs.Laws.{at-front, first-texts-whole, same-texts}
 use Rattle.notes.specs.Note.{noteLength, note}
 use Rattle.notes.proofs.Laws.{note-length}
-use Rattle.whole_day.specs.Day.{sectionBefore, answerTo, offeredOf, DayIsOffered}
+use Rattle.judging_in_place.specs.declared.Entries.the-variants.{Notes}
+use Rattle.judging_in_place.specs.Offered.{answerTo}
+use Rattle.judging_in_place.specs.Entries.{entryWith, entryOf, entryOn, entriesOf}
 use Rattle.whole_day.specs.Notes.{noteOn, notesOf, canBeNoted, notesAfter}
 
--- ## The sections along a day
+-- ## A day begins in its ranges
 
-module _ (first : Section) (steps : List ℕ) where
-  pub in-range-before : inRange first ≡ true → (i : ℕ) → inRange (sectionBefore first steps i) ≡ true
-  unfolding sectionBefore
-  in-range-before r zero = r
-  in-range-before r (suc i) = ranges-kept (sectionBefore first steps i) (stepAt steps i) (in-range-before r i)
+pub started : (s : Section) (c : Settings) → s ≡ freshSection c → settingsInRange c ≡ true → inRange s ≡ true
+started s c e h = ap inRange e ∙ fresh-in-range c h
 
-  pub step-after : (i : ℕ) → answerTo first steps i .section ≡ sectionBefore first steps (i + 1)
-  unfolding answerTo sectionBefore
-  step-after i = rw (add-one i)
+-- ## What the walk keeps of a day are its notes
 
-  -- the code judges on the same section and the same bytes
-  pub answered :
-      (i : ℕ) (s : Section) (part : List ℕ) (answer : Answer) → s ≡ sectionBefore first steps i → part ≡ stepAt steps i → answer ≡ judge s part
-      → answer ≡ answerTo first steps i
-  unfolding answerTo
-  answered i s part answer e f g = g ∙ (rw (e, f))
+note-kept : (c : Settings) (steps : List ℕ) (i : ℕ) → entryOn Notes (freshSection c) steps i ≡ noteOn c steps i
+unfolding entryOn entryOf entryWith noteOn note
+note-kept c steps i = refl
 
-pub range-kept : (s : Section) (bytes : List ℕ) (after : Answer) → inRange s ≡ true → after ≡ judgeInRange s bytes → inRange (after .section) ≡ true
-range-kept s bytes after h e = rw (judged-in-range s bytes after h e) (ranges-kept s bytes h)
-
--- ## A day is a list that is offered
-
-state-append : (s : Section) (offered : List (List ℕ)) (bytes : List ℕ) → stateAfter s (offered ++ (bytes ∷ [])) ≡ judge (stateAfter s offered) bytes .section
-unfolding stateAfter
-state-append s [] bytes = refl
-state-append s (x ∷ offered) bytes = state-append (judge s x .section) offered bytes
-
-state-none : (s : Section) → s ≡ stateAfter s []
-unfolding stateAfter
-state-none s = refl
-
-pub day-is-offered : DayIsOffered
-unfolding sectionBefore offeredOf
-day-is-offered first steps zero = state-none first
-day-is-offered first steps (suc i) =
-    ap (λ (s : Section). judge s (stepAt steps i) .section) (day-is-offered first steps i)
-    ∙ sym (state-append first (offeredOf steps i) (stepAt steps i))
+pub notes-kept : (c : Settings) (steps : List ℕ) (count : ℕ) → entriesOf Notes (freshSection c) steps count ≡ notesOf c steps count
+unfolding entriesOf notesOf
+notes-kept c steps count = same-texts _ _ count (λ i h. note-kept c steps i)
 
 -- ## How long the notes are
 
@@ -76,21 +47,6 @@ note-on-length c steps i = note-length (answerTo _ steps i)
 
 pub notes-length : (c : Settings) (steps : List ℕ) (m : ℕ) → length (firstTexts (noteOn c steps) m) ≡ m * noteLength
 notes-length c steps m = first-texts-whole (noteOn c steps) noteLength m (note-on-length c steps)
-
--- ## One note more
-
-pub note-put :
-    (c : Settings) (steps lent : List ℕ) (count i : ℕ) {notes after : List ℕ} (answer : Answer) → i < count → noteLength * count ≤ length lent
-    → notes ≡ written lent 0 (firstTexts (noteOn c steps) i) → answer ≡ answerTo (freshSection c) steps i
-    → after ≡ written notes (i * noteLength) (note answer) → after ≡ written lent 0 (firstTexts (noteOn c steps) (i + 1))
-unfolding noteOn
-note-put c steps lent count i {notes} {after} answer more room noted told put =
-    let so-far : i * noteLength ≡ 0 + length (firstTexts (noteOn c steps) i) = omega (arith, notes-length c steps i) in
-    let one : Putting notes (i * noteLength) (noteOn c steps i) _ after = (
-      refl,
-      put ∙ ap (λ (a : Answer). written notes (i * noteLength) (note a)) told,
-    ) in
-    one-more-put (noteOn c steps) lent notes after 0 i (i * noteLength) _ (omega (arith, notes-length c steps i, room)) (so-far, noted) one .1
 
 -- ## The note of a step, among those of the day
 

@@ -1,3 +1,1 @@
-pub mod Day
 pub mod Notes
-pub mod Rows

@@ -1,26 +1,33 @@
--- By whether the day can be noted: then it has what the walk requires.
+-- By whether the day can be noted: then it has what the walk requires, and what the walk keeps are the day's notes.
 use borrow.Author.Needs.{needs}
 use denote.Ref.{now}
 use Rattle.section.proofs.Told.{told}
-use Rattle.whole_day.proofs.Laws.{day-fits, notes-written, notes-untouched}
+use Rattle.judging_in_place.specs.Entries.{entryLength}
+use Rattle.whole_day.proofs.Laws.{started, day-fits, notes-kept, notes-written, notes-untouched}
 use Rattle.whole_day.proofs.note_day.Statement.{statement}
 use Rattle.whole_day.proofs.note_day.Tie as tie
 
-note-from-requires : tie.Need-note-from-requires
-note-from-requires c κs =
+judge-steps-requires : tie.Need-judge-steps-requires
+unfolding entryLength
+judge-steps-requires c κs =
     let fresh = c .before in
     let then = fresh .before in
     let fits = day-fits _ _ _ _ (told (then .before .can-be-noted .ensures) (then .if1 .taken)) in
-    ((fits .settings-well, fresh .fresh-posts .ensures), (fits .steps-there, fits .notes-fit))
+    (started _ _ (fresh .fresh .ensures) (fits .settings-well), (fits .steps-there, fits .notes-fit))
 
 returns : tie.Need-returns
 returns c =
     let walked = c .before .before in
-    let then = walked .before .before .before in
+    let fresh = walked .before .before in
+    let then = fresh .before in
     let asked = then .before in
     let a = asked .before .before .before .args in
     let so = told (asked .can-be-noted .ensures) (then .if1 .taken) in
-    (asked .can-be-noted .ensures, rw (notes-written (a .c) (now (a .steps)) (a .count) (now (a .notes)) so) (walked .note-from .ensures))
+    (
+      asked .can-be-noted .ensures,
+      rw (notes-written (a .c) (now (a .steps)) (a .count) (now (a .notes)) so, ← notes-kept (a .c) (now (a .steps)) (a .count), ← fresh .fresh .ensures)
+      (walked .judge-steps .ensures .1),
+    )
 
 returns-2 : tie.Need-returns-2
 returns-2 c =
@@ -35,7 +42,7 @@ note-day-spec =
     (tie.spec
     (λ c κs. search needs)
     (λ c κs. search needs)
-    note-from-requires
+    judge-steps-requires
     (λ c. search needs)
     returns
     returns-2)

@@ -7,20 +7,22 @@ use Rattle.section.specs.declared.TrackStep.{TrackStep}
 use Rattle.section.specs.Numbers.{mostPosts}
 use Rattle.section.specs.Step.{decoded, postOf}
 use Rattle.section.proofs.Codec.{decoded-post-below}
-use Rattle.section.proofs.Laws.{posts-right}
+use Rattle.section.proofs.Laws.{posts-right, settings-in-range}
 use Rattle.layout.specs.Layout.{stepAt}
-use Rattle.whole_day.proofs.Rows.{two-after, in-ranges-at, judged-at}
-use Rattle.whole_day.proofs.Walk.{Walked, begins, note-fits, goes-on, passes-over, ends}
+use Rattle.judging_in_place.proofs.Rows.{taken-from, two-after, in-ranges-at, judged-at}
+use Rattle.judging_in_place.proofs.Walk.{Walked, begins, entry-fits, goes-on, passes-over, ends}
 use borrow.Author.Needs.{needs}
-use Rattle.whole_day.proofs.note_from.Statement.{statement}
-use Rattle.whole_day.proofs.note_from.Tie as tie
+use denote.Ref.{now}
+use Rattle.judging_in_place.specs.Rows.{sectionIn}
+use Rattle.judging_in_place.proofs.judge_steps.Statement.{statement}
+use Rattle.judging_in_place.proofs.judge_steps.Tie as tie
 
 abbrev Inv-loop : tie.InvT-loop
-Inv-loop c steps count lent posts₀ trains₀ last₀ running₀ i₀ notes posts trains last running i =
-    Walked c steps count lent posts trains last running notes i
+Inv-loop steps count entries lent c posts₀ trains₀ last₀ running₀ i₀ buffer posts trains last running i =
+    Walked (sectionIn posts₀ trains₀ last₀ running₀ c) entries steps count lent posts trains last running buffer i
 
 abbrev μ-loop : tie.MeasureT-loop
-μ-loop c steps count lent posts₀ trains₀ last₀ running₀ i₀ notes posts trains last running i = count - i
+μ-loop steps count entries lent c posts₀ trains₀ last₀ running₀ i₀ buffer posts trains last running i = count - i
 
 -- ## What the code knows once it has the place of a well-formed step's post
 
@@ -33,8 +35,21 @@ taken c = offered c .before
 abbrev looped : tie.After-place-of Inv-loop μ-loop → tie.At-loop Inv-loop μ-loop
 looped c = taken c .before .before
 
+abbrev entered : tie.After-running-in Inv-loop μ-loop → tie.Start Inv-loop μ-loop
+entered c = c .before .before .before .before .before .before .before
+
+-- the cells that the loop begins with are those of the section handed in
+first-cells :
+    (c : tie.After-running-in Inv-loop μ-loop)
+    → sectionIn (c .before .before .before .posts-in .result) (c .before .before .trains-in .result) (c .before .last-in .result) (c .running-in .result)
+    (entered c .args .s .settings)
+    ≡ entered c .args .s
+first-cells c =
+    taken-from (entered c .args .s) (c .before .before .before .posts-in .ensures) (c .before .before .trains-in .ensures) (c .before .last-in .ensures)
+    (c .running-in .ensures)
+
 abbrev start : tie.After-place-of Inv-loop μ-loop → tie.Start Inv-loop μ-loop
-start c = looped c .before .before .before .before
+start c = entered (looped c .before)
 
 abbrev step : tie.After-place-of Inv-loop μ-loop → TrackStep
 step c = c .before .before .before .d .given .0 .0
@@ -44,13 +59,13 @@ more c = taken c .before .loop-test .taken
 
 says :
     (c : tie.After-place-of Inv-loop μ-loop)
-    → decoded (start c .args .c .posts) (stepAt (start c .args .steps .now) (looped c .loop .i)) ≡ Well (step c)
+    → decoded (start c .args .s .settings .posts) (stepAt (start c .args .steps .now) (looped c .loop .i)) ≡ Well (step c)
 says c =
     ap (decoded _) (sym (taken c .step-at .ensures)) ∙ sym (offered c .decode .ensures) ∙ c .before .before .before .d .given .1
 
 -- the posts of a track are 16
 post-among : (c : tie.After-place-of Inv-loop μ-loop) → postOf (step c .step) < mostPosts
-post-among c = omega (arith, decoded-post-below _ _ (step c) (says c), posts-right (start c .args .c) (start c .pre .0 .0))
+post-among c = omega (arith, decoded-post-below _ _ (step c) (says c), posts-right (start c .args .s .settings) (settings-in-range (start c .args .s) (start c .pre .0)))
 
 -- the tracks are two
 row-among : (c : tie.After-place-of Inv-loop μ-loop) → c .before .row-of .result < 2
@@ -66,16 +81,21 @@ placed c = judged c .before .before .before .before .before .before
 
 loop-holds : tie.Need-loop-holds Inv-loop μ-loop
 loop-holds c =
-    let entry = c .before .before .before in
-    rw (c .both-settled .ensures) (begins _ _ _ _ _ (entry .pre .0 .0) (entry .pre .0 .1) (entry .pre .1 .1))
+    let lasts = c .before in
+    let trains = lasts .before in
+    let posts = trains .before in
+    let entry = entered c in
+    let a = entry .args in
+    rw (c .running-in .ensures, lasts .last-in .ensures, trains .trains-in .ensures, posts .posts-in .ensures)
+    (begins (a .s) (a .entries) (now (a .steps)) (a .count) (now (a .buffer)) (entry .pre .0) (entry .pre .1 .1))
 
 step-at-requires : tie.Need-step-at-requires Inv-loop μ-loop
 step-at-requires c κs = omega arith
 
-note-verdict-requires : tie.Need-note-verdict-requires Inv-loop μ-loop
-note-verdict-requires c κs =
+put-entry-requires : tie.Need-put-entry-requires Inv-loop μ-loop
+put-entry-requires c κs =
     let in-loop = c .before .before .before .before .before in
-    note-fits (in-loop .before .loop .inv) (in-loop .loop-test .taken)
+    entry-fits (in-loop .before .loop .inv) (in-loop .loop-test .taken)
 
 add-i : tie.Need-add-i Inv-loop μ-loop
 add-i c = omega arith
@@ -92,7 +112,7 @@ loop-again c =
     let in-loop = taken .before in
     passes-over (in-loop .before .loop .inv) (in-loop .loop-test .taken)
     (ap (decoded _) (sym (taken .step-at .ensures)) ∙ sym (decode .decode .ensures) ∙ told .enum-told .given .1)
-    (noted .note-verdict .ensures) (noted .note-verdict .kept .0)
+    (noted .put-entry .ensures) (noted .put-entry .kept .1 .0)
 
 mul-judge-at-post : tie.Need-mul-judge-at-post Inv-loop μ-loop
 mul-judge-at-post c = omega (arith, row-among c)
@@ -149,10 +169,10 @@ index-2-own c = let place = placed c in omega (arith, place .place-of .ensures, 
 mul-running : tie.Need-mul-running Inv-loop μ-loop
 mul-running c = omega (arith, row-among (placed c))
 
-note-verdict-requires-2 : tie.Need-note-verdict-requires-2 Inv-loop μ-loop
-note-verdict-requires-2 c κs =
+put-entry-requires-2 : tie.Need-put-entry-requires-2 Inv-loop μ-loop
+put-entry-requires-2 c κs =
     let place = placed (c .before) in
-    note-fits (looped place .loop .inv) (more place)
+    entry-fits (looped place .loop .inv) (more place)
 
 add-i-2 : tie.Need-add-i-2 Inv-loop μ-loop
 add-i-2 c = let place = placed (c .before .before .before .before) in omega (arith, more place, start place .fits .count)
@@ -169,28 +189,33 @@ loop-again-2 c =
     let left =
     judged-at (l .posts) (l .trains) (l .last) (l .running) _ _ (step place) (says place) (place .before .row-of .ensures .0) (place .place-of .ensures)
     (l .inv .two) (judge .judge-at-post .ensures .0) (judge .judge-at-post .ensures .1 .0) (judge .judge-at-post .ensures .1 .1) in
-    goes-on (l .inv) _ _ _ _ _ _ (more place) left (noted .note-verdict2 .ensures) (noted .note-verdict2 .kept .0)
+    goes-on (l .inv) _ _ _ _ _ _ (more place) left (noted .put-entry2 .ensures) (noted .put-entry2 .kept .1 .0)
     (two-after _ _ _ _ _ (l .inv .two) _ _ _ _ _)
 
 same-length : tie.Need-same-length Inv-loop μ-loop
-same-length c = c .before .loop .inv .same-length
+same-length c = c .before .before .loop .inv .same-length
 
 returns : tie.Need-returns Inv-loop μ-loop
-returns c = ends (c .before .loop .inv) (c .loop-test .left)
+returns c =
+    let at-loop = c .before .before in
+    rw (first-cells (at-loop .before)) at (ends (at-loop .loop .inv) (c .before .loop-test .left) (c .section-in .ensures))
 
-pub note-from-spec : {M : Type 1} → statement M
-note-from-spec =
+pub judge-steps-spec : {M : Type 1} → statement M
+judge-steps-spec =
     tie.close
     (tie.spec
     Inv-loop
     μ-loop
+    (λ c κs. search needs)
+    (λ c κs. search needs)
+    (λ c κs. search needs)
     (λ c κs. search needs)
     loop-holds
     step-at-requires
     (λ c κs. search needs)
     (λ c. search needs)
     (λ c. search needs)
-    note-verdict-requires
+    put-entry-requires
     add-i
     loop-less
     loop-again
@@ -216,9 +241,10 @@ note-from-spec =
     index-2-own
     mul-running
     (λ c. search needs)
-    note-verdict-requires-2
+    put-entry-requires-2
     add-i-2
     loop-less-2
     loop-again-2
+    (λ c κs. search needs)
     same-length
     returns)

@@ -1,4 +1,4 @@
--- The steps of a day, offered one after another.
+-- Steps offered one after another, from any section.
 use Prim.Native.Nat.{ℕ, zero, suc}
 use mathlib.Core.Path.{_≡_}
 use mathlib.Core.List.{List, [], _∷_, _++_}
@@ -21,6 +21,6 @@ unfoldable pub offeredOf : List ℕ → ℕ → List (List ℕ)
 offeredOf steps zero = []
 offeredOf steps (suc i) = offeredOf steps i ++ (stepAt steps i ∷ [])
 
--- so the theorems over lists hold along every day (`day-is-offered`, proofs/Laws.antt)
-abbrev pub DayIsOffered : Type 0
-DayIsOffered = (first : Section) (steps : List ℕ) (i : ℕ) → sectionBefore first steps i ≡ stateAfter first (offeredOf steps i)
+-- so the theorems over lists hold along them (`steps-are-offered`, proofs/Laws.antt)
+abbrev pub StepsAreOffered : Type 0
+StepsAreOffered = (first : Section) (steps : List ℕ) (i : ℕ) → sectionBefore first steps i ≡ stateAfter first (offeredOf steps i)

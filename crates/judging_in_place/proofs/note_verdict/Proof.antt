@@ -1,6 +1,6 @@
 use borrow.Author.Needs.{needs}
-use Rattle.whole_day.proofs.note_verdict.Statement.{statement}
-use Rattle.whole_day.proofs.note_verdict.Tie as tie
+use Rattle.judging_in_place.proofs.note_verdict.Statement.{statement}
+use Rattle.judging_in_place.proofs.note_verdict.Tie as tie
 
 returns : tie.Need-returns
 returns c =

@@ -25,21 +25,13 @@ use Rattle.site.specs.InItsRanges.{InItsRanges}
 use Rattle.judging.specs.declared.at_post.PostAnswer.{PostAnswer}
 use Rattle.judging.specs.AtPost.{judgedAtPost, trainsAt, lastAt, trackAt}
 use Rattle.judging.proofs.at_post.OnTrack.{site-in, step-judged, in-ranges, judged}
-use Rattle.whole_day.specs.Rows.{row, settled}
+use Rattle.judging_in_place.specs.Rows.{row, postsIn, trainsIn, lastIn, runningIn, settled, trackIn, sectionIn}
 
--- the section whose cells they are
-module _ (posts : List (List Post)) (trains last : List (List ℕ)) (running : List Running) where
-  abbrev pub trackIn : ℕ → Track
-  trackIn k = record {
-    posts = getD posts k [];
-    trains = getD trains k [];
-    last = getD last k [];
-    cvt = getD running k settled .cvt;
-    walk = getD running k settled .walk;
-  }
-
-  abbrev pub sectionIn : Settings → Section
-  sectionIn c = record { settings = c; a = trackIn 0; b = trackIn 1 }
+-- the cells taken from a section are its cells
+pub taken-from :
+    (s : Section) {posts : List (List Post)} {trains last : List (List ℕ)} {running : List Running} → posts ≡ postsIn s → trains ≡ trainsIn s
+    → last ≡ lastIn s → running ≡ runningIn s → sectionIn posts trains last running (s .settings) ≡ s
+taken-from s ep et el er = rw (ep, et, el, er) refl
 
 -- a write to the place of a track changes nothing at the other's
 module _ {A : Type 0} (l : List A) (v d : A) (two : length l ≡ 2) where

@@ -1,0 +1,116 @@
+-- The outcomes of a call with the section and the buffer afterwards, each by the tests that lead to it, and what a call that is done has passed.
+use Prim.Native.Nat.{ℕ, _*_, _<_, _≤_}
+use mathlib.Core.Bool.{Bool, true, false, not, _||_}
+use mathlib.Core.List.{List}
+use mathlib.Core.Path.{_≡_, refl, sym, ap}
+use native.Mathlib.Omega.{arith}
+use borrow.Author.Tests.{lt-ltb, le-ltb, ltb-false, not-false}
+use lib.Dec.{ltb}
+use lib.ListN.{length}
+use Rattle.section.specs.declared.Section.{Section}
+use Rattle.section.specs.Numbers.{stepLength}
+use Rattle.section.specs.Range.{inRange}
+use Rattle.layout.specs.Layout.{mostSteps, stepCount}
+use Rattle.file_tests.specs.Tests.{firstMalformed, someMalformed}
+use Rattle.file_tests.proofs.Laws.{neither, past, all-whole}
+use Rattle.text.specs.Text.{written}
+use Rattle.notes.specs.Note.{answerLength}
+use Rattle.judging_in_place.specs.declared.Entries.the-variants.{Answers}
+use Rattle.judging_in_place.specs.Offered.{sectionBefore}
+use Rattle.judging_in_place.specs.Entries.{entriesOf}
+use Rattle.run.specs.declared.Outcome.{Outcome}
+use Rattle.run.specs.declared.Outcome.the-variants.{Done, Refused}
+use Rattle.run.specs.declared.RunAnswer.{RunAnswer}
+use Rattle.run.specs.Run.{tooMuch, outcomeOf, sectionLeft, answersLeft, runOf, answersAfter}
+
+-- no step is malformed, so they are whole
+pub whole-steps :
+    (n : ℕ) (steps : List ℕ) {count first : ℕ} → count ≡ stepCount steps → first ≡ firstMalformed n steps → count ≤ first
+    → stepLength * count ≤ length steps
+unfolding someMalformed
+whole-steps n steps ec ef h = omega (arith, all-whole n steps (rw (← ec, ← ef) (le-ltb _ _ h)), ec)
+
+-- ## A call that is refused, and one that is done
+
+module _ (s : Section) (steps buffer : List ℕ) where
+  -- the answer, and the buffer afterwards
+  abbrev pub Ran : RunAnswer → List ℕ → Type 0
+  Ran answer after = (answer ≡ runOf s steps (length buffer)) × (after ≡ answersAfter s steps buffer)
+
+  -- a refusal leaves the section and the buffer as they came
+  refused :
+      {answer : RunAnswer} {k i : ℕ} → answer ≡ record { outcome = Refused k i; section = s } → outcomeOf s steps (length buffer) ≡ Refused k i
+      → Ran answer buffer
+  unfolding runOf sectionLeft answersAfter answersLeft
+  refused told e = (rw (e, told), rw e)
+
+  pub answer-6 : {answer : RunAnswer} → answer ≡ record { outcome = Refused 6 0; section = s } → inRange s ≡ false → Ran answer buffer
+  unfolding outcomeOf
+  answer-6 told e = refused told (rw e)
+
+  module _ {count first : ℕ} (ec : count ≡ stepCount steps) (ef : first ≡ firstMalformed (s .settings .posts) steps) (e₆ : inRange s ≡ true) where
+    pub answer-4 : {answer : RunAnswer} → answer ≡ record { outcome = Refused 4 first; section = s } → first < count → Ran answer buffer
+    unfolding outcomeOf someMalformed
+    answer-4 told h = refused told (rw (e₆, ← ec, ← ef, lt-ltb _ _ h))
+
+    module _ (h₄ : count ≤ first) where
+      pub answer-5-many : {answer : RunAnswer} → answer ≡ record { outcome = Refused 5 0; section = s } → mostSteps < count → Ran answer buffer
+      unfolding outcomeOf someMalformed tooMuch
+      answer-5-many told h = refused told (rw (e₆, ← ec, ← ef, le-ltb _ _ h₄, lt-ltb _ _ h))
+
+      module _ (h₅ : count ≤ mostSteps) where
+        pub answer-5-short :
+            {answer : RunAnswer} → answer ≡ record { outcome = Refused 5 0; section = s } → length buffer < answerLength * count → Ran answer buffer
+        unfolding outcomeOf someMalformed tooMuch
+        answer-5-short told h = refused told (rw (e₆, ← ec, ← ef, le-ltb _ _ h₄, le-ltb _ _ h₅, lt-ltb _ _ h))
+
+        done-so : answerLength * count ≤ length buffer → outcomeOf s steps (length buffer) ≡ Done count
+        unfolding outcomeOf someMalformed tooMuch
+        done-so h = rw (e₆, ← ec, ← ef, le-ltb _ _ h₄, le-ltb _ _ h₅, le-ltb _ _ h)
+
+        pub answer-done :
+            {after : List ℕ} {left : Section} → answerLength * count ≤ length buffer → left ≡ sectionBefore s steps count
+            → after ≡ written buffer 0 (entriesOf Answers s steps count) → Ran (record { outcome = Done count; section = left }) after
+        unfolding runOf sectionLeft answersAfter answersLeft
+        answer-done h el ea = (rw (done-so h, el), rw (done-so h) ea)
+
+-- ## What a call that is done has passed
+
+never-done : (k i n : ℕ) → Refused k i ≡ Done n → ⊥
+never-done k i n e = let z : _≡_ {A = ℕ} 0 1 = cc in omega arith
+
+same-count : (m n : ℕ) → Done m ≡ Done n → m ≡ n
+same-count m n e = cc
+
+pub record IsDone (s : Section) (steps : List ℕ) (room count : ℕ) : Type 0 where
+  pub range : inRange s ≡ true
+  pub steps-well : someMalformed (s .settings .posts) steps ≡ false
+  pub few : count ≤ mostSteps
+  pub fits : answerLength * count ≤ room
+  pub counted : stepCount steps ≡ count
+
+pub is-done : (s : Section) (steps : List ℕ) (room count : ℕ) → outcomeOf s steps room ≡ Done count → IsDone s steps room count
+unfolding outcomeOf tooMuch
+is-done s steps room count e =
+    let n = stepCount steps in
+    let first = firstMalformed (s .settings .posts) steps in
+    let a = past (not (inRange s)) (Refused 6 0) _ (Done count) (never-done 6 0 count) e in
+    let b = past (someMalformed (s .settings .posts) steps) (Refused 4 first) _ (Done count) (never-done 4 first count) (a .1) in
+    let d = past (ltb mostSteps n || ltb room (answerLength * n)) (Refused 5 0) (Done n) (Done count) (never-done 5 0 count) (b .1) in
+    let counted = same-count n count (d .1) in
+    let enough = neither (ltb mostSteps n) (ltb room (answerLength * n)) (d .0) in
+    record {
+      range = not-false _ (a .0);
+      steps-well = b .0;
+      few = omega (arith, ltb-false mostSteps n (enough .0), counted);
+      fits = omega (arith, ltb-false room (answerLength * n) (enough .1), counted);
+      counted = counted;
+    }
+
+-- and the other way
+pub done : (s : Section) (steps : List ℕ) (room count : ℕ) → IsDone s steps room count → outcomeOf s steps room ≡ Done count
+unfolding outcomeOf tooMuch
+done s steps room count d =
+    let few : stepCount steps ≤ mostSteps = omega (arith, d .few, d .counted) in
+    let fits : answerLength * stepCount steps ≤ room = omega (arith, d .fits, d .counted) in
+    rw (d .range, d .steps-well, le-ltb _ _ few, le-ltb _ _ fits) (ap Done (d .counted))
