@@ -155,12 +155,9 @@ fn settings_of(bytes: &[u8], mark: Mark) -> Option<Settings> {
     Settings::decode(*settings, crossings)
 }
 
-/// An incomplete step at the end has the wrong length, so it is malformed too.
+/// An incomplete step at the end is malformed too.
 fn check_steps(steps: &[u8], n: u8) -> Result<(), Refusal> {
-    let malformed = steps
-        .chunks(STEP_LENGTH)
-        .position(|bytes| step::decode(bytes, n).is_none());
-    match malformed {
+    match step::first_malformed(steps, n) {
         Some(index) => Err(Refusal {
             number: 4,
             index: index as u32,

@@ -5,7 +5,7 @@ use crate::section::{
     MOST_SEALS, NO_REVERSAL, SET,
 };
 use crate::settings::{Settings, TELEPHONE};
-use crate::step::{self, Step};
+use crate::step::{self, Step, STEP_LENGTH};
 use crate::way::{ends_stretch, opposite, Way, CVT, VNS};
 
 pub const SAID_NOTHING: u8 = 0;
@@ -42,15 +42,25 @@ pub fn judge_in_place(section: &mut Section, step_bytes: &[u8]) -> (u8, u8) {
 
 /// The same, for a section that is known to be in range, as every one that is reached from fresh.
 pub fn judge_in_range(section: &mut Section, step_bytes: &[u8]) -> (u8, u8) {
-    match try_step(section, step_bytes) {
-        Ok(said) => (0, said),
-        Err(refusal) => (refusal, SAID_NOTHING),
+    match step::decode(step_bytes, section.settings.n) {
+        Some((track, step)) => take(section, track, step),
+        None => (4, SAID_NOTHING),
     }
 }
 
-fn try_step(section: &mut Section, step_bytes: &[u8]) -> Result<u8, u8> {
-    let (track, step) = step::decode(step_bytes, section.settings.n).ok_or(4)?;
-    JudgedTrack::of(section, usize::from(track)).take(step)
+/// The same, for a step that is known to be well-formed in that section too.
+#[inline]
+pub fn judge_well_formed(section: &mut Section, step_bytes: &[u8; STEP_LENGTH]) -> (u8, u8) {
+    let (track, step) = step::decode_well_formed(step_bytes);
+    take(section, track, step)
+}
+
+#[inline]
+fn take(section: &mut Section, track: u8, step: Step) -> (u8, u8) {
+    match JudgedTrack::of(section, usize::from(track)).take(step) {
+        Ok(said) => (0, said),
+        Err(refusal) => (refusal, SAID_NOTHING),
+    }
 }
 
 fn refuse_if(hindered: bool, refusal: u8) -> Result<(), u8> {

@@ -2,6 +2,7 @@
 
 use reference::engine::judge;
 use reference::generate::{self, Rng};
+use reference::run::{run, Outcome};
 use reference::section::{holds_train, Section};
 use reference::settings::{Settings, MATERIALISED};
 use reference::step::{decode, encode, Step};
@@ -10,6 +11,7 @@ use std::collections::BTreeMap;
 
 const DAYS: usize = 6_000;
 const DAYS_WITHOUT_SIGNALS: usize = 4_000;
+const DAYS_IN_RUNS: usize = 1_500;
 
 /// One accepted step with its place in the list and what it said.
 #[derive(Clone, Copy, Debug, PartialEq, Eq)]
@@ -130,6 +132,81 @@ fn demand_3_with_posts_without_signals() {
     );
 }
 
+/// Days offered as runs of steps (request 4). What a refused call holds is offered by the next
+/// ones, up to its malformed step and after it.
+#[test]
+fn demand_3_of_days_offered_as_runs() {
+    let mut rng = Rng::new(34);
+    let mut tally = Tally::default();
+    let (mut calls, mut refused_calls) = (0, 0);
+    for _ in 0..DAYS_IN_RUNS {
+        let settings = generate::random_settings(&mut rng);
+        let mut list = random_list(&mut rng, settings);
+        list.retain(|step| step.len() == 8);
+        let mut accepted = Vec::new();
+        let mut section = Section::fresh(settings);
+        let mut place = 0;
+        while place < list.len() {
+            let length = rng.between(0, 60).min(list.len() - place);
+            calls += 1;
+            let first_malformed = take_run(&mut section, &list, place, length, &mut accepted);
+            place += match first_malformed {
+                None => length,
+                Some(index) => {
+                    refused_calls += 1;
+                    take_run(&mut section, &list, place, index, &mut accepted);
+                    index + 1
+                }
+            };
+        }
+        assert_eq!((accepted.clone(), section), walk(&list, settings));
+        tally.offered += list.len();
+        check_walked(accepted, section, &mut tally);
+    }
+    println!(
+        "days {DAYS_IN_RUNS}, calls {calls} (refused {refused_calls}), steps offered {}, accepted \
+         {}, days at rest in the end {}, days that needed a reordering {}",
+        tally.offered, tally.accepted, tally.days_at_rest, tally.reordered
+    );
+    assert!(calls > 2 * DAYS_IN_RUNS, "too few calls a day");
+    assert!(refused_calls > 0, "no call was refused");
+    assert!(tally.accepted < tally.offered, "every step was accepted");
+    assert!(tally.ended_runs > 0, "no train's run ended");
+    assert!(tally.reordered > 0, "no day needed a reordering");
+}
+
+/// Offers as many steps of the list in one call; the index in the call of its first malformed
+/// step if it is refused.
+fn take_run(
+    section: &mut Section,
+    list: &[Vec<u8>],
+    place: usize,
+    length: usize,
+    accepted: &mut Vec<Accepted>,
+) -> Option<usize> {
+    let steps = &list[place..place + length];
+    let mut answers = vec![0; 2 * length];
+    match run(section, &steps.concat(), &mut answers) {
+        Outcome::Refused { refusal, index } => {
+            assert_eq!(refusal, 4);
+            return Some(index);
+        }
+        Outcome::Done(count) => assert_eq!(count, length),
+    }
+    for (i, answer) in answers.chunks(2).enumerate() {
+        if answer[0] == 0 {
+            let (track, step) = decode(&steps[i], section.settings.n).unwrap();
+            accepted.push(Accepted {
+                place: place + i,
+                track: track.into(),
+                step,
+                said: answer[1],
+            });
+        }
+    }
+    None
+}
+
 /// Materialised, three posts or more, at least one between the ends without signals.
 fn settings_without_signals(rng: &mut Rng) -> Settings {
     loop {
@@ -186,6 +263,11 @@ fn check_day(rng: &mut Rng, tally: &mut Tally) {
 fn check_list(list: &[Vec<u8>], settings: Settings, tally: &mut Tally) {
     let (accepted, end) = walk(list, settings);
     tally.offered += list.len();
+    check_walked(accepted, end, tally);
+}
+
+fn check_walked(accepted: Vec<Accepted>, end: Section, tally: &mut Tally) {
+    let settings = end.settings;
     tally.accepted += accepted.len();
     count_forms(&accepted, settings, tally);
     count_reversing(&accepted, settings, tally);

@@ -15,10 +15,14 @@ unfoldable pub packedReading : Reading → ℕ
 packedReading (Day count) = count
 packedReading (Refused number index) = number * 65536 + index
 
--- the refusal, and 256 × the file's length or the refusal's index, of which the lowest 32 bits are kept
+-- a refusal, 0 for none, and 256 × a figure, of which the lowest 32 bits are kept
+unfoldable pub packedFigure : ℕ → ℕ → ℕ
+packedFigure number figure = number + figure % 2 ^ 32 * 256
+
+-- the figure is the file's length or the refusal's index
 unfoldable pub packedWritten : Written → ℕ
-packedWritten (Bytes size) = size % 2 ^ 32 * 256
-packedWritten (NotWritten number index) = number + index % 2 ^ 32 * 256
+packedWritten (Bytes size) = packedFigure 0 size
+packedWritten (NotWritten number index) = packedFigure number index
 
 -- the refusal, and 256 × what is said
 unfoldable pub packedVerdict : Verdict → ℕ

@@ -1,7 +1,7 @@
 // What the C interface takes and returns: settings in a day file's bytes, and answers packed into one number.
 ghost use mathlib.Core.Path.{_≡_};
 ghost use Prim.Native.Nat.{_<_, _≤_, _^_};
-ghost use Rattle.packed.specs.Packed.{packedReading, packedWritten, packedVerdict, packedIndications, packedCopied};
+ghost use Rattle.packed.specs.Packed.{packedReading, packedFigure, packedWritten, packedVerdict, packedIndications, packedCopied};
 ghost use Rattle.packed.specs.Settings.{lentSettingsWellFormed};
 use dayfile::Reading;
 use dayfile::Written;
@@ -30,13 +30,20 @@ pub fn packed_reading(reading: Reading) -> u32
     }
 }
 
+// A refusal, 0 for none, and a figure beside it, of which the lowest 32 bits are kept.
+pub fn packed_figure(number: u8, figure: usize) -> u64
+    ensures { λ r. ⌜ r ≡ packedFigure number figure ⌝ }
+{
+    (number as u64) + ((figure % 4294967296) as u64) * 256
+}
+
 // The refusal, and the file's length or the refusal's index.
 pub fn packed_written(done: Written) -> u64
     ensures { λ r. ⌜ r ≡ packedWritten done ⌝ }
 {
     match done {
-        Written::Bytes(size) => ((size % 4294967296) as u64) * 256,
-        Written::Refused(number, index) => (number as u64) + ((index % 4294967296) as u64) * 256,
+        Written::Bytes(size) => packed_figure(0, size),
+        Written::Refused(number, index) => packed_figure(number, index),
     }
 }
 
