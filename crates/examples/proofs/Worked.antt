@@ -15,7 +15,7 @@ use Rattle.rules.proofs.Days.{offeredAs, refusals, fresh}
 use Rattle.text.specs.Text.{decimalDigits, decimal, firstTexts}
 use Rattle.lines.specs.Lines.{word, refusedLine, header, verdictFields, fields, stepLine}
 use Rattle.panel_lines.specs.PanelLine.{postField, postFields, trackName, panelFields, panelLine}
-use Rattle.whole_day.specs.Day.{sectionBefore, answerTo}
+use Rattle.judging_in_place.specs.Offered.{sectionBefore, answerTo}
 use Rattle.sheets.specs.Printed.{lines, printedRead, printed}
 use Rattle.listing.specs.Listing.{listing}
 use Rattle.listing.specs.Panel.{panel}

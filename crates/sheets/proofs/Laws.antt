@@ -1,12 +1,12 @@
 -- The lines of a day: how long they are, and what the loop over the steps keeps.
 use Prim.Native.Nat.{ℕ, _+_, _*_, _<_, _≤_}
 use mathlib.Core.Bool.{true}
-use mathlib.Core.Path.{_≡_, refl, _∙_, ap}
+use mathlib.Core.Path.{_≡_, refl, sym, _∙_, ap, ap₂}
 use mathlib.Core.List.{List}
 use native.Mathlib.Omega.{arith}
 use native.Mathlib.Nat.{mul-suc, mul-le-mul-left}
-use lib.ListN.{length, drop, length-drop, length-append}
-use lib.Seq.{length-take-le}
+use lib.ListN.{length, take, drop, length-drop, length-append}
+use lib.Seq.{length-take-le, take-length}
 use Rattle.section.specs.declared.Answer.{Answer}
 use Rattle.section.specs.declared.Section.{Section}
 use Rattle.section.specs.declared.Settings.{Settings}
@@ -30,9 +30,10 @@ use Rattle.text.specs.Text.{written, firstTexts}
 use Rattle.lines.specs.Lines.{refusedLine, stepLine}
 use Rattle.text.proofs.Laws.{Putting, first-texts-length, same-texts}
 use Rattle.lines.proofs.Puts.{refused-length, header-length, fields-length}
-use Rattle.whole_day.specs.Day.{sectionBefore, answerTo}
+use Rattle.judging_in_place.specs.Offered.{sectionBefore, answerTo}
 use Rattle.whole_day.specs.Notes.{noteOn, notesOf}
-use Rattle.whole_day.proofs.Laws.{in-range-before, note-written}
+use Rattle.judging_in_place.proofs.Laws.{in-range-before}
+use Rattle.whole_day.proofs.Laws.{note-written}
 use Rattle.lines.specs.Noted.{notedLine, noteAt, notedLines}
 use Rattle.lines.proofs.listing.Laws.{line-noted}
 use Rattle.panel_lines.specs.PanelLine.{panelFields, panelLine, panelLineRoom}
@@ -41,8 +42,6 @@ use Rattle.sheets.specs.declared.Sheet.{Sheet}
 use Rattle.sheets.specs.declared.Sheet.the-variants.{Listing, Panel}
 use Rattle.sheets.specs.Printed.{lines, printedRead, printed}
 use Rattle.sheets.specs.Sheet.{lineOn, lineRoom, room}
-
--- ## The ranges along a day
 
 -- ## How long a line and a sheet are
 
@@ -101,20 +100,30 @@ module _ (first : Section) (steps : List ℕ) (r : inRange first ≡ true) where
   one-more-fits i count at room h all =
       omega (arith, lines-length i, rw (mul-suc panelLineRoom i) at (mul-le-mul-left panelLineRoom h))
 
--- the code puts the line of the same answer
+-- the code puts the line of the same section
 pub line-put :
-    (first : Section) (steps : List ℕ) (i : ℕ) (part : List ℕ) (answer : Answer) (m k : List ℕ) (r q : ℕ)
-    → part ≡ stepAt steps i → answer ≡ answerTo first steps i → Putting m r (panelFields i (byte part 1) (answer .section)) q k
+    (first : Section) (steps : List ℕ) (i : ℕ) (part : List ℕ) (after : Section) (m k : List ℕ) (r q : ℕ)
+    → part ≡ stepAt steps i → after ≡ answerTo first steps i .section → Putting m r (panelFields i (byte part 1) after) q k
     → Putting m r (lineAt first steps i) q k
 unfolding panelLine
-line-put first steps i part answer m k r q e f p = rw (e, f) at p
+line-put first steps i part after m k r q e f p = rw (e, f) at p
 
 pub step-length : (steps : List ℕ) (i count : ℕ) → i < count → stepLength * count ≤ length steps → length (stepAt steps i) ≡ stepLength
 unfolding stepAt
 step-length steps i count h l = length-take-le 8 (drop (i * 8) steps) (simp length-drop (omega arith))
 
-pub started : (s : Section) (c : Settings) → s ≡ freshSection c → settingsInRange c ≡ true → inRange s ≡ true
-started s c e h = ap inRange e ∙ fresh-in-range c h
+-- a walk of one step
+alone : (part : List ℕ) → length part ≡ stepLength → stepAt part 0 ≡ part
+unfolding stepAt
+alone part e = ap (λ (k : ℕ). take k part) (sym e) ∙ take-length part
+
+pub one-step :
+    (first : Section) (steps : List ℕ) (i : ℕ) {s after : Section} {part : List ℕ} → s ≡ sectionBefore first steps i → part ≡ stepAt steps i
+    → length part ≡ stepLength → after ≡ sectionBefore s part 1 → after ≡ answerTo first steps i .section
+unfolding sectionBefore answerTo
+one-step first steps i {s} {after} {part} es ep long walked =
+    walked ∙ (ap (λ (bytes : List ℕ). judge s bytes .section) (alone part long)
+    ∙ ap₂ (λ (t : Section) (bytes : List ℕ). judge t bytes .section) es ep)
 
 -- ## A file that is read
 

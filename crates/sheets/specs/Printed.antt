@@ -11,7 +11,7 @@ use Rattle.dayfile.specs.declared.Reading.{Reading}
 use Rattle.dayfile.specs.declared.Reading.the-variants.{Day, Refused}
 use Rattle.text.specs.Text.{firstTexts}
 use Rattle.lines.specs.Lines.{refusedLine, header}
-use Rattle.whole_day.specs.Day.{answerTo}
+use Rattle.judging_in_place.specs.Offered.{answerTo}
 
 -- a line per step: `line` gives it from the step's index, its bytes and the answer to it
 unfoldable pub lines : (ℕ → List ℕ → Answer → List ℕ) → Section → List ℕ → ℕ → List ℕ

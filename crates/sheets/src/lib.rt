@@ -17,11 +17,14 @@ ghost use Rattle.sheets.specs.declared.Sheet.{Sheet};
 ghost use Rattle.sheets.specs.Printed.{lines, printedRead, printed};
 ghost use Rattle.sheets.specs.Sheet.{lineOn, lineRoom, room};
 use dayfile::Reading;
+use judging_in_place::Entries;
+use judging_in_place::judge_steps;
 use layout::MOST_STEPS;
 use layout::step_at;
 use lines::listing::put_noted_lines;
 use lines::put_header;
 use lines::put_refused;
+use notes::ANSWER_LENGTH;
 use notes::NOTE_LENGTH;
 use panel_lines::put_panel;
 use section::Settings;
@@ -92,7 +95,8 @@ fn put_listing_lines(buffer: &mut [u8], at: usize, c: Settings, steps: &[u8], co
     put_noted_lines(buffer, at, &notes, count)
 }
 
-// Writes the panel's lines of all steps, each judged on the section that the one before left, and returns the next place.
+// Writes the panel's lines of all steps, each judged on the section that the one before left, and returns the next place. A line shows the posts
+// after its step, so the walk is taken a step at a time; the answers are not shown.
 fn put_panel_lines(buffer: &mut [u8], at: usize, c: Settings, steps: &[u8], count: usize) -> usize
     requires { ⌜ at + panelLineRoom * count ≤ length (now buffer) ⌝ }
     requires { ⌜ (stepLength * count ≤ length (now steps)) × (settingsInRange c ≡ true) ⌝ }
@@ -100,12 +104,12 @@ fn put_panel_lines(buffer: &mut [u8], at: usize, c: Settings, steps: &[u8], coun
     ensures { λ _. ⌜ now (buffer .exit) ≡ written (now (buffer .entry)) at (lines (lineOn Sheet.Panel) (freshSection c) (now (steps .entry)) count) ⌝ }
 {
     let mut state = section::fresh(c);
+    let mut answer: [u8; ANSWER_LENGTH] = [0; ANSWER_LENGTH];
     let mut next = at;
     let mut i = 0;
     while i < count {
         let bytes = step_at(steps, i);
-        let answer = engine::judge(state, bytes);
-        state = answer.section;
+        state = judge_steps(state, bytes, 1, Entries::Answers, &mut answer);
         next = put_panel(buffer, next, i, bytes[1], state);
         i += 1;
     }

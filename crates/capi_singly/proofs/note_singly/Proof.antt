@@ -1,19 +1,19 @@
 -- After i turns the state is the section before step i, and the notes of the steps 0 .. i − 1 stand in the buffer.
 use Prim.Native.Nat.{_-_, _≤_}
-use mathlib.Core.Path.{_≡_, refl, sym, _∙_, ap}
+use mathlib.Core.Path.{_≡_, refl, _∙_, ap}
 use native.Mathlib.Omega.{arith}
 use borrow.Author.Needs.{needs}
 use denote.Ref.{now}
 use lib.ListN.{length}
 use Rattle.section.specs.declared.Answer.{Answer}
-use Rattle.section.specs.declared.Section.{Section}
-use Rattle.section.specs.declared.Settings.{Settings}
-use Rattle.section.specs.Fresh.{freshSection}
 use Rattle.text.specs.Text.{written, firstTexts}
 use Rattle.text.proofs.Laws.{none-put}
-use Rattle.whole_day.specs.Day.{sectionBefore, answerTo}
-use Rattle.whole_day.specs.Notes.{noteOn, notesOf}
-use Rattle.whole_day.proofs.Laws.{step-after, answered, note-put}
+use Rattle.notes.specs.Note.{note}
+use Rattle.judging_in_place.specs.declared.Entries.the-variants.{Notes}
+use Rattle.judging_in_place.specs.Offered.{sectionBefore}
+use Rattle.judging_in_place.specs.Entries.{entryLength, entryWith, entryOf, entryOn, entriesOf}
+use Rattle.judging_in_place.proofs.Laws.{step-after, answered, entry-put}
+use Rattle.whole_day.proofs.Laws.{notes-kept}
 use Rattle.capi_singly.proofs.note_singly.Statement.{statement}
 use Rattle.capi_singly.proofs.note_singly.Tie as tie
 
@@ -21,24 +21,16 @@ abbrev Inv-loop : tie.InvT-loop
 Inv-loop steps count notes₀ state₀ i₀ notes state i =
     (i ≤ count)
     × ((length notes ≡ length notes₀)
-    × ((state ≡ sectionBefore state₀ steps i) × (notes ≡ written notes₀ 0 (firstTexts (noteOn (state₀ .settings) steps) i))))
+    × ((state ≡ sectionBefore state₀ steps i) × (notes ≡ written notes₀ 0 (firstTexts (entryOn Notes state₀ steps) i))))
 
 abbrev μ-loop : tie.MeasureT-loop
 μ-loop steps count notes₀ state₀ i₀ notes state i = count - i
-
--- the fresh section keeps the settings
-settings-kept : (s : Section) (c : Settings) → s ≡ freshSection c → s .settings ≡ c
-unfolding freshSection
-settings-kept s c e = ap (λ (x : Section). x .settings) e
-
-fresh-again : (s : Section) (c : Settings) → s ≡ freshSection c → s ≡ freshSection (s .settings)
-fresh-again s c e = e ∙ ap freshSection (sym (settings-kept s c e))
 
 loop-holds : tie.Need-loop-holds Inv-loop μ-loop
 unfolding sectionBefore
 loop-holds c =
     let a = c .before .before .before .args in
-    (omega arith, (refl, (refl, none-put (noteOn (c .fresh .result .settings) (now (a .steps))) (now (a .notes)) 0 .1)))
+    (omega arith, (refl, (refl, none-put (entryOn Notes (c .fresh .result) (now (a .steps))) (now (a .notes)) 0 .1)))
 
 step-at-requires : tie.Need-step-at-requires Inv-loop μ-loop
 step-at-requires c κs = omega arith
@@ -59,6 +51,7 @@ loop-less : tie.Need-loop-less Inv-loop μ-loop
 loop-less c = omega arith
 
 loop-again : tie.Need-loop-again Inv-loop μ-loop
+unfolding entryLength entryOf entryWith note
 loop-again c =
     let put = c .before .before in
     let at-judge = put .before .before .before in
@@ -78,21 +71,20 @@ loop-again c =
         omega (arith, h .inv .1 .0, put .put-answer .kept),
         (
           ap (λ (x : Answer). x .section) told ∙ step-after (f .result) (now (a .steps)) (h .i),
-          note-put (f .result .settings) (now (a .steps)) (now (a .notes)) (a .count) (h .i) (j .result) t (entry .pre .1) (h .inv .1 .1 .1)
-              (told ∙ ap (λ (s : Section). answerTo s (now (a .steps)) (h .i)) (fresh-again (f .result) (a .c) (f .ensures)))
+          entry-put Notes (f .result) (now (a .steps)) (now (a .notes)) (a .count) (h .i) (j .result) t (entry .pre .1) (h .inv .1 .1 .1) told
               (put .put-answer .ensures),
         ),
       ),
     )
 
 returns : tie.Need-returns Inv-loop μ-loop
-unfolding notesOf
+unfolding entriesOf
 returns c =
     let at-loop = c .before in
     let at-fresh = at-loop .before in
-    let entry = at-fresh .before .before .before in
-    let e : at-loop .loop .i ≡ entry .args .count = omega arith in
-    rw (← settings-kept (at-fresh .fresh .result) (entry .args .c) (at-fresh .fresh .ensures), ← e) (at-loop .loop .inv .1 .1 .1)
+    let a = at-fresh .before .before .before .args in
+    let e : at-loop .loop .i ≡ a .count = omega arith in
+    rw (← notes-kept (a .c) (now (a .steps)) (a .count), ← at-fresh .fresh .ensures, ← e) (at-loop .loop .inv .1 .1 .1)
 
 pub note-singly-spec : {M : Type 1} → statement M
 note-singly-spec =

@@ -13,7 +13,7 @@ use Rattle.lines.specs.Lines.{stepLine, stepLineRoom}
 use Rattle.text.specs.Text.{firstTexts}
 use Rattle.text.proofs.Laws.{first-texts-length}
 use Rattle.lines.proofs.Puts.{fields-length}
-use Rattle.notes.specs.Note.{noteLength, noteWith, note}
+use Rattle.notes.specs.Note.{answerBytes, noteLength, noteWith, note}
 use Rattle.lines.specs.Noted.{notedLine, noteAt}
 
 abbrev pub lineOf : List ℕ → ℕ → List ℕ
@@ -41,5 +41,5 @@ note-length notes i count h l = length-take-le noteLength (drop (i * noteLength)
 
 -- what is noted of an answer gives its line
 pub line-noted : (index : ℕ) (answer : Answer) → notedLine index (note answer) ≡ stepLine index answer
-unfolding notedLine note noteWith stepLine
+unfolding notedLine note noteWith answerBytes stepLine
 line-noted index answer = rw (said-back (saidBy (answer .verdict))) refl
