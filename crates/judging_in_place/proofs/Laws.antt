@@ -79,7 +79,8 @@ unfolding entryOf entryWith entryLength note
 entry-length Answers answer = answer-length (answer .verdict)
 entry-length Notes answer = note-length answer
 
-pub entries-length : (entries : Entries) (first : Section) (steps : List ℕ) (m : ℕ) → length (firstTexts (entryOn entries first steps) m) ≡ m * entryLength entries
+pub entries-length :
+    (entries : Entries) (first : Section) (steps : List ℕ) (m : ℕ) → length (firstTexts (entryOn entries first steps) m) ≡ m * entryLength entries
 unfolding entryOn
 entries-length entries first steps m =
     first-texts-whole (entryOn entries first steps) (entryLength entries) m (λ i. entry-length entries (answerTo first steps i))

@@ -59,13 +59,7 @@ fn note_verdict(notes: &mut [u8], i: usize, verdict: Verdict, running: [Running;
 }
 
 // Writes what is kept of step i.
-fn put_entry(
-    entries: Entries,
-    buffer: &mut [u8],
-    i: usize,
-    verdict: Verdict,
-    running: [Running; 2],
-)
+fn put_entry(entries: Entries, buffer: &mut [u8], i: usize, verdict: Verdict, running: [Running; 2])
     requires { ⌜ entryLength entries * i + entryLength entries ≤ length (now buffer) ⌝ }
     ensures { λ _. ⌜ now (buffer .exit) ≡ written (now (buffer .entry)) (i * entryLength entries) (entryWith entries verdict (letterAt running 0) (letterAt running 1)) ⌝ }
 {

@@ -58,12 +58,11 @@ two-calls-are-one s one other room rest whole k m e f few fits =
       few = few;
       fits = fits;
       counted = omega (arith, count-of-both one other k long, second .counted);
-    }) in
-    (
+    }) in (
       all,
       (
         handed-on s (one ++ other) whole (k + m) all
-        ∙ (section-in-other one other k long s m ∙ (rw left (sym (handed-on (sectionBefore s one k) other rest m f′)))),
+            ∙ (section-in-other one other k long s m ∙ (rw left (sym (handed-on (sectionBefore s one k) other rest m f′)))),
         rw left (kept-of-both one other k long s Answers m),
       ),
     )
@@ -81,17 +80,16 @@ one-call-is-two s one other room rest whole k m e long here there =
       few = omega (arith, d .few);
       fits = here;
       counted = count-of-one one other k long;
-    }) in
-    (
+    }) in (
       of-one,
       rw (handed-on s one room k of-one)
-      (done (sectionBefore s one k) other rest m (record {
-        range = in-range-before s one (d .range) k;
-        steps-well = same-posts s one other k (d .range) ∙ wells .1;
-        few = omega (arith, d .few);
-        fits = there;
-        counted = omega (arith, count-of-both one other k long, d .counted);
-      })),
+          (done (sectionBefore s one k) other rest m (record {
+            range = in-range-before s one (d .range) k;
+            steps-well = same-posts s one other k (d .range) ∙ wells .1;
+            few = omega (arith, d .few);
+            fits = there;
+            counted = omega (arith, count-of-both one other k long, d .counted);
+          })),
     )
 
 -- ## Demand 3 along calls

@@ -65,7 +65,9 @@ says c =
 
 -- the posts of a track are 16
 post-among : (c : tie.After-place-of Inv-loop μ-loop) → postOf (step c .step) < mostPosts
-post-among c = omega (arith, decoded-post-below _ _ (step c) (says c), posts-right (start c .args .s .settings) (settings-in-range (start c .args .s) (start c .pre .0)))
+post-among c =
+    let s = start c .args .s in
+    omega (arith, decoded-post-below _ _ (step c) (says c), posts-right (s .settings) (settings-in-range s (start c .pre .0)))
 
 -- the tracks are two
 row-among : (c : tie.After-place-of Inv-loop μ-loop) → c .before .row-of .result < 2

@@ -47,8 +47,7 @@ unfolding entryLength
 judge-steps-requires c κs =
     let fits = c .before in
     let well = fits .before .before in
-    let tested = well .before in
-    (
+    let tested = well .before in (
       in-range tested,
       (
         whole-steps _ _ (tested .before .step-count .ensures) (tested .first-malformed .ensures) (well .if2 .left),

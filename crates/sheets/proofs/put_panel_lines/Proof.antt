@@ -77,8 +77,7 @@ unfolding entryLength
 judge-steps-requires c κs =
     let at-step = c .before in
     let at-loop = at-step .before .before in
-    let loop = at-loop .loop in
-    (
+    let loop = at-loop .loop in (
       rw (loop .inv .1 .1 .1 .0) (in-range-before (at-loop .before .fresh .result) (now (start at-loop .args .steps)) (begun at-loop) (loop .i)),
       (omega (arith, bytes-long at-step), omega (arith, loop .inv .1 .1 .0)),
     )
@@ -97,8 +96,7 @@ put-panel-requires c κs =
     let first = at-loop .before .fresh .result in
     let h = at-loop .loop in
     let t = walked .before .before .before .loop-test .taken in
-    let fits = one-more-fits first (now (a .steps)) (begun at-loop) (h .i) (a .count) (a .at) _ t (entry .pre .0) in
-    (
+    let fits = one-more-fits first (now (a .steps)) (begun at-loop) (h .i) (a .count) (a .at) _ t (entry .pre .0) in (
       omega (arith, fits, h .inv .1 .1 .1 .1 .0, h .inv .1 .0),
       rw (judged walked) (in-range-after first (now (a .steps)) (begun at-loop) (h .i)),
     )

@@ -22,11 +22,10 @@ returns c =
     let then = fresh .before in
     let asked = then .before in
     let a = asked .before .before .before .args in
-    let so = told (asked .can-be-noted .ensures) (then .if1 .taken) in
-    (
+    let so = told (asked .can-be-noted .ensures) (then .if1 .taken) in (
       asked .can-be-noted .ensures,
       rw (notes-written (a .c) (now (a .steps)) (a .count) (now (a .notes)) so, ← notes-kept (a .c) (now (a .steps)) (a .count), ← fresh .fresh .ensures)
-      (walked .judge-steps .ensures .1),
+          (walked .judge-steps .ensures .1),
     )
 
 returns-2 : tie.Need-returns-2

@@ -1,11 +1,9 @@
 use mathlib.Core.Path.{refl}
 use borrow.Author.Needs.{needs}
-use Rattle.judging.specs.AtPost.{asBefore}
 use Rattle.judging.proofs.at_post.as_before.Statement.{statement}
 use Rattle.judging.proofs.at_post.as_before.Tie as tie
 
 returns : tie.Need-returns
-unfolding asBefore
 returns c = refl
 
 pub as-before-spec : {M : Type 1} → statement M
