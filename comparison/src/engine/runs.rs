@@ -1,7 +1,7 @@
 //! Runs of steps in one call.
 
 use super::cautions::Fate;
-use super::run_calls::{in_one_call, Ran};
+use super::run_calls::Ran;
 use super::run_cases::RunCases;
 use super::run_inputs::{exact_room, image_out_of_range, longer_room, no_image, rooms};
 use super::run_inputs::{sound_image, start, walk, Input, DAMAGES};
@@ -107,7 +107,7 @@ impl RunComparison {
     }
 
     fn compare(&mut self, input: &Input) -> Outcome {
-        let ran = in_one_call(input)?;
+        let ran = Ran::in_one_call(input)?;
         self.cases.count(input, &ran);
         if ran.is_done() {
             ran.same_singly(input)?;
