@@ -60,8 +60,14 @@ fn reached(rng: &mut Rng) -> Section {
     section
 }
 
-/// So many well-formed steps, most of them likely where they come. The section is moved on.
-pub fn walk(rng: &mut Rng, section: &mut Section, count: usize) -> Vec<u8> {
+/// So many well-formed steps from the section on, most of them likely where they come.
+pub fn steps_from(rng: &mut Rng, section: &Section, count: usize) -> Vec<u8> {
+    let mut section = *section;
+    walk(rng, &mut section, count)
+}
+
+/// Such steps. The section is moved on.
+fn walk(rng: &mut Rng, section: &mut Section, count: usize) -> Vec<u8> {
     let mut steps = Vec::with_capacity(count * STEP_LENGTH);
     for _ in 0..count {
         let step = likely_step(rng, section);

@@ -4,7 +4,7 @@ use super::cautions::Fate;
 use super::run_calls::Ran;
 use super::run_cases::RunCases;
 use super::run_inputs::{exact_room, image_out_of_range, longer_room, no_image, rooms};
-use super::run_inputs::{sound_image, start, walk, Input, DAMAGES};
+use super::run_inputs::{sound_image, start, steps_from, Input, DAMAGES};
 use super::tally::Tally;
 use crate::image::section_of;
 use crate::report::{Comparison, Outcome};
@@ -13,11 +13,11 @@ use reference::engine::judge_in_place;
 use reference::generate::Rng;
 use reference::step::STEP_LENGTH;
 
-const DONE: u32 = 4_000;
+const DONE: u32 = 12_000;
 const MOST_STEPS_DONE: usize = 120;
-const OF_ALL_KINDS: u32 = 60;
+const OF_ALL_KINDS: u32 = 200;
 const MOST_STEPS_OF_ALL_KINDS: usize = 20;
-const AROUND_MOST_STEPS: u32 = 4;
+const AROUND_MOST_STEPS: u32 = 8;
 
 pub struct RunComparison {
     rng: Rng,
@@ -54,7 +54,7 @@ impl RunComparison {
     fn done(&mut self) -> Outcome {
         let section = start(&mut self.rng);
         let count = self.rng.between(0, MOST_STEPS_DONE);
-        let steps = walk(&mut self.rng, &mut section.clone(), count);
+        let steps = steps_from(&mut self.rng, &section, count);
         let room = match self.rng.chance(1, 2) {
             true => exact_room(&steps),
             false => longer_room(&mut self.rng, &steps),
@@ -67,7 +67,7 @@ impl RunComparison {
     fn of_all_kinds(&mut self) -> Outcome {
         let section = start(&mut self.rng);
         let count = self.rng.between(0, MOST_STEPS_OF_ALL_KINDS);
-        let steps = walk(&mut self.rng, &mut section.clone(), count);
+        let steps = steps_from(&mut self.rng, &section, count);
         let images = [
             sound_image(&mut self.rng, &section),
             image_out_of_range(&mut self.rng, &section),
@@ -83,7 +83,7 @@ impl RunComparison {
     fn around_most_steps(&mut self) -> Outcome {
         let section = start(&mut self.rng);
         let most = MOST_STEPS + 2;
-        let steps = walk(&mut self.rng, &mut section.clone(), most);
+        let steps = steps_from(&mut self.rng, &section, most);
         let image = sound_image(&mut self.rng, &section);
         for count in MOST_STEPS - 1..=most {
             let steps = &steps[..count * STEP_LENGTH];
