@@ -3,13 +3,14 @@
 use std::path::Path;
 use std::{env, process};
 
-const LIBRARIES: [&str; 6] = [
+const LIBRARIES: [&str; 7] = [
     "capi_files",
     "capi_sections",
     "capi_preview",
     "capi_listings",
     "capi_day",
     "capi_singly",
+    "capi_run",
 ];
 
 fn main() {

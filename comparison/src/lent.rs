@@ -1,6 +1,6 @@
 //! Buffers lent to a call.
 
-use crate::report::{same_bytes, Outcome};
+use crate::report::{same_bytes_of_sides, Outcome};
 
 const GUARD: usize = 16;
 
@@ -54,9 +54,19 @@ pub fn same_buffers(
     second: &Lent,
     input: &dyn Fn() -> String,
 ) -> Outcome {
-    if proved == second {
+    same_buffers_of_sides(what, [("proved", proved), ("second", second)], input)
+}
+
+/// A failure unless both sides left the same buffer, guards included; each has its name.
+pub fn same_buffers_of_sides(
+    what: &str,
+    sides: [(&str, &Lent); 2],
+    input: &dyn Fn() -> String,
+) -> Outcome {
+    if sides[0].1 == sides[1].1 {
         return Ok(());
     }
     let what = format!("{what} ({GUARD} bytes of guard first)");
-    same_bytes(&what, &proved.bytes, &second.bytes, input)
+    let sides = sides.map(|(side, lent)| (side, lent.bytes.as_slice()));
+    same_bytes_of_sides(&what, sides, input)
 }

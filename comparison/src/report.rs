@@ -71,11 +71,7 @@ pub fn same<T: PartialEq + Debug>(
     second: T,
     input: &dyn Fn() -> String,
 ) -> Outcome {
-    if proved == second {
-        return Ok(());
-    }
-    let sides = [("proved", &proved as &dyn Debug), ("second", &second)];
-    Err(difference(what, sides, input))
+    same_sides(what, [("proved", proved), ("second", second)], input)
 }
 
 /// A failure unless the proved implementation's preview gave what it gave when the step was taken.
@@ -85,15 +81,23 @@ pub fn same_as_taken<T: PartialEq + Debug>(
     taken: T,
     input: &dyn Fn() -> String,
 ) -> Outcome {
-    if preview == taken {
-        return Ok(());
-    }
-    let sides = [("preview", &preview as &dyn Debug), ("taken", &taken)];
-    Err(difference(what, sides, input))
+    same_sides(what, [("preview", preview), ("taken", taken)], input)
 }
 
-fn difference(what: &str, sides: [(&str, &dyn Debug); 2], input: &dyn Fn() -> String) -> Failure {
+/// A failure unless both sides gave the same; each has its name.
+pub fn same_sides<T: PartialEq + Debug>(
+    what: &str,
+    sides: [(&str, T); 2],
+    input: &dyn Fn() -> String,
+) -> Outcome {
+    if sides[0].1 == sides[1].1 {
+        return Ok(());
+    }
     let answers = sides.map(|(side, answer)| format!("\n{side}: {answer:?}"));
+    Err(difference(what, answers, input))
+}
+
+fn difference(what: &str, answers: [String; 2], input: &dyn Fn() -> String) -> Failure {
     Failure(format!(
         "DIFFERENCE: {what}\n{}{}",
         input(),
@@ -103,22 +107,30 @@ fn difference(what: &str, sides: [(&str, &dyn Debug); 2], input: &dyn Fn() -> St
 
 /// A failure unless both implementations left the same bytes.
 pub fn same_bytes(what: &str, proved: &[u8], second: &[u8], input: &dyn Fn() -> String) -> Outcome {
-    if proved == second {
-        return Ok(());
-    }
-    let place = first_difference(proved, second);
-    Err(Failure(format!(
-        "DIFFERENCE: {what}, from byte {place} on\n{}\nproved: {}\nsecond: {}",
-        input(),
-        hex(proved.get(place..).unwrap_or_default()),
-        hex(second.get(place..).unwrap_or_default())
-    )))
+    same_bytes_of_sides(what, [("proved", proved), ("second", second)], input)
 }
 
-fn first_difference(proved: &[u8], second: &[u8]) -> usize {
-    let shared = proved.len().min(second.len());
+/// A failure unless both sides left the same bytes; each has its name.
+pub fn same_bytes_of_sides(
+    what: &str,
+    sides: [(&str, &[u8]); 2],
+    input: &dyn Fn() -> String,
+) -> Outcome {
+    let [one, other] = sides.map(|(_, bytes)| bytes);
+    if one == other {
+        return Ok(());
+    }
+    let place = first_difference(one, other);
+    let rest = |bytes: &[u8]| hex(bytes.get(place..).unwrap_or_default());
+    let answers = sides.map(|(side, bytes)| format!("\n{side}: {}", rest(bytes)));
+    let what = format!("{what}, from byte {place} on");
+    Err(difference(&what, answers, input))
+}
+
+fn first_difference(one: &[u8], other: &[u8]) -> usize {
+    let shared = one.len().min(other.len());
     (0..shared)
-        .find(|&place| proved[place] != second[place])
+        .find(|&place| one[place] != other[place])
         .unwrap_or(shared)
 }
 

@@ -1,12 +1,15 @@
-//! Times a judged step along a day of 4,096 steps.
+//! Times a judged step along a day of 4,096 steps, and in a run of as many.
 
 use comparison::engine::notes::{room_for, second_notes, NOTE_LENGTH};
-use comparison::proved::engine::{day, Way};
-use comparison::report::{run, same_bytes, Outcome, Run};
+use comparison::engine::run_inputs::exact_room;
+use comparison::image::image_of;
+use comparison::proved::engine::{day, run as proved_run, Way};
+use comparison::report::{run, same_bytes, Failure, Outcome, Run};
 use comparison::timing::{alternate, Times};
 use reference::dayfile::MOST_STEPS;
 use reference::engine::{judge_in_place, judge_in_range};
 use reference::generate::{furthering_step, sensible_step, Rng};
+use reference::run::run as second_run;
 use reference::section::Section;
 use reference::settings::{Settings, NO_CROSSINGS};
 use reference::step::STEP_LENGTH;
@@ -69,6 +72,8 @@ fn time_day(run: &Run, settings: &Settings) -> Outcome {
         MOST_STEPS,
         "step",
     );
+    let run = time_run(run, settings, &steps)?;
+    run.print("  a run, both test the ranges once", MOST_STEPS, "step");
     Ok(())
 }
 
@@ -93,6 +98,33 @@ fn time_ways(
             second_notes(settings, black_box(steps), black_box(&mut of_second), judge);
         },
     )
+}
+
+/// The day's steps in one call from fresh. Each call has a section of its own: the proved engine an
+/// image, which it reads and writes, and the second implementation the section itself.
+fn time_run(run: &Run, settings: &Settings, steps: &[u8]) -> Result<Times, Failure> {
+    let fresh = Section::fresh(*settings);
+    let fresh_image = image_of(&fresh);
+    let mut answers = vec![0; exact_room(steps)];
+    let mut of_second = answers.clone();
+    let mut image = fresh_image;
+    let mut section = fresh;
+    let times = alternate(
+        run.times,
+        CALLS,
+        || {
+            image = fresh_image;
+            proved_run(&mut image, black_box(steps), black_box(&mut answers));
+        },
+        || {
+            section = fresh;
+            second_run(&mut section, black_box(steps), black_box(&mut of_second));
+        },
+    );
+    let input = || format!("{settings:?}, a busy day");
+    same_bytes("the answers of a run", &answers, &of_second, &input)?;
+    same_bytes("the image after a run", &image, &image_of(&section), &input)?;
+    Ok(times)
 }
 
 /// Trains both ways, reversals and faults; few steps are refused.

@@ -21,7 +21,7 @@ pub fn offer(rng: &mut Rng, section: &Section) -> Vec<u8> {
 }
 
 /// What a reversal may wait for at its turn's post, with no look at what stands in the way.
-fn step_of_turn(rng: &mut Rng, section: &Section) -> [u8; STEP_LENGTH] {
+pub fn step_of_turn(rng: &mut Rng, section: &Section) -> [u8; STEP_LENGTH] {
     let track = rng.flag();
     let post = section.tracks[usize::from(track)].turn;
     let step = match rng.below(6) {

@@ -40,12 +40,12 @@ impl Comparison for SectionComparison {
 
     fn all(&mut self) -> Outcome {
         for _ in 0..IN_RANGE {
-            let section = self.section_in_range();
+            let section = section_in_range(&mut self.rng);
             self.compare_section(&section)?;
         }
         for _ in 0..OUT_OF_RANGE {
-            let mut section = self.section_in_range();
-            self.spoil(&mut section);
+            let mut section = section_in_range(&mut self.rng);
+            spoil(&mut self.rng, &mut section);
             self.compare_section(&section)?;
         }
         self.crossings_at_bounds()?;
@@ -66,29 +66,12 @@ impl Comparison for SectionComparison {
 }
 
 impl SectionComparison {
-    fn section_in_range(&mut self) -> Section {
-        let mut section = random_in_range_section(&mut self.rng);
-        make_representable(&mut section);
-        section
-    }
-
     fn section_of_posts(&mut self, n: u8) -> Section {
         loop {
-            let section = self.section_in_range();
+            let section = section_in_range(&mut self.rng);
             if section.settings.n == n {
                 return section;
             }
-        }
-    }
-
-    /// One field out of its range, or a signalled post that isn't there.
-    fn spoil(&mut self, section: &mut Section) {
-        let n = section.settings.n;
-        if n < 16 && self.rng.chance(1, 16) {
-            let above = n + self.rng.below(u64::from(16 - n)) as u8;
-            section.settings.mask |= 1 << above;
-        } else {
-            put_out_of_range(&mut self.rng, section);
         }
     }
 
@@ -105,7 +88,7 @@ impl SectionComparison {
 
     /// At the end posts, the cell past them and the last one.
     fn posts_at_bounds(&mut self) -> Outcome {
-        let section = self.section_in_range();
+        let section = section_in_range(&mut self.rng);
         let n = usize::from(section.settings.n);
         for track in [0, 1] {
             for post in [0, n - 1, n.min(15), 15] {
@@ -134,7 +117,7 @@ impl SectionComparison {
 
     /// One byte changed anywhere, past the last post too; the section may stay in range.
     fn changed_image(&mut self) -> Outcome {
-        let section = self.section_in_range();
+        let section = section_in_range(&mut self.rng);
         let mut image = image_of(&section);
         let place = self.rng.below(IMAGE_LENGTH as u64) as usize;
         image[place] = match self.rng.below(3) {
@@ -147,7 +130,7 @@ impl SectionComparison {
 
     /// At times with the number of layout 1.
     fn image_of_other_length(&mut self) -> Outcome {
-        let section = self.section_in_range();
+        let section = section_in_range(&mut self.rng);
         let mut image = image_of(&section);
         if self.rng.chance(1, 4) {
             put_layout(1, &mut image);
@@ -165,7 +148,7 @@ impl SectionComparison {
 
     /// In range but for the layout's number.
     fn image_of_other_layout(&mut self) -> Outcome {
-        let section = self.section_in_range();
+        let section = section_in_range(&mut self.rng);
         let mut image = image_of(&section);
         put_other_layout(&mut self.rng, &mut image);
         self.compare(&image, &section)
@@ -180,5 +163,23 @@ impl SectionComparison {
         };
         both.judge(&mut self.rng, &step, &mut self.previews, &mut self.tally)?;
         Ok(())
+    }
+}
+
+/// In range, mostly unreachable.
+pub fn section_in_range(rng: &mut Rng) -> Section {
+    let mut section = random_in_range_section(rng);
+    make_representable(&mut section);
+    section
+}
+
+/// One field out of its range, or a signalled post that isn't there.
+pub fn spoil(rng: &mut Rng, section: &mut Section) {
+    let n = section.settings.n;
+    if n < 16 && rng.chance(1, 16) {
+        let above = n + rng.below(u64::from(16 - n)) as u8;
+        section.settings.mask |= 1 << above;
+    } else {
+        put_out_of_range(rng, section);
     }
 }

@@ -69,6 +69,18 @@ impl Tally {
     }
 
     pub fn print(&self, part: &str) {
+        self.print_steps(part);
+        self.print_by_part();
+    }
+
+    /// Without what the parts decided.
+    pub fn print_steps(&self, part: &str) {
+        self.print_answers(part);
+        self.print_fates();
+    }
+
+    /// By kind, and what was said.
+    fn print_answers(&self, part: &str) {
         let share = 100.0 * self.given(0) as f64 / self.total().max(1) as f64;
         println!("{part}: {share:.1} % accepted; refusals by kind (0 accepted):");
         print!("{:12}", "");
@@ -86,11 +98,17 @@ impl Tally {
             print!("  {word} {times}");
         }
         println!();
+    }
+
+    fn print_fates(&self) {
         print!("caution forms:");
         for (fate, times) in FATES.iter().zip(self.fates) {
             print!("  {} {times}", fate.name());
         }
         println!();
+    }
+
+    fn print_by_part(&self) {
         print!("by the part:");
         for (by_part, times) in OF_SECTIONS.iter().zip(self.by_part) {
             print!("  {} {times}", by_part.name());

@@ -17,6 +17,14 @@ extern "C" {
         lamps: *mut u8,
         lamps_length: usize,
     ) -> u16;
+    fn bsr_run(
+        image: *mut u8,
+        image_length: usize,
+        steps: *const u8,
+        steps_length: usize,
+        answers: *mut u8,
+        answers_length: usize,
+    ) -> u64;
     fn bsr_day(
         settings: *const u8,
         settings_length: usize,
@@ -78,6 +86,22 @@ pub fn preview(image: &mut [u8], step: &[u8], lamps: &mut [u8]) -> (u16, u16) {
         )
     };
     unpacked(answer)
+}
+
+/// Offers the steps one after another and writes their answers at the buffer's front: the
+/// refusal of the call (0 for none), and the count of steps or the refusal's index.
+pub fn run(image: &mut [u8], steps: &[u8], answers: &mut [u8]) -> (u64, u64) {
+    let answer = unsafe {
+        bsr_run(
+            image.as_mut_ptr(),
+            image.len(),
+            steps.as_ptr(),
+            steps.len(),
+            answers.as_mut_ptr(),
+            answers.len(),
+        )
+    };
+    (answer & 0xff, answer >> 8)
 }
 
 /// How the steps of a day are judged.
