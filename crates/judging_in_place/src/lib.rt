@@ -12,7 +12,7 @@ ghost use Rattle.section.specs.Range.{inRange};
 ghost use Rattle.section.specs.Words.{letter};
 ghost use Rattle.text.specs.Text.{written};
 ghost use Rattle.notes.specs.Note.{noteLength, noteWith};
-ghost use Rattle.judging_in_place.specs.Offered.{sectionBefore};
+ghost use Rattle.judging_in_place.specs.Offered.{sectionBefore, AllWellFormed};
 ghost use Rattle.judging_in_place.specs.Entries.{entryLength, entryWith, entriesOf};
 ghost use Rattle.judging_in_place.specs.Rows.{letterAt};
 use crate::cells::last_in;
@@ -70,15 +70,16 @@ fn put_entry(entries: Entries, buffer: &mut [u8], i: usize, verdict: Verdict, ru
 }
 
 // Judges the first so many steps, each on the section that the one before left, writes what is kept of each from the buffer's front on, and
-// hands the section back. Judging keeps the ranges, so they are not tested again.
+// hands the section back. Judging keeps the ranges, so they are not tested again; nor are steps that are known to be well formed.
 pub fn judge_steps(
     s: Section,
     steps: &[u8],
     count: usize,
+    known: bool,
     entries: Entries,
     buffer: &mut [u8],
 ) -> Section
-    requires { ⌜ inRange s ≡ true ⌝ }
+    requires { ⌜ (inRange s ≡ true) × (known ≡ true → AllWellFormed (s .settings .posts) (now steps) count) ⌝ }
     requires { ⌜ (stepLength * count ≤ length (now steps)) × (entryLength entries * count ≤ length (now buffer)) ⌝ }
     ensures { λ r. ⌜ r ≡ sectionBefore s (now (steps .entry)) count ⌝ }
     ensures { λ _. ⌜ now (buffer .exit) ≡ written (now (buffer .entry)) 0 (entriesOf entries s (now (steps .entry)) count) ⌝ }
@@ -90,7 +91,7 @@ pub fn judge_steps(
     let mut running = running_in(s);
     let mut i: usize = 0;
     while i < count {
-        let d = steps::decode(c.posts, step_at(steps, i));
+        let d = steps::decode_known(known, c.posts, step_at(steps, i));
         let Decoded::Well(x) = d else {
             put_entry(entries, buffer, i, Verdict::Refused(4), running);
             i += 1;

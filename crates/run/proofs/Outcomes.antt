@@ -11,12 +11,12 @@ use Rattle.section.specs.declared.Section.{Section}
 use Rattle.section.specs.Numbers.{stepLength}
 use Rattle.section.specs.Range.{inRange}
 use Rattle.layout.specs.Layout.{mostSteps, stepCount}
-use Rattle.file_tests.specs.Tests.{firstMalformed, someMalformed}
-use Rattle.file_tests.proofs.Laws.{neither, past, all-whole}
+use Rattle.file_tests.specs.Tests.{wellAt, leading, firstMalformed, someMalformed}
+use Rattle.file_tests.proofs.Laws.{neither, past, all-pass, all-whole}
 use Rattle.text.specs.Text.{written}
 use Rattle.notes.specs.Note.{answerLength}
 use Rattle.judging_in_place.specs.declared.Entries.the-variants.{Answers}
-use Rattle.judging_in_place.specs.Offered.{sectionBefore}
+use Rattle.judging_in_place.specs.Offered.{sectionBefore, AllWellFormed}
 use Rattle.judging_in_place.specs.Entries.{entriesOf}
 use Rattle.run.specs.declared.Outcome.{Outcome}
 use Rattle.run.specs.declared.Outcome.the-variants.{Done, Refused}
@@ -29,6 +29,15 @@ pub whole-steps :
     → stepLength * count ≤ length steps
 unfolding someMalformed
 whole-steps n steps ec ef h = omega (arith, all-whole n steps (rw (← ec, ← ef) (le-ltb _ _ h)), ec)
+
+-- and each is well formed
+pub well-steps :
+    (n : ℕ) (steps : List ℕ) {count first : ℕ} → count ≡ stepCount steps → first ≡ firstMalformed n steps → count ≤ first
+    → AllWellFormed n steps count
+unfolding firstMalformed wellAt
+well-steps n steps {count} {first} ec ef h i more =
+    let enough : stepCount steps ≤ leading (wellAt n steps) (stepCount steps) = omega (arith, ec, ef, h) in
+    all-pass (wellAt n steps) (stepCount steps) enough i (omega (arith, ec, more))
 
 -- ## A call that is refused, and one that is done
 

@@ -52,7 +52,7 @@ pub fn run(s: Section, steps: &[u8], answers: &mut [u8]) -> RunAnswer
     if answers.len() < ANSWER_LENGTH * count {
         return refused(5, 0, s);
     }
-    let after = judge_steps(s, steps, count, Entries::Answers, answers);
+    let after = judge_steps(s, steps, count, true, Entries::Answers, answers);
     RunAnswer {
         outcome: Outcome::Done(count),
         section: after,

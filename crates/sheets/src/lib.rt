@@ -109,7 +109,7 @@ fn put_panel_lines(buffer: &mut [u8], at: usize, c: Settings, steps: &[u8], coun
     let mut i = 0;
     while i < count {
         let bytes = step_at(steps, i);
-        state = judge_steps(state, bytes, 1, Entries::Answers, &mut answer);
+        state = judge_steps(state, bytes, 1, false, Entries::Answers, &mut answer);
         next = put_panel(buffer, next, i, bytes[1], state);
         i += 1;
     }

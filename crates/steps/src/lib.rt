@@ -2,10 +2,11 @@
 
 pub mod well_formed;
 
+ghost use mathlib.Core.Bool.{true};
 ghost use mathlib.Core.Path.{_≡_};
 ghost use lib.ListN.{length};
 ghost use Rattle.section.specs.Numbers.{stepLength};
-ghost use Rattle.section.specs.Step.{fields, faultOf, stepOf, stepSaid, decoded};
+ghost use Rattle.section.specs.Step.{wellFormed, fields, faultOf, stepOf, stepSaid, decoded};
 use crate::well_formed::is_well_formed;
 use section::Decoded;
 use section::Fault;
@@ -86,4 +87,15 @@ pub fn decode(n: u8, s: &[u8]) -> Decoded
         return Decoded::Malformed;
     }
     Decoded::Well(step_said(s))
+}
+
+// The same, where the bytes may be known to say a step: they are not tested then.
+pub fn decode_known(known: bool, n: u8, s: &[u8]) -> Decoded
+    requires { ⌜ (known ≡ true → wellFormed n (now s) ≡ true) ⌝ }
+    ensures { λ r. ⌜ r ≡ decoded n (now (s .entry)) ⌝ }
+{
+    if known {
+        return Decoded::Well(step_said(s));
+    }
+    decode(n, s)
 }

@@ -18,15 +18,15 @@ use Rattle.judging_in_place.proofs.judge_steps.Statement.{statement}
 use Rattle.judging_in_place.proofs.judge_steps.Tie as tie
 
 abbrev Inv-loop : tie.InvT-loop
-Inv-loop steps count entries lent c posts₀ trains₀ last₀ running₀ i₀ buffer posts trains last running i =
+Inv-loop steps count known entries lent c posts₀ trains₀ last₀ running₀ i₀ buffer posts trains last running i =
     Walked (sectionIn posts₀ trains₀ last₀ running₀ c) entries steps count lent posts trains last running buffer i
 
 abbrev μ-loop : tie.MeasureT-loop
-μ-loop steps count entries lent c posts₀ trains₀ last₀ running₀ i₀ buffer posts trains last running i = count - i
+μ-loop steps count known entries lent c posts₀ trains₀ last₀ running₀ i₀ buffer posts trains last running i = count - i
 
 -- ## What the code knows once it has the place of a well-formed step's post
 
-abbrev offered : tie.After-place-of Inv-loop μ-loop → tie.After-decode Inv-loop μ-loop
+abbrev offered : tie.After-place-of Inv-loop μ-loop → tie.After-decode-known Inv-loop μ-loop
 offered c = c .before .before .before .before .before
 
 abbrev taken : tie.After-place-of Inv-loop μ-loop → tie.After-step-at Inv-loop μ-loop
@@ -61,13 +61,13 @@ says :
     (c : tie.After-place-of Inv-loop μ-loop)
     → decoded (start c .args .s .settings .posts) (stepAt (start c .args .steps .now) (looped c .loop .i)) ≡ Well (step c)
 says c =
-    ap (decoded _) (sym (taken c .step-at .ensures)) ∙ sym (offered c .decode .ensures) ∙ c .before .before .before .d .given .1
+    ap (decoded _) (sym (taken c .step-at .ensures)) ∙ sym (offered c .decode-known .ensures) ∙ c .before .before .before .d .given .1
 
 -- the posts of a track are 16
 post-among : (c : tie.After-place-of Inv-loop μ-loop) → postOf (step c .step) < mostPosts
 post-among c =
     let s = start c .args .s in
-    omega (arith, decoded-post-below _ _ (step c) (says c), posts-right (s .settings) (settings-in-range s (start c .pre .0)))
+    omega (arith, decoded-post-below _ _ (step c) (says c), posts-right (s .settings) (settings-in-range s (start c .pre .0 .0)))
 
 -- the tracks are two
 row-among : (c : tie.After-place-of Inv-loop μ-loop) → c .before .row-of .result < 2
@@ -89,10 +89,16 @@ loop-holds c =
     let entry = entered c in
     let a = entry .args in
     rw (c .running-in .ensures, lasts .last-in .ensures, trains .trains-in .ensures, posts .posts-in .ensures)
-    (begins (a .s) (a .entries) (now (a .steps)) (a .count) (now (a .buffer)) (entry .pre .0) (entry .pre .1 .1))
+    (begins (a .s) (a .entries) (now (a .steps)) (a .count) (now (a .buffer)) (entry .pre .0 .0) (entry .pre .1 .1))
 
 step-at-requires : tie.Need-step-at-requires Inv-loop μ-loop
 step-at-requires c κs = omega arith
+
+decode-known-requires : tie.Need-decode-known-requires Inv-loop μ-loop
+decode-known-requires c κs well =
+    let in-loop = c .before in
+    let at-loop = in-loop .before in
+    rw (c .step-at .ensures) (entered (at-loop .before) .pre .0 .1 well (at-loop .loop .i) (in-loop .loop-test .taken))
 
 put-entry-requires : tie.Need-put-entry-requires Inv-loop μ-loop
 put-entry-requires c κs =
@@ -113,7 +119,7 @@ loop-again c =
     let taken = decode .before in
     let in-loop = taken .before in
     passes-over (in-loop .before .loop .inv) (in-loop .loop-test .taken)
-    (ap (decoded _) (sym (taken .step-at .ensures)) ∙ sym (decode .decode .ensures) ∙ told .enum-told .given .1)
+    (ap (decoded _) (sym (taken .step-at .ensures)) ∙ sym (decode .decode-known .ensures) ∙ told .enum-told .given .1)
     (noted .put-entry .ensures) (noted .put-entry .kept .1 .0)
 
 mul-judge-at-post : tie.Need-mul-judge-at-post Inv-loop μ-loop
@@ -214,7 +220,7 @@ judge-steps-spec =
     (λ c κs. search needs)
     loop-holds
     step-at-requires
-    (λ c κs. search needs)
+    decode-known-requires
     (λ c. search needs)
     (λ c. search needs)
     put-entry-requires

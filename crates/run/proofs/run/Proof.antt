@@ -7,7 +7,7 @@ use borrow.Author.Needs.{needs}
 use Rattle.section.specs.Range.{inRange}
 use Rattle.section.proofs.Told.{told-false, told-true}
 use Rattle.judging_in_place.specs.Entries.{entryLength}
-use Rattle.run.proofs.Outcomes.{answer-6, answer-4, answer-5-many, answer-5-short, answer-done, whole-steps}
+use Rattle.run.proofs.Outcomes.{answer-6, answer-4, answer-5-many, answer-5-short, answer-done, whole-steps, well-steps}
 use Rattle.run.proofs.run.Statement.{statement}
 use Rattle.run.proofs.run.Tie as tie
 
@@ -48,7 +48,10 @@ judge-steps-requires c κs =
     let fits = c .before in
     let well = fits .before .before in
     let tested = well .before in (
-      in-range tested,
+      (
+        in-range tested,
+        λ known. well-steps _ _ (tested .before .step-count .ensures) (tested .first-malformed .ensures) (well .if2 .left),
+      ),
       (
         whole-steps _ _ (tested .before .step-count .ensures) (tested .first-malformed .ensures) (well .if2 .left),
         fits .if4 .left,

@@ -1,8 +1,8 @@
 -- After i turns the state is the section before step i, and the lines of the steps 0 .. i − 1 stand in the buffer. Every section on the way is in
 -- its ranges, as walking on and showing it ask, so it has at most sixteen posts, and a line has room.
 use Prim.Native.Nat.{_-_, _≤_}
-use mathlib.Core.Bool.{true}
-use mathlib.Core.Path.{_≡_, refl, _∙_, ap}
+use mathlib.Core.Bool.{true, true≢false}
+use mathlib.Core.Path.{_≡_, refl, sym, _∙_, ap}
 use native.Mathlib.Omega.{arith}
 use borrow.Author.Needs.{needs}
 use denote.Ref.{now}
@@ -78,7 +78,10 @@ judge-steps-requires c κs =
     let at-step = c .before in
     let at-loop = at-step .before .before in
     let loop = at-loop .loop in (
-      rw (loop .inv .1 .1 .1 .0) (in-range-before (at-loop .before .fresh .result) (now (start at-loop .args .steps)) (begun at-loop) (loop .i)),
+      (
+        rw (loop .inv .1 .1 .1 .0) (in-range-before (at-loop .before .fresh .result) (now (start at-loop .args .steps)) (begun at-loop) (loop .i)),
+        λ known. absurd (true≢false (sym known)),
+      ),
       (omega (arith, bytes-long at-step), omega (arith, loop .inv .1 .1 .0)),
     )
 

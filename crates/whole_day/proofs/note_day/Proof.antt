@@ -1,4 +1,6 @@
 -- By whether the day can be noted: then it has what the walk requires, and what the walk keeps are the day's notes.
+use mathlib.Core.Bool.{true≢false}
+use mathlib.Core.Path.{sym}
 use borrow.Author.Needs.{needs}
 use denote.Ref.{now}
 use Rattle.section.proofs.Told.{told}
@@ -13,7 +15,7 @@ judge-steps-requires c κs =
     let fresh = c .before in
     let then = fresh .before in
     let fits = day-fits _ _ _ _ (told (then .before .can-be-noted .ensures) (then .if1 .taken)) in
-    (started _ _ (fresh .fresh .ensures) (fits .settings-well), (fits .steps-there, fits .notes-fit))
+    ((started _ _ (fresh .fresh .ensures) (fits .settings-well), λ known. absurd (true≢false (sym known))), (fits .steps-there, fits .notes-fit))
 
 returns : tie.Need-returns
 returns c =
