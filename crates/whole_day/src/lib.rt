@@ -29,7 +29,14 @@ pub fn note_day(c: Settings, steps: &[u8], count: usize, notes: &mut [u8]) -> bo
 {
     let noted = can_be_noted(c, steps, count, notes.len());
     if noted {
-        judge_steps(section::fresh(c), steps, count, false, Entries::Notes, notes);
+        judge_steps(
+            section::fresh(c),
+            steps,
+            count,
+            false,
+            Entries::Notes,
+            notes,
+        );
     }
     noted
 }

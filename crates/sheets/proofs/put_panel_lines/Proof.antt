@@ -105,7 +105,9 @@ put-panel-requires c κs =
     )
 
 add-i : tie.Need-add-i Inv-loop μ-loop
-add-i c = omega arith
+add-i c =
+    let walked = c .before .before .before .before .before .before in
+    omega (arith, walked .before .before .before .loop-test .taken, start (looped walked) .fits .count)
 
 loop-less : tie.Need-loop-less Inv-loop μ-loop
 loop-less c = omega arith
