@@ -4,6 +4,7 @@ pub mod cautions;
 pub mod days;
 pub mod judging;
 pub mod notes;
+pub mod numbers;
 pub mod offers;
 pub mod parts;
 pub mod preview_cases;

@@ -9,7 +9,7 @@ pub mod writer;
 use reference::dayfile::{Mark, SETTINGS_LENGTH};
 use reference::generate::{random_settings, Rng};
 use reference::settings::{Crossings, Settings, MOST_CROSSINGS, NO_CROSSINGS, WITHOUT_ZONES};
-use reference::step::STEP_LENGTH;
+use reference::step::{GREATEST_TRAIN, STEP_LENGTH};
 
 pub const MARKS: [Mark; 2] = [Mark::Bsr1, Mark::Bsr2];
 /// Of settings with their crossings.
@@ -134,8 +134,8 @@ pub fn sound_step(rng: &mut Rng, n: u8) -> [u8; STEP_LENGTH] {
         _ => 0,
     };
     let number = match kind {
-        5..=7 | 14 => 1 + rng.below(9_999) as u16,
-        12 => rng.below(10_000) as u16,
+        5..=7 | 14 => 1 + rng.below(u64::from(GREATEST_TRAIN)) as u16,
+        12 => rng.below(u64::from(GREATEST_TRAIN) + 1) as u16,
         _ => 0,
     };
     let [low, high] = number.to_le_bytes();

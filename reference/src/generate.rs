@@ -10,17 +10,43 @@ use crate::settings::{Crossings, Settings, MOST_CROSSINGS, NO_CROSSINGS, UNUSED,
 use crate::step::{self, Step, GREATEST_FAULT, GREATEST_TRAIN, STEP_LENGTH};
 use crate::way::{Way, CVT, VNS};
 
+/// The greatest number before request 5.
+pub const GREATEST_OF_FOUR_FIGURES: u16 = 9_999;
+
+/// Numbers beside the bounds of four and of five figures.
+const NUMBERS_AT_THE_BOUNDS: [u16; 3] = [
+    GREATEST_OF_FOUR_FIGURES,
+    GREATEST_OF_FOUR_FIGURES + 1,
+    GREATEST_TRAIN,
+];
+
+/// Numbers that no train has.
+const TOO_GREAT: [u16; 2] = [GREATEST_TRAIN + 1, u16::MAX];
+
 /// A xorshift generator (64 bits, with a multiplied output).
 #[derive(Clone, Debug)]
 pub struct Rng {
     state: u64,
+    /// No train of a greater number is drawn.
+    greatest_train: u16,
 }
 
 impl Rng {
     pub fn new(seed: u64) -> Rng {
         // The state must not be zero; the spread keeps near seeds apart.
         let spread = seed.wrapping_add(1).wrapping_mul(0x9e37_79b9_7f4a_7c15);
-        Rng { state: spread | 1 }
+        Rng {
+            state: spread | 1,
+            greatest_train: GREATEST_TRAIN,
+        }
+    }
+
+    /// Draws trains of four figures at most, and all else as before request 5.
+    pub fn of_four_figures(seed: u64) -> Rng {
+        Rng {
+            greatest_train: GREATEST_OF_FOUR_FIGURES,
+            ..Rng::new(seed)
+        }
     }
 
     pub fn next_u64(&mut self) -> u64 {
@@ -60,6 +86,18 @@ impl Rng {
     /// The number of a fault, 1 to 4.
     pub fn fault(&mut self) -> u8 {
         1 + self.below(u64::from(GREATEST_FAULT)) as u8
+    }
+
+    /// The number of a train, 1 to the greatest.
+    fn train(&mut self) -> u16 {
+        1 + self.below(u64::from(self.greatest_train)) as u16
+    }
+
+    fn train_at_a_bound(&mut self) -> u16 {
+        match self.greatest_train {
+            GREATEST_OF_FOUR_FIGURES => GREATEST_OF_FOUR_FIGURES,
+            _ => self.pick(&NUMBERS_AT_THE_BOUNDS),
+        }
     }
 
     /// From `least` to `most`, both included.
@@ -295,7 +333,7 @@ fn release_step(rng: &mut Rng, section: &Section, track: usize) -> Step {
     };
     let last = way.ahead(post).map_or(0, |ahead| kept.last[ahead]);
     let train = match rng.below(6) {
-        0 => (last + 1).min(GREATEST_TRAIN),
+        0 => (last + 1).min(rng.greatest_train),
         1 => last.saturating_sub(1),
         _ => last,
     };
@@ -317,8 +355,8 @@ fn likely_number(rng: &mut Rng, section: &Section, track: usize) -> u16 {
     match rng.below(20) {
         0..=2 if on_track != 0 => on_track,
         0..=12 => 1 + rng.below(20) as u16,
-        13 => GREATEST_TRAIN,
-        _ => 1 + rng.below(u64::from(GREATEST_TRAIN)) as u16,
+        13 => rng.train_at_a_bound(),
+        _ => rng.train(),
     }
 }
 
@@ -368,9 +406,10 @@ fn nudged(rng: &mut Rng, bytes: [u8; STEP_LENGTH], n: u8) -> [u8; STEP_LENGTH] {
         4 => changed[4..6].copy_from_slice(&train.wrapping_add(1).to_le_bytes()),
         _ => changed[4..6].copy_from_slice(&train.wrapping_sub(1).to_le_bytes()),
     }
+    let number = u16::from_le_bytes([changed[4], changed[5]]);
     match step::decode(&changed, n) {
-        Some(_) => changed,
-        None => bytes,
+        Some(_) if number <= rng.greatest_train => changed,
+        _ => bytes,
     }
 }
 
@@ -471,8 +510,8 @@ fn random_train(rng: &mut Rng, density: u64) -> u16 {
     }
     match rng.below(8) {
         0 => 1,
-        1 => GREATEST_TRAIN,
-        2 => rng.below(u64::from(GREATEST_TRAIN) + 1) as u16,
+        1 => rng.train_at_a_bound(),
+        2 => rng.train(),
         _ => 1 + rng.below(20) as u16,
     }
 }
@@ -513,9 +552,9 @@ pub fn put_out_of_range(rng: &mut Rng, section: &mut Section) {
         12 => track.posts[post].faults |= 16 << rng.below(4),
         13 => track.posts[post].mark = rng.pick(&[2, 255]),
         14 => track.posts[post].seals = rng.pick(&[1_000, 1_023, 65_535]),
-        15 => track.trains[block_section] = rng.pick(&[10_000, 65_535]),
-        16 => track.last[block_section] = rng.pick(&[10_000, 65_535]),
-        17 => track.posts[post].form_for = rng.pick(&[10_000, 65_535]),
+        15 => track.trains[block_section] = rng.pick(&TOO_GREAT),
+        16 => track.last[block_section] = rng.pick(&TOO_GREAT),
+        17 => track.posts[post].form_for = rng.pick(&TOO_GREAT),
         _ => section.settings.crossings = wrong_crossings(rng, n),
     }
 }
@@ -552,7 +591,7 @@ pub fn random_day(rng: &mut Rng, count: usize) -> Vec<u8> {
 /// Spoils a file; now and then it stays readable.
 pub fn damage(rng: &mut Rng, file: &mut Vec<u8>) {
     let longest_tail = Mark::Bsr2.tail_length();
-    match rng.below(14) {
+    match rng.below(15) {
         0 => file.truncate(rng.below(file.len() as u64 + 1) as usize),
         1 => file.truncate(file.len().saturating_sub(STEP_LENGTH)),
         2 => file.extend((0..rng.below(20)).map(|i| i as u8)),
@@ -565,6 +604,7 @@ pub fn damage(rng: &mut Rng, file: &mut Vec<u8>) {
         9 => put_trailer_of_length(rng, file),
         10 => put_crossings(rng, file),
         11 => replace_crossing(rng, file),
+        12 => replace_number(rng, file),
         _ => replace_byte(rng, file, usize::MAX),
     }
 }
@@ -611,6 +651,24 @@ fn replace_crossing(rng: &mut Rng, file: &mut [u8]) {
     let from_end = TRAILER_LENGTH + rng.between(1, MOST_CROSSINGS);
     if let Some(place) = file.len().checked_sub(from_end) {
         file[place] = value;
+    }
+}
+
+/// The number of a step becomes one beside a bound, or too great; mostly of a step that has one.
+fn replace_number(rng: &mut Rng, file: &mut [u8]) {
+    let Ok(day) = dayfile::read(file) else { return };
+    let steps = day.steps.chunks_exact(STEP_LENGTH).enumerate();
+    let numbered: Vec<usize> = steps
+        .filter(|(_, step)| rng.chance(1, 30) || step[4] | step[5] != 0)
+        .map(|(index, _)| index)
+        .collect();
+    if !numbered.is_empty() {
+        let place = STEP_LENGTH * rng.pick(&numbered) + 4;
+        let number = match rng.flag() {
+            0 => rng.train_at_a_bound(),
+            _ => rng.pick(&TOO_GREAT),
+        };
+        file[place..place + 2].copy_from_slice(&number.to_le_bytes());
     }
 }
 

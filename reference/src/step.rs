@@ -1,7 +1,7 @@
 //! One step of a day: fourteen kinds, eight bytes each.
 
 pub const STEP_LENGTH: usize = 8;
-pub const GREATEST_TRAIN: u16 = 9_999;
+pub const GREATEST_TRAIN: u16 = 59_999;
 pub const GREATEST_FAULT: u8 = 4;
 
 #[derive(Clone, Copy, Debug, PartialEq, Eq, Hash)]
@@ -184,8 +184,8 @@ mod tests {
             _ => fault == 0,
         };
         let train_fits = match kind {
-            5..=7 | 14 => (1..=9_999).contains(&train),
-            12 => train <= 9_999,
+            5..=7 | 14 => (1..=59_999).contains(&train),
+            12 => train <= 59_999,
             _ => train == 0,
         };
         (1..=14).contains(&kind) && fault_fits && train_fits
@@ -195,7 +195,9 @@ mod tests {
     fn every_kind_goes_there_and_back() {
         for kind in 0..=255u8 {
             for fault in (0..=5u8).chain([128, 255]) {
-                for train in [0u16, 1, 255, 256, 9_999, 10_000, 65_535] {
+                for train in [
+                    0u16, 1, 255, 256, 9_999, 10_000, 32_768, 59_999, 60_000, 65_535,
+                ] {
                     let [low, high] = train.to_le_bytes();
                     let bytes = [kind, 1, 4, fault, low, high, 0, 0];
                     let decoded = decode(&bytes, 5);
@@ -235,7 +237,7 @@ mod tests {
             [0, 0, 0, 0, 0, 0, 0, 0],
             [14, 0, 0, 0, 0, 0, 0, 0],
             [14, 0, 0, 1, 1, 0, 0, 0],
-            [14, 0, 0, 0, 0x10, 0x27, 0, 0],
+            [14, 0, 0, 0, 0x60, 0xea, 0, 0],
             [15, 0, 0, 0, 0, 0, 0, 0],
             [15, 0, 0, 0, 1, 0, 0, 0],
             [1, 2, 0, 0, 0, 0, 0, 0],
@@ -245,10 +247,10 @@ mod tests {
             [1, 0, 0, 0, 0, 0, 1, 0],
             [1, 0, 0, 0, 0, 0, 0, 1],
             [5, 0, 0, 0, 0, 0, 0, 0],
-            [5, 0, 0, 0, 0x10, 0x27, 0, 0],
+            [5, 0, 0, 0, 0x60, 0xea, 0, 0],
             [10, 0, 0, 0, 0, 0, 0, 0],
             [11, 0, 0, 5, 0, 0, 0, 0],
-            [12, 0, 0, 0, 0x10, 0x27, 0, 0],
+            [12, 0, 0, 0, 0x60, 0xea, 0, 0],
         ] {
             assert!(decode(&bad, 2).is_none(), "{bad:?}");
         }

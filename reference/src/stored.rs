@@ -10,9 +10,11 @@ mod parts;
 mod refused;
 mod stretches;
 pub mod table;
+mod trains;
 mod written;
 
 use crate::dayfile::MOST_STEPS;
+use crate::generate::Rng;
 use crate::listing::{listing, panel};
 use crate::settings::{Settings, MATERIALISED, NO_CROSSINGS, TELEPHONE};
 use bench::{A, B};
@@ -71,7 +73,9 @@ pub fn days() -> Vec<StoredDay> {
     add_stretches(&mut days);
     add_parts(&mut days);
     add_crossings(&mut days);
+    add_trains(&mut days);
     add_drawn(&mut days);
+    add_drawn_of_five_figures(&mut days);
     add_lengths(&mut days);
     for (name, file) in refused::files() {
         add(&mut days, name, file);
@@ -161,6 +165,16 @@ fn add_crossings(days: &mut Vec<StoredDay>) {
     }
 }
 
+fn add_trains(days: &mut Vec<StoredDay>) {
+    for (form, form_name) in FORMS {
+        for (track, track_name) in TRACKS {
+            let name = format!("trains_five_figures_{form_name}_{track_name}");
+            add(days, &name, trains::five_figures(form, track));
+        }
+    }
+    add(days, "trains_five_figures_each_kind", trains::each_kind());
+}
+
 /// The masks leave posts without signals, so that passes go on inside a stretch too.
 fn add_drawn(days: &mut Vec<StoredDay>) {
     for (n, mask) in [(2, 0x3), (3, 0x5), (7, 0x49), (16, 0x9249)] {
@@ -168,10 +182,28 @@ fn add_drawn(days: &mut Vec<StoredDay>) {
             let name = format!("drawn_{n}_{form_name}");
             let settings = settings(n, form, mask);
             let seed = u64::from(n) * 2 + u64::from(form);
-            add(days, &name, lengths::drawn(settings, 250, seed));
+            let rng = Rng::of_four_figures(seed);
+            add(days, &name, lengths::drawn(settings, 250, rng));
             let name = format!("drawn_{n}_{form_name}_crossings");
             let settings = with_crossings(settings);
-            add(days, &name, lengths::drawn(settings, 250, seed + 100));
+            let rng = Rng::of_four_figures(seed + 100);
+            add(days, &name, lengths::drawn(settings, 250, rng));
+        }
+    }
+}
+
+fn add_drawn_of_five_figures(days: &mut Vec<StoredDay>) {
+    for (n, mask) in [(2, 0x3), (3, 0x5), (7, 0x49), (16, 0x9249)] {
+        for (form, form_name) in FORMS {
+            let without = settings(n, form, mask);
+            for (settings, ending, more) in [
+                (without, "", 200),
+                (with_crossings(without), "_crossings", 300),
+            ] {
+                let name = format!("drawn_five_figures_{n}_{form_name}{ending}");
+                let rng = Rng::new(u64::from(n) * 2 + u64::from(form) + more);
+                add(days, &name, lengths::drawn(settings, 250, rng));
+            }
         }
     }
 }
@@ -193,7 +225,8 @@ fn add_lengths(days: &mut Vec<StoredDay>) {
         (with_crossings(sixteen), "_crossings", 4_097),
     ] {
         let name = format!("steps_4096_16{ending}");
-        add(days, &name, lengths::drawn(settings, MOST_STEPS, seed));
+        let rng = Rng::of_four_figures(seed);
+        add(days, &name, lengths::drawn(settings, MOST_STEPS, rng));
     }
     add(days, "steps_4096_819_seals", lengths::seals_819());
 }

@@ -104,7 +104,7 @@ fn used(bytes: &[u8]) -> Crossings {
 
 #[test]
 fn eight_more_bytes_between_settings_and_trailer() {
-    let steps = encode(A, &form(0, 9_999)).repeat(3);
+    let steps = encode(A, &form(0, 59_999)).repeat(3);
     let settings = three_posts(&[0, 128, 1]);
     let file = dayfile::file_of(&settings, &steps).unwrap();
     assert_eq!(file, bsr2_file(&steps, settings.crossings));
@@ -243,14 +243,14 @@ fn well_formed_under_either_mark() {
     for settings in [three_posts(&[]), three_posts(&[0])] {
         let steps = [
             encode(A, &form(2, 1)),
-            encode(B, &form(0, 9_999)),
+            encode(B, &form(0, 59_999)),
             encode(A, &Step::FaultOn { post: 2, fault: 4 }),
             encode(B, &Step::FaultOff { post: 1, fault: 4 }),
         ];
         let file = dayfile::file_of(&settings, &steps.concat()).unwrap();
         assert_eq!(read(&file), Ok(settings));
     }
-    assert!(decode(&encode(A, &form(0, 10_000)), 3).is_none());
+    assert!(decode(&encode(A, &form(0, 60_000)), 3).is_none());
     assert!(decode(&[14, 0, 0, 0, 0, 0, 0, 0], 3).is_none());
     assert!(decode(&[14, 0, 0, 4, 1, 0, 0, 0], 3).is_none());
     assert!(decode(&[10, 0, 0, 5, 0, 0, 0, 0], 3).is_none());
@@ -431,12 +431,12 @@ fn used_up_by_that_trains_entry_needed_or_not() {
 fn a_newer_form_replaces_the_older() {
     let mut section = Section::fresh(three_posts(&[0]));
     fault_4(&mut section, A, 0);
-    for train in [7, 7, 8, 9_999] {
+    for train in [7, 7, 8, 59_999] {
         accept(&mut section, A, form(0, train));
         assert_eq!(form_at(&section, A, 0), train);
     }
     assert_eq!(refusal(&section, A, start(0, 7)), 22);
-    accept(&mut section, A, start(0, 9_999));
+    accept(&mut section, A, start(0, 59_999));
 }
 
 #[test]
@@ -495,13 +495,13 @@ fn a_form_after_the_posts_own_set_stays() {
 #[test]
 fn ranges_of_the_new_fields() {
     let mut section = Section::fresh(three_posts(&[0]));
-    section.tracks[1].posts[2].form_for = 9_999;
+    section.tracks[1].posts[2].form_for = 59_999;
     section.tracks[1].posts[2].faults = 15;
-    section.tracks[1].posts[3].form_for = 10_000;
+    section.tracks[1].posts[3].form_for = 60_000;
     section.tracks[1].posts[3].faults = 16;
     assert!(section.in_range());
     let mut bad = section;
-    bad.tracks[1].posts[2].form_for = 10_000;
+    bad.tracks[1].posts[2].form_for = 60_000;
     assert!(!bad.in_range());
     let mut bad = section;
     bad.tracks[1].posts[2].faults = 16;

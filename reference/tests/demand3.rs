@@ -324,12 +324,13 @@ fn offered_step(rng: &mut Rng, section: &Section, furthering: bool) -> Vec<u8> {
 
 fn malformed_step(rng: &mut Rng, section: &Section) -> Vec<u8> {
     let mut step = generate::sensible_step(rng, section).to_vec();
-    match rng.below(6) {
+    match rng.below(7) {
         0 => step.truncate(rng.below(8) as usize),
         1 => step.push(0),
         2 => step[0] = rng.pick(&[0, 15, 255]),
         3 => step[1] = 2,
         4 => step[2] = section.settings.n,
+        5 => step[4..6].copy_from_slice(&rng.pick(&[60_000u16, 65_535]).to_le_bytes()),
         _ => step[6 + rng.below(2) as usize] = 1,
     }
     assert_eq!(judge(section, &step).refusal, 4);
@@ -504,7 +505,7 @@ fn check_starters(end: &Section) {
 fn start_is_accepted(section: &Section, track: u8, post: u8) -> bool {
     let form_for = section.tracks[usize::from(track)].posts[usize::from(post)].form_for;
     (1..=16)
-        .chain([500, 9_999, form_for])
+        .chain([500, 9_999, 10_000, 59_999, form_for])
         .any(|train| judge(section, &encode(track, &Step::Start { post, train })).refusal == 0)
 }
 

@@ -119,8 +119,8 @@ fn instance_3_seventeen_posts() {
 #[test]
 fn instance_4_train_numbers() {
     let fresh = Section::fresh(two_posts());
-    assert_eq!(offer(&fresh, A, start(0, 9_999)).refusal, 0);
-    assert_eq!(refusal(&fresh, A, start(0, 10_000)), 4);
+    assert_eq!(offer(&fresh, A, start(0, 59_999)).refusal, 0);
+    assert_eq!(refusal(&fresh, A, start(0, 60_000)), 4);
 }
 
 #[test]

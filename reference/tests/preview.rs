@@ -261,11 +261,12 @@ fn random_steps(rng: &mut Rng) -> (Settings, Vec<Vec<u8>>) {
 /// Malformed in any section.
 fn spoiled(rng: &mut Rng, step: &[u8]) -> Vec<u8> {
     let mut bytes = step.to_vec();
-    match rng.below(5) {
+    match rng.below(6) {
         0 => bytes.truncate(7),
         1 => bytes.push(0),
         2 => bytes[0] = rng.pick(&[0, 15, 255]),
         3 => bytes[1] = rng.pick(&[2, 255]),
+        4 => bytes[4..6].copy_from_slice(&rng.pick(&[60_000u16, 65_535]).to_le_bytes()),
         _ => bytes[2] = rng.pick(&[16, 255]),
     }
     bytes

@@ -15,7 +15,7 @@ use reference::engine::judge_in_place;
 use reference::generate::{furthering_step, random_settings, Rng};
 use reference::section::{Section, MOST_SEALS};
 use reference::settings::{Settings, NO_CROSSINGS};
-use reference::step::{encode, Step, STEP_LENGTH};
+use reference::step::{encode, Step, GREATEST_TRAIN, STEP_LENGTH};
 
 const DAYS: u32 = 800;
 const MOST_STEPS_OF_DAY: u64 = 500;
@@ -131,7 +131,7 @@ impl DayComparison {
             line: 1,
             crossings: [1 - track, 255, 255, 255, 255, 255, 255, 255],
         };
-        let train = 1 + self.rng.below(9_999) as u16;
+        let train = 1 + self.rng.below(u64::from(GREATEST_TRAIN)) as u16;
         let mut day = self.begin(settings)?;
         for step in late_caution(2 * track, train) {
             self.take(&mut day, &encode(track, &step))?;

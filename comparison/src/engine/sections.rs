@@ -19,9 +19,9 @@ const OTHER_LENGTHS: u32 = 1_000;
 const OTHER_LAYOUTS: u32 = 5_000;
 const AT_BOUNDS: u32 = 20;
 
-/// The faults' byte and the caution form's number, at and beside their bounds.
+/// The faults' byte, and the number of a train, a last train and a caution form, at and beside their bounds.
 const FAULTS: [u8; 7] = [0, 7, 8, 15, 16, 128, 255];
-const CAUTIONS: [u16; 8] = [0, 1, 9_998, 9_999, 10_000, 10_001, 16_384, 65_535];
+const NUMBERS: [u16; 9] = [0, 1, 9_999, 10_000, 59_998, 59_999, 60_000, 60_001, 65_535];
 
 pub struct SectionComparison {
     rng: Rng,
@@ -51,6 +51,7 @@ impl Comparison for SectionComparison {
         self.crossings_at_bounds()?;
         for _ in 0..AT_BOUNDS {
             self.posts_at_bounds()?;
+            self.trains_at_bounds()?;
         }
         for _ in 0..CHANGED {
             self.changed_image()?;
@@ -97,10 +98,29 @@ impl SectionComparison {
                     spoiled.tracks[track].posts[post].faults = faults;
                     self.compare_section(&spoiled)?;
                 }
-                for number in CAUTIONS {
+                for number in NUMBERS {
                     let mut spoiled = section;
                     spoiled.tracks[track].posts[post].form_for = number;
                     self.compare_section(&spoiled)?;
+                }
+            }
+        }
+        Ok(())
+    }
+
+    /// In the block sections at the ends, in the cell past them and in the last one.
+    fn trains_at_bounds(&mut self) -> Outcome {
+        let section = section_in_range(&mut self.rng);
+        let n = usize::from(section.settings.n);
+        for track in [0, 1] {
+            for block in [0, n - 2, (n - 1).min(14), 14] {
+                for number in NUMBERS {
+                    let mut with_train = section;
+                    with_train.tracks[track].trains[block] = number;
+                    self.compare_section(&with_train)?;
+                    let mut with_last = section;
+                    with_last.tracks[track].last[block] = number;
+                    self.compare_section(&with_last)?;
                 }
             }
         }

@@ -1,6 +1,7 @@
 //! How often each kind of step was answered how.
 
 use super::cautions::{Fate, FATES};
+use super::numbers::{self, Numbers};
 use super::parts::{ByPart, OF_SECTIONS};
 use crate::report::{fail_if_any, Outcome};
 use reference::step::STEP_LENGTH;
@@ -35,11 +36,13 @@ pub struct Tally {
     said: [u64; 5],
     fates: [u64; FATES.len()],
     by_part: [u64; OF_SECTIONS.len()],
+    numbers: Numbers,
 }
 
 impl Tally {
     pub fn count(&mut self, step: &[u8], refusal: u8, said: u8) {
         self.answers[kind_of(step)][usize::from(refusal)] += 1;
+        self.numbers.count(numbers::of(step), refusal);
         if refusal == 0 {
             self.said[usize::from(said)] += 1;
         }
@@ -77,6 +80,7 @@ impl Tally {
     pub fn print_steps(&self, part: &str) {
         self.print_answers(part);
         self.print_fates();
+        self.numbers.print();
     }
 
     /// By kind, and what was said.
@@ -140,6 +144,7 @@ impl Tally {
             self.missing_refusals(from_input),
             self.missing_words(),
             self.missing_fates(),
+            self.numbers.missing(from_input),
         ];
         fail_if_any(&format!("NEVER SEEN, {part}"), &missing.concat())?;
         let strange = self.all_kinds(|tally, kind| tally.strange_answers(kind, from_input));

@@ -12,7 +12,7 @@ const KINDS: [u8; 18] = [
 ];
 const TRACKS: [u8; 4] = [0, 1, 2, 255];
 const FAULTS: [u8; 7] = [0, 1, 2, 3, 4, 5, 255];
-const NUMBERS: [u16; 6] = [0, 1, 256, 9_999, 10_000, 65_535];
+const NUMBERS: [u16; 8] = [0, 1, 256, 9_999, 10_000, 59_999, 60_000, 65_535];
 
 /// All combinations, without crossings.
 fn settings_at_bounds() -> Vec<Settings> {

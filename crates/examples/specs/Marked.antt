@@ -39,9 +39,9 @@ instances =
     ∷ (reading (dayOfNone 2 3 0) gives 0)
     -- (3) "n = 17 gives 3"
     ∷ (reading (dayOfNone 17 255 255) gives 3)
-    -- (4) "number 9,999 starts, 10,000 gives 4"
-    ∷ (answer (fresh (telephone 3 7)) (Start 0 9999 ∷ []) gives 0)
-    ∷ (answer (fresh (telephone 3 7)) (Start 0 10000 ∷ []) gives 4)
+    -- (4) "number 9,999 starts, 10,000 gives 4"; "Marked instance 4 takes 59,999 and 60,000 as its two numbers."
+    ∷ (answer (fresh (telephone 3 7)) (Start 0 59999 ∷ []) gives 0)
+    ∷ (answer (fresh (telephone 3 7)) (Start 0 60000 ∷ []) gives 4)
     -- (5) "a second start before the first train passes gives 13"
     ∷ (answer (fresh (telephone 3 7)) (Start 0 1 ∷ Start 0 2 ∷ []) gives 13)
     -- (6) "that start with the first train's number gives 17"

@@ -33,20 +33,22 @@ pub malformed-refused-4 :
     ∷ (answerTo (fresh (telephone 3 7)) (1 ∷ 0 ∷ 3 ∷ 0 ∷ 0 ∷ 0 ∷ 0 ∷ 0 ∷ []) gives 4 ∷ [])
     ∷ (answerTo (fresh (telephone 3 7)) (1 ∷ 0 ∷ 0 ∷ 1 ∷ 0 ∷ 0 ∷ 0 ∷ 0 ∷ []) gives 4 ∷ [])
     ∷ (answerTo (fresh (telephone 3 7)) (1 ∷ 0 ∷ 0 ∷ 0 ∷ 0 ∷ 0 ∷ 0 ∷ 1 ∷ []) gives 4 ∷ [])
-    -- start of 9,999 = 15 + 39 × 256, of 10,000, and of 0
-    ∷ (answerTo (fresh (telephone 3 7)) (5 ∷ 0 ∷ 0 ∷ 0 ∷ 15 ∷ 39 ∷ 0 ∷ 0 ∷ []) gives 0 ∷ [])
-    ∷ (answerTo (fresh (telephone 3 7)) (5 ∷ 0 ∷ 0 ∷ 0 ∷ 16 ∷ 39 ∷ 0 ∷ 0 ∷ []) gives 4 ∷ [])
+    -- start of 10,000 = 16 + 39 × 256, of 59,999 = 95 + 234 × 256, of 60,000, of 65,535, and of 0
+    ∷ (answerTo (fresh (telephone 3 7)) (5 ∷ 0 ∷ 0 ∷ 0 ∷ 16 ∷ 39 ∷ 0 ∷ 0 ∷ []) gives 0 ∷ [])
+    ∷ (answerTo (fresh (telephone 3 7)) (5 ∷ 0 ∷ 0 ∷ 0 ∷ 95 ∷ 234 ∷ 0 ∷ 0 ∷ []) gives 0 ∷ [])
+    ∷ (answerTo (fresh (telephone 3 7)) (5 ∷ 0 ∷ 0 ∷ 0 ∷ 96 ∷ 234 ∷ 0 ∷ 0 ∷ []) gives 4 ∷ [])
+    ∷ (answerTo (fresh (telephone 3 7)) (5 ∷ 0 ∷ 0 ∷ 0 ∷ 255 ∷ 255 ∷ 0 ∷ 0 ∷ []) gives 4 ∷ [])
     ∷ (answerTo (fresh (telephone 3 7)) (5 ∷ 0 ∷ 0 ∷ 0 ∷ 0 ∷ 0 ∷ 0 ∷ 0 ∷ []) gives 4 ∷ [])
     ∷ [])
 unfolding answerTo
 malformed-refused-4 = refl
 
--- "kind 14 (number 1 to 9,999)"; "Kinds 10 and 11 take fault 4 too"; "it and fault 4 are well formed under either mark"
+-- "kind 14 (number 1 to 9,999)", since request 5 to 59,999; "Kinds 10 and 11 take fault 4 too"; "it and fault 4 are well formed under either mark"
 pub crossings-well-formed :
     Holds
-    -- kind 14 for 9,999, for 10,000, for 0, with a fault, and where there are no crossings
-    ((answerTo (fresh (withCrossings (0 ∷ []) (telephone 3 7))) (14 ∷ 0 ∷ 0 ∷ 0 ∷ 15 ∷ 39 ∷ 0 ∷ 0 ∷ []) gives 0 ∷ [])
-    ∷ (answerTo (fresh (withCrossings (0 ∷ []) (telephone 3 7))) (14 ∷ 0 ∷ 0 ∷ 0 ∷ 16 ∷ 39 ∷ 0 ∷ 0 ∷ []) gives 4 ∷ [])
+    -- kind 14 for 59,999, for 60,000, for 0, with a fault, and where there are no crossings
+    ((answerTo (fresh (withCrossings (0 ∷ []) (telephone 3 7))) (14 ∷ 0 ∷ 0 ∷ 0 ∷ 95 ∷ 234 ∷ 0 ∷ 0 ∷ []) gives 0 ∷ [])
+    ∷ (answerTo (fresh (withCrossings (0 ∷ []) (telephone 3 7))) (14 ∷ 0 ∷ 0 ∷ 0 ∷ 96 ∷ 234 ∷ 0 ∷ 0 ∷ []) gives 4 ∷ [])
     ∷ (answerTo (fresh (withCrossings (0 ∷ []) (telephone 3 7))) (14 ∷ 0 ∷ 0 ∷ 0 ∷ 0 ∷ 0 ∷ 0 ∷ 0 ∷ []) gives 4 ∷ [])
     ∷ (answerTo (fresh (withCrossings (0 ∷ []) (telephone 3 7))) (14 ∷ 0 ∷ 0 ∷ 4 ∷ 7 ∷ 0 ∷ 0 ∷ 0 ∷ []) gives 4 ∷ [])
     ∷ (answerTo (fresh (telephone 3 7)) (14 ∷ 0 ∷ 0 ∷ 0 ∷ 7 ∷ 0 ∷ 0 ∷ 0 ∷ []) gives 12 ∷ [])
@@ -61,10 +63,10 @@ crossings-well-formed = refl
 -- 6: "engine only, before 4: the state handed in has settings or a field outside its range"
 pub out-of-range-refused-6 :
     Holds
-    -- the end post 2 not signalled, a seal count of 1,000, a train 10,000, post 3 of three in turn, the last post to announce
+    -- the end post 2 not signalled, a seal count of 1,000, a train 60,000, post 3 of three in turn, the last post to announce
     ((answerTo (fresh (telephone 3 3)) orderA0 gives 6 ∷ [])
     ∷ (answerTo (sealedAt B 1 1000 (fresh (telephone 3 7))) orderA0 gives 6 ∷ [])
-    ∷ (answerTo (changedTrack B (holding (0 ∷ 10000 ∷ [])) (fresh (telephone 3 7))) orderA0 gives 6 ∷ [])
+    ∷ (answerTo (changedTrack B (holding (0 ∷ 60000 ∷ [])) (fresh (telephone 3 7))) orderA0 gives 6 ∷ [])
     ∷ (answerTo (changedTrack B (running VNS (Turn 3 act.Set)) (fresh (telephone 3 7))) orderA0 gives 6 ∷ [])
     ∷ (answerTo (changedTrack B (running VNS (Turn 0 act.Announce)) (fresh (telephone 3 7))) orderA0 gives 6 ∷ [])
     -- before 4
@@ -72,7 +74,7 @@ pub out-of-range-refused-6 :
     ∷ (answerTo (fresh (telephone 3 3)) [] gives 6 ∷ [])
     -- "Cells past post n−1 or block section n−2 are neither tested nor changed."
     ∷ (answerTo (sealedAt A 3 1000 (fresh (telephone 3 7))) orderA0 gives 0 ∷ [])
-    ∷ (answerTo (changedTrack A (holding (0 ∷ 0 ∷ 10000 ∷ [])) (fresh (telephone 3 7))) orderA0 gives 0 ∷ [])
+    ∷ (answerTo (changedTrack A (holding (0 ∷ 0 ∷ 60000 ∷ [])) (fresh (telephone 3 7))) orderA0 gives 0 ∷ [])
     ∷ (answerTo (changedTrack A (holding (0 ∷ 0 ∷ 7 ∷ [])) (fresh (telephone 3 7))) (5 ∷ 0 ∷ 0 ∷ 0 ∷ 7 ∷ 0 ∷ 0 ∷ 0 ∷ []) gives 0 ∷ [])
     -- "A state inside the ranges is judged by the table of steps, reachable or not."
     ∷ (answerTo (changedTrack B (running VNS (Turn 0 act.Acknowledge)) (fresh (telephone 3 7))) orderA0 gives 14 ∷ [])
@@ -81,7 +83,7 @@ unfolding answerTo
 out-of-range-refused-6 = refl
 
 -- "a block section number, plus 128 ..": "The section numbers never fall, and within one section bytes without the 128 stand first"; a caution
--- form for 0 to 9,999
+-- form for 0 to 59,999
 pub crossings-out-of-range-refused-6 :
     Holds
     ((answerTo (fresh (withCrossings (0 ∷ 0 ∷ 128 ∷ 128 ∷ 1 ∷ 1 ∷ 129 ∷ 129 ∷ []) (telephone 3 7))) orderA0 gives 0 ∷ [])
@@ -91,10 +93,10 @@ pub crossings-out-of-range-refused-6 :
     ∷ (answerTo (fresh (withCrossings (1 ∷ 0 ∷ []) (telephone 3 7))) orderA0 gives 6 ∷ [])
     ∷ (answerTo (fresh (withCrossings (128 ∷ 0 ∷ []) (telephone 3 7))) orderA0 gives 6 ∷ [])
     ∷ (answerTo (fresh (withCrossings (255 ∷ 0 ∷ []) (telephone 3 7))) orderA0 gives 6 ∷ [])
-    -- a form for 10,000; one for 7 at the receiving end; one at post 3 of three
-    ∷ (answerTo (changedPost B 1 (cautioned 10000) (fresh (telephone 3 7))) orderA0 gives 6 ∷ [])
-    ∷ (answerTo (changedPost A 2 (cautioned 9999) (fresh (telephone 3 7))) orderA0 gives 0 ∷ [])
-    ∷ (answerTo (changedPost A 3 (cautioned 10000) (fresh (telephone 3 7))) orderA0 gives 0 ∷ [])
+    -- a form for 60,000; one for 59,999 at the receiving end; one at post 3 of three
+    ∷ (answerTo (changedPost B 1 (cautioned 60000) (fresh (telephone 3 7))) orderA0 gives 6 ∷ [])
+    ∷ (answerTo (changedPost A 2 (cautioned 59999) (fresh (telephone 3 7))) orderA0 gives 0 ∷ [])
+    ∷ (answerTo (changedPost A 3 (cautioned 60000) (fresh (telephone 3 7))) orderA0 gives 0 ∷ [])
     ∷ [])
 unfolding answerTo
 crossings-out-of-range-refused-6 = refl

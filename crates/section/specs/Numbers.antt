@@ -14,8 +14,9 @@ mostBlocks = 15
 abbrev pub largestLine : ℕ
 largestLine = 999
 
+-- "Works trains have numbers up to 59,999." (document 02, request 5)
 abbrev pub largestTrain : ℕ
-largestTrain = 9999
+largestTrain = 59999
 
 abbrev pub mostSeals : ℕ
 mostSeals = 999

@@ -59,7 +59,7 @@ isTrain number = within 1 largestTrain number
 unfoldable pub faultWellFormed : ℕ → ℕ → Bool
 faultWellFormed kind fault = cond (isFaultKind kind) (isFault fault) (eqb fault 0)
 
--- "The number is 1 to 9,999 in kinds 5 to 7, 0 to 9,999 in kind 12, else zero." "kind 14 (number 1 to 9,999)"
+-- "The number is 1 to 9,999 in kinds 5 to 7, 0 to 9,999 in kind 12, else zero." "kind 14 (number 1 to 9,999)"; since request 5 to 59,999
 unfoldable pub numberWellFormed : ℕ → ℕ → Bool
 numberWellFormed kind number =
     cond (isTrainKind kind || eqb kind cautionKind) (isTrain number)

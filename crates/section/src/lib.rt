@@ -21,7 +21,7 @@ pub const MOST_BLOCKS: usize = MOST_POSTS as usize - 1;
 
 pub const LARGEST_LINE: u16 = 999;
 
-pub const LARGEST_TRAIN: u16 = 9999;
+pub const LARGEST_TRAIN: u16 = 59999;
 
 pub const MOST_SEALS: u16 = 999;
 

@@ -1,6 +1,7 @@
 //! What the stored days must show together.
 
 mod parts;
+mod trains;
 
 use super::table::ANSWERS_BY_KIND;
 use super::StoredDay;
@@ -48,6 +49,7 @@ pub fn demand(days: &[StoredDay]) {
     }
     assert!(file_refusals.contains(&(4, MOST_STEPS as u32 - 1)));
     parts::demand(days);
+    trains::demand(days);
 }
 
 fn collect(day: &Day, seen: &mut BTreeSet<Case>) {

@@ -12,8 +12,7 @@ pub fn without_steps(settings: Settings) -> Vec<u8> {
 }
 
 /// Steps drawn for the state that they meet.
-pub fn drawn(settings: Settings, count: usize, seed: u64) -> Vec<u8> {
-    let mut rng = Rng::new(seed);
+pub fn drawn(settings: Settings, count: usize, mut rng: Rng) -> Vec<u8> {
     let mut bench = Bench::new(settings, A);
     for _ in 0..count {
         let step = sensible_step(&mut rng, &bench.section);

@@ -1,6 +1,7 @@
 //! Files that the reader refuses, each for one reason, and some with a later reason beside it.
 
 use super::bench::{Bench, A};
+use super::trains;
 use crate::dayfile::{self, Mark, Refusal, MOST_STEPS, TRAILER_LENGTH};
 use crate::settings::{
     Crossings, Settings, MATERIALISED, MOST_CROSSINGS, NO_CROSSINGS, UNUSED, WITHOUT_ZONES,
@@ -157,7 +158,6 @@ fn steps() -> Vec<Named> {
     [
         ("refused_4_first_step_kind_15", malformed(0, 0, 15)),
         ("refused_4_form_without_number", malformed(0, 0, 14)),
-        ("refused_4_form_number_10000", malformed_form(4, 0x10)),
         ("refused_4_fault_in_a_form", malformed_form(3, 4)),
         ("refused_4_byte_6_of_a_form", malformed_form(6, 1)),
         ("refused_4_kind_0", malformed(1, 0, 0)),
@@ -165,7 +165,6 @@ fn steps() -> Vec<Named> {
         ("refused_4_post_3_of_3", malformed(2, 2, 3)),
         ("refused_4_fault_5", malformed(2, 3, 5)),
         ("refused_4_fault_in_a_start", malformed(1, 3, 1)),
-        ("refused_4_number_10000", malformed(1, 4, 0x10)),
         ("refused_4_number_in_an_order", malformed(3, 4, 1)),
         ("refused_4_byte_6", malformed(3, 6, 1)),
         ("refused_4_byte_7", malformed(0, 7, 1)),
@@ -174,6 +173,17 @@ fn steps() -> Vec<Named> {
             "refused_4_step_4095_crossings",
             last_step_malformed(with_crossings()),
         ),
+        ("refused_4_train_60000_form", with_number(0, 60_000)),
+        ("refused_4_train_60000_start", with_number(1, 60_000)),
+        ("refused_4_train_60000_pass", with_number(2, 60_000)),
+        ("refused_4_train_60000_leave", with_number(3, 60_000)),
+        ("refused_4_train_60000_release", with_number(5, 60_000)),
+        ("refused_4_train_65535_form", with_number(0, 65_535)),
+        ("refused_4_train_65535_start", with_number(1, 65_535)),
+        ("refused_4_train_65535_pass", with_number(2, 65_535)),
+        ("refused_4_train_65535_leave", with_number(3, 65_535)),
+        ("refused_4_train_65535_release", with_number(5, 65_535)),
+        ("refused_4_train_59999_in_a_fault", with_number(4, 59_999)),
     ]
     .into_iter()
     .map(|(name, (file, index))| {
@@ -250,6 +260,14 @@ fn malformed_form(place: usize, value: u8) -> (Vec<u8>, u32) {
     let mut file = day_with_crossings();
     file[4 * STEP_LENGTH + place] = value;
     (file, 4)
+}
+
+/// The day of each kind with another number in a step, and the step's index.
+fn with_number(index: usize, number: u16) -> (Vec<u8>, u32) {
+    let mut file = trains::each_kind();
+    let place = index * STEP_LENGTH + 4;
+    file[place..place + 2].copy_from_slice(&number.to_le_bytes());
+    (file, index as u32)
 }
 
 /// The bytes before the trailer stay, the trailer is what the length demands under the mark.
