@@ -3,6 +3,7 @@
 pub mod cautions;
 pub mod days;
 pub mod judging;
+pub mod lamps;
 pub mod notes;
 pub mod numbers;
 pub mod offers;

@@ -45,7 +45,7 @@ fn circulation(post: &Post, awaited: bool) -> u8 {
 }
 
 /// The post before has set in this reversal and this one hasn't.
-fn awaits_set(track: &Track, way: Way, post: u8) -> bool {
+pub(crate) fn awaits_set(track: &Track, way: Way, post: u8) -> bool {
     let set = posts_that_have_set(track, way);
     let rank = way.rank(post);
     set > 0 && rank == set

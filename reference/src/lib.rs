@@ -1,11 +1,12 @@
 //! Direction blocking between two end stations: a second implementation, written from
-//! document 01, requests 1 to 5 of document 02 and the readings that AMBIGUITIES.md names as
+//! document 01, requests 1 to 6 of document 02 and the readings that AMBIGUITIES.md names as
 //! given beforehand.
 
 pub mod dayfile;
 pub mod engine;
 pub mod generate;
 pub mod indications;
+pub mod lamps;
 pub mod listing;
 pub mod preview;
 pub mod program;

@@ -3,12 +3,13 @@
 use comparison::engine::notes::{room_for, second_notes, NOTE_LENGTH};
 use comparison::engine::run_inputs::exact_room;
 use comparison::image::image_of;
-use comparison::proved::engine::{day, run as proved_run, Way};
+use comparison::proved::engine::{day, indications as proved_indications, run as proved_run, Way};
 use comparison::report::{run, same_bytes, Failure, Outcome, Run};
 use comparison::timing::{alternate, Times};
 use reference::dayfile::MOST_STEPS;
 use reference::engine::{judge_in_place, judge_in_range};
 use reference::generate::{furthering_step, sensible_step, Rng};
+use reference::indications::indications;
 use reference::run::run as second_run;
 use reference::section::Section;
 use reference::settings::{Settings, NO_CROSSINGS};
@@ -17,6 +18,7 @@ use std::hint::black_box;
 use std::process::ExitCode;
 
 const CALLS: u32 = 4;
+const CALLS_FOR_LAMPS: u32 = 200;
 
 fn main() -> ExitCode {
     run(benchmark_engine)
@@ -72,8 +74,15 @@ fn time_day(run: &Run, settings: &Settings) -> Outcome {
         MOST_STEPS,
         "step",
     );
-    let run = time_run(run, settings, &steps)?;
-    run.print("  a run, both test the ranges once", MOST_STEPS, "step");
+    let runs = time_run(run, settings, &steps)?;
+    runs.print("  a run, both test the ranges once", MOST_STEPS, "step");
+    let posts = 2 * usize::from(settings.n);
+    let shown = time_indications(run, settings, &steps);
+    shown.print(
+        "  what each post shows, both test the ranges each time",
+        posts,
+        "post",
+    );
     Ok(())
 }
 
@@ -125,6 +134,31 @@ fn time_run(run: &Run, settings: &Settings, steps: &[u8]) -> Result<Times, Failu
     same_bytes("the answers of a run", &answers, &of_second, &input)?;
     same_bytes("the image after a run", &image, &image_of(&section), &input)?;
     Ok(times)
+}
+
+/// Every post of both tracks, in the section that the day leaves. The proved side reads the image for each.
+fn time_indications(run: &Run, settings: &Settings, steps: &[u8]) -> Times {
+    let mut section = Section::fresh(*settings);
+    for step in steps.chunks_exact(STEP_LENGTH) {
+        judge_in_place(&mut section, step);
+    }
+    let image = image_of(&section);
+    let places = (0..2).flat_map(|track| (0..settings.n).map(move |post| (track, post)));
+    let places: Vec<(u8, u8)> = places.collect();
+    alternate(
+        run.times,
+        CALLS_FOR_LAMPS,
+        || {
+            for &(track, post) in &places {
+                black_box(proved_indications(black_box(&image), track, post));
+            }
+        },
+        || {
+            for &(track, post) in &places {
+                black_box(indications(black_box(&section), track, post));
+            }
+        },
+    )
 }
 
 /// Trains both ways, reversals and faults; few steps are refused.

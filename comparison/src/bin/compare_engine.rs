@@ -1,6 +1,7 @@
 //! Compares the engines, on single sections, along days and over runs of steps in one call.
 
 use comparison::engine::days::DayComparison;
+use comparison::engine::lamps::same_table;
 use comparison::engine::parts::{OF_DAYS, OF_SECTIONS};
 use comparison::engine::preview_cases::{CASES, CASES_OF_DAYS};
 use comparison::engine::runs::RunComparison;
@@ -13,6 +14,7 @@ fn main() -> ExitCode {
 }
 
 fn compare_engine(run: &Run) -> Outcome {
+    same_table()?;
     let sections: SectionComparison = run.compare(2)?;
     let days: DayComparison = run.compare(3)?;
     let runs: RunComparison = run.compare(7)?;
@@ -32,6 +34,7 @@ fn compare_engine(run: &Run) -> Outcome {
     sections.previews.cases.have(&CASES, "sections")?;
     days.previews.cases.have(&CASES_OF_DAYS, "days")?;
     runs.cases.have_all()?;
+    sections.tally.entries.fit_states("sections")?;
     println!(
         "sections: {} steps and {} previews compared",
         sections.tally.total(),
@@ -43,6 +46,11 @@ fn compare_engine(run: &Run) -> Outcome {
         days.previews.cases.total(),
         days.fresh_sections,
         days.days_noted
+    );
+    println!(
+        "lamp table: 256 entries compared, {} looked up for sections, {} along days",
+        sections.tally.entries.total(),
+        days.tally.entries.total()
     );
     println!(
         "runs: {} runs compared, {} steps of those that were done",

@@ -43,7 +43,7 @@ impl Both {
         let expected = self.expected_image(&before, refusal);
         self.same_image(&expected, &input)?;
         self.compare_indications(rng, &tried, &input)?;
-        self.count_lamps(tally);
+        self.count_lamps(tally, &input)?;
         tally.count(step, refusal, said);
         if let Some(section) = section_before {
             tally.count_by_part(ByPart::of(&section, step, refusal));
@@ -96,17 +96,20 @@ impl Both {
         self.same_indications(track, post, tried, input)
     }
 
-    /// What the posts' lamps show of the parts.
-    fn count_lamps(&self, tally: &mut Tally) {
+    /// What the posts' lamps show of the parts, and that the lamp table has it.
+    fn count_lamps(&self, tally: &mut Tally, input: &dyn Fn() -> String) -> Outcome {
         let Some(section) = self.section.filter(Section::in_range) else {
-            return;
+            return Ok(());
         };
         for track in [0, 1] {
             for post in 0..section.settings.n {
-                let (_, troncon, _) = indications(&section, track, post);
-                tally.count_by_part(ByPart::shown(&section, track, post, troncon));
+                let shown = indications(&section, track, post);
+                let looked_up = tally.entries.look_up(&section, track, post);
+                same("what the lamp table has", looked_up, shown, input)?;
+                tally.count_by_part(ByPart::shown(&section, track, post, shown.1));
             }
         }
+        Ok(())
     }
 
     fn same_indications(

@@ -1,6 +1,7 @@
 //! How often each kind of step was answered how.
 
 use super::cautions::{Fate, FATES};
+use super::lamps::Entries;
 use super::numbers::{self, Numbers};
 use super::parts::{ByPart, OF_SECTIONS};
 use crate::report::{fail_if_any, Outcome};
@@ -37,6 +38,7 @@ pub struct Tally {
     fates: [u64; FATES.len()],
     by_part: [u64; OF_SECTIONS.len()],
     numbers: Numbers,
+    pub entries: Entries,
 }
 
 impl Tally {

@@ -8,6 +8,7 @@ extern "C" {
         image_length: usize,
     ) -> u8;
     fn bsr_judge(image: *mut u8, image_length: usize, step: *const u8, step_length: usize) -> u16;
+    fn bsr_lamp_entry(index: u8) -> u8;
     fn bsr_indications(image: *const u8, image_length: usize, track: u8, post: u8) -> u16;
     fn bsr_preview(
         image: *const u8,
@@ -63,6 +64,11 @@ pub fn judge(image: &mut [u8], step: &[u8]) -> (u16, u16) {
 
 fn unpacked(answer: u16) -> (u16, u16) {
     (answer & 0xff, answer >> 8)
+}
+
+/// The entry of the lamp table.
+pub fn lamp_entry(index: u8) -> u8 {
+    unsafe { bsr_lamp_entry(index) }
 }
 
 /// CIRCULATION, TRONÇON and the start permission.

@@ -2,6 +2,7 @@
 // It is not stable: names, packed numbers and the image's layout may change with any delivery.
 ghost use mathlib.Core.Path.{_≡_};
 ghost use lib.ListN.{length};
+ghost use Rattle.rules.specs.LampTable.{lampEntry};
 ghost use Rattle.capi_sections.specs.Engine.{freshAnswer, freshImage, judgeAnswer, judgeImage, shownOf};
 use image::IMAGE_LENGTH;
 use image::reader;
@@ -59,4 +60,12 @@ pub extern "C" fn bsr_indications(bytes: &[u8], track: u8, post: u8) -> u16
         return 0;
     }
     packed_indications(engine::indications(reader::section_of(bytes), track, post))
+}
+
+// The entry of the lamp table at an index.
+#[no_mangle]
+pub extern "C" fn bsr_lamp_entry(index: u8) -> u8
+    ensures { λ r. ⌜ r ≡ lampEntry index ⌝ }
+{
+    lamp_table::entry(index)
 }

@@ -1,18 +1,17 @@
--- The lamps by their tests, and the indications of a section by its tracks.
-use Prim.Native.Nat.{ℕ, zero, suc, _<_, _≤_}
-use mathlib.Core.Bool.{Bool, true, false, not, cond, _&&_, _||_}
+-- The index of a site's bits, and the indications of a section by its tracks.
+use Prim.Native.Nat.{ℕ, zero, suc, _+_, _*_, _<_, _≤_}
+use mathlib.Core.Bool.{Bool, true, false, not}
 use native.Mathlib.Omega.{arith}
 use native.Mathlib.Decide.{decLt}
 use lib.Dec.{eqb, ltb, leb}
-use borrow.Author.Tests.{lt-ltb, le-ltb, le-leb, lt-leb, not-true, not-false}
+use borrow.Author.Tests.{lt-ltb, le-ltb, le-leb, lt-leb}
 use mathlib.Core.List.{List}
-use mathlib.Core.Path.{_≡_, refl}
+use mathlib.Core.Path.{_≡_, refl, _∙_, ap}
 use Rattle.section.specs.declared.Settings.{Settings}
 use Rattle.section.specs.declared.Act.{Act}
 use Rattle.section.specs.declared.Walk.{Walk}
 use Rattle.section.specs.declared.Walk.the-variants.{Turn}
 use Rattle.section.specs.declared.Section.{Section}
-use Rattle.section.specs.declared.Indications.{Indications}
 use Rattle.section.specs.Bytes.{truthNumber}
 use Rattle.section.specs.Range.{walkInRange, inRange}
 use Rattle.section.specs.Settings.{isMaterialised}
@@ -20,7 +19,8 @@ use Rattle.section.specs.Store.{trackOf}
 use Rattle.section.proofs.Laws.{turn-right}
 use Rattle.rules.specs.declared.Site.{Site}
 use Rattle.rules.specs.Site.{siteOn, upAt, rankAt, commands, watchedOccupied}
-use Rattle.rules.specs.Indications.{setCount, isNextToSet, lampsAt, circulation, troncon, shown, dark, indicationsOn, indications}
+use Rattle.rules.specs.Indications.{setCount, isNextToSet, lampsAt, shown, dark, indicationsOn, indications}
+use Rattle.rules.specs.LampTable.{indexOf}
 
 pub next-first : (count j : ℕ) → j ≡ 0 → false ≡ isNextToSet count j
 unfolding isNextToSet
@@ -64,31 +64,24 @@ pub dark-post :
 unfolding indications
 dark-post s track post h t k = rw (h, lt-ltb track 2 t, le-ltb post (s .settings .posts) k)
 
--- TRONÇON by its tests
-pub no-part : (x f o : Bool) → not x ≡ true → _≡_ {A = ℕ} 0 (cond x (cond (f || o) 2 1) 0)
-no-part x f o h = rw (not-true x h)
-
-pub red-by-fault : (x f o : Bool) → not x ≡ false → f ≡ true → _≡_ {A = ℕ} 2 (cond x (cond (f || o) 2 1) 0)
-red-by-fault x f o h e = rw (not-false x h, e)
-
-pub red-by-train : (x f o : Bool) → not x ≡ false → f ≡ false → o ≡ true → _≡_ {A = ℕ} 2 (cond x (cond (f || o) 2 1) 0)
-red-by-train x f o h e k = rw (not-false x h, e, k)
-
-pub white : (x f o : Bool) → not x ≡ false → f ≡ false → o ≡ false → _≡_ {A = ℕ} 1 (cond x (cond (f || o) 2 1) 0)
-white x f o h e k = rw (not-false x h, e, k)
-
 -- the bits, put together
 pub flashing-is :
     (n k j rank : ℕ) (r u up : Bool) (w : Walk) → r ≡ isNextToSet k j → k ≡ setCount n u w → u ≡ up → j ≡ rank
     → r ≡ isNextToSet (setCount n up w) rank
 flashing-is n k j rank r u up w a b d e = cc
 
-pub shown-parts :
-    (c : Settings) (e : Site) (trains : List ℕ) (r₁ r₂ r₃ : ℕ) (flashing commanded occupied : Bool)
-    → r₁ ≡ cond (e .own .faults .three) 0 (cond flashing (cond (e .own .device) 3 4) (cond (e .own .device) 2 1))
-    → flashing ≡ (isMaterialised c && isNextToSet (setCount (c .posts) (upAt c e) (e .walk)) (rankAt c e))
-    → r₂ ≡ cond commanded (cond (e .own .faults .one || occupied) 2 1) 0 → commanded ≡ commands c e → occupied ≡ watchedOccupied c e trains
-    → r₃ ≡ truthNumber (e .own .permission)
-    → _≡_ {A = Indications} (record { circulation = r₁; troncon = r₂; permission = r₃ }) (shown (lampsAt c e trains))
-unfolding lampsAt shown circulation troncon
-shown-parts c e trains r₁ r₂ r₃ flashing commanded occupied e₁ f e₂ l o e₃ = rw (e₁, f, e₂, l, o, e₃)
+pub index-parts :
+    (c : Settings) (e : Site) (trains : List ℕ) (post m n o k : ℕ) {materialised next occupied commanded : Bool}
+    → post ≡ truthNumber (e .own .device) * 2 + truthNumber (e .own .faults .one) * 8 + truthNumber (e .own .faults .three) * 16
+    + truthNumber (e .own .permission) * 128
+    → materialised ≡ isMaterialised c → m ≡ truthNumber materialised
+    → next ≡ isNextToSet (setCount (c .posts) (upAt c e) (e .walk)) (rankAt c e) → n ≡ truthNumber next
+    → occupied ≡ watchedOccupied c e trains → o ≡ truthNumber occupied → commanded ≡ commands c e → k ≡ truthNumber commanded
+    → post + m + n * 4 + o * 32 + k * 64 ≡ indexOf (lampsAt c e trains)
+unfolding indexOf lampsAt
+index-parts c e trains post m n o k ep em tm en tn eo to ek tk =
+    let m′ : m ≡ truthNumber (isMaterialised c) = tm ∙ ap truthNumber em in
+    let n′ : n ≡ truthNumber (isNextToSet (setCount (c .posts) (upAt c e) (e .walk)) (rankAt c e)) = tn ∙ ap truthNumber en in
+    let o′ : o ≡ truthNumber (watchedOccupied c e trains) = to ∙ ap truthNumber eo in
+    let k′ : k ≡ truthNumber (commands c e) = tk ∙ ap truthNumber ek in
+    omega (arith, ep, m′, n′, o′, k′)

@@ -1,17 +1,20 @@
-// What a post shows: CIRCULATION, TRONÇON, start permission.
-ghost use mathlib.Core.Bool.{true, _&&_, _||_, cond};
+// What a post shows: CIRCULATION, TRONÇON, start permission, read from the lamp table.
+ghost use mathlib.Core.Bool.{true};
 ghost use mathlib.Core.Path.{_≡_};
-ghost use Prim.Native.Nat.{_≤_, _<_};
+ghost use Prim.Native.Nat.{_+_, _*_, _≤_, _<_};
 ghost use Rattle.section.specs.Numbers.{mostPosts};
 ghost use Rattle.section.specs.Range.{walkInRange, trackInRange};
-ghost use Rattle.section.specs.Settings.{isMaterialised, settingsInRange};
+ghost use Rattle.section.specs.Bytes.{truthNumber};
+ghost use Rattle.section.specs.Settings.{settingsInRange};
 ghost use Rattle.rules.specs.Site.{siteOn, upAt, rankAt};
 ghost use Rattle.rules.specs.Indications.{setCount, isNextToSet, shown, lampsAt, dark, indications};
+ghost use Rattle.rules.specs.LampTable.{indexOf, takenApart};
 ghost use Rattle.site.specs.InItsRanges.{InItsRanges};
 use occupancy::part::watched_occupied;
 use rules::Site;
 use section::Act;
 use section::Indications;
+use section::Post;
 use section::Section;
 use section::Settings;
 use section::Track;
@@ -21,24 +24,6 @@ use section::positions;
 use section::truth_number;
 use site::part::commands;
 use site::place;
-
-// CIRCULATION, in the paper's numbers.
-const DARK: u8 = 0;
-
-const VNS: u8 = 1;
-
-const CVT: u8 = 2;
-
-const VNS_FLASHING: u8 = 3;
-
-const CVT_FLASHING: u8 = 4;
-
-// TRONÇON.
-const NONE: u8 = 0;
-
-const WHITE: u8 = 1;
-
-const RED: u8 = 2;
 
 // How many posts, from the sending end on, have set in this reversal.
 fn set_count(n: u8, up: bool, walk: Walk) -> u8
@@ -71,58 +56,54 @@ fn is_next_to_set(count: u8, j: u8) -> bool
     count <= j
 }
 
-// The form is materialised, and the post is the next to set.
-fn is_flashing(c: Settings, e: Site) -> bool
+// The post before has set in this reversal and this one has not.
+fn is_next(c: Settings, e: Site) -> bool
     requires { ⌜ InItsRanges c e ⌝ }
-    ensures { λ r. ⌜ r ≡ (isMaterialised c && isNextToSet (setCount (c .posts) (upAt c e) (e .walk)) (rankAt c e)) ⌝ }
+    ensures { λ r. ⌜ r ≡ isNextToSet (setCount (c .posts) (upAt c e) (e .walk)) (rankAt c e) ⌝ }
 {
-    if !place::is_materialised(c) {
-        return false;
-    }
     let walk = e.walk;
     let count = set_count(c.posts, positions::is_upward(e.track, e.cvt), walk);
     is_next_to_set(count, place::rank_at(c, e))
 }
 
-fn circulation(fault3: bool, flashing: bool, cvt: bool) -> u8
-    ensures { λ r. ⌜ r ≡ cond fault3 0 (cond flashing (cond cvt 3 4) (cond cvt 2 1)) ⌝ }
+// The part of the index by what the post's record keeps.
+fn index_of_post(own: Post) -> u8
+    ensures { λ r. ⌜ (r ≡ truthNumber (own .device) * 2 + truthNumber (own .faults .one) * 8 + truthNumber (own .faults .three) * 16 + truthNumber (own .permission) * 128) × (r ≤ 154) ⌝ }
 {
-    if fault3 {
-        return DARK;
-    }
-    if flashing {
-        return if cvt { VNS_FLASHING } else { CVT_FLASHING };
-    }
-    if cvt { CVT } else { VNS }
+    let device = truth_number(own.device);
+    let fault1 = truth_number(own.faults.one);
+    let fault3 = truth_number(own.faults.three);
+    device * 2 + fault1 * 8 + fault3 * 16 + truth_number(own.permission) * 128
 }
 
-fn troncon(commands: bool, fault1: bool, occupied: bool) -> u8
-    ensures { λ r. ⌜ r ≡ cond commands (cond (fault1 || occupied) 2 1) 0 ⌝ }
+// The index of a site's eight bits in the lamp table.
+fn index_at(c: Settings, e: Site, trains: &Trains) -> u8
+    requires { ⌜ InItsRanges c e ⌝ }
+    ensures { λ r. ⌜ r ≡ indexOf (lampsAt c e (now (trains .entry))) ⌝ }
 {
-    if !commands {
-        return NONE;
-    }
-    if fault1 {
-        return RED;
-    }
-    if occupied { RED } else { WHITE }
+    let of_post = index_of_post(e.own);
+    let materialised = truth_number(place::is_materialised(c));
+    let next = truth_number(is_next(c, e));
+    let occupied = truth_number(watched_occupied(c, e, trains));
+    of_post + materialised + next * 4 + occupied * 32 + truth_number(commands(c, e)) * 64
 }
 
-// What the post of a site shows.
+fn taken_apart(entry: u8) -> Indications
+    ensures { λ r. ⌜ r ≡ takenApart entry ⌝ }
+{
+    Indications {
+        circulation: entry % 5,
+        troncon: entry / 5 % 3,
+        permission: entry / 15,
+    }
+}
+
+// What the post of a site shows, read from the lamp table.
 fn shown_at(c: Settings, e: Site, trains: &Trains) -> Indications
     requires { ⌜ InItsRanges c e ⌝ }
     ensures { λ r. ⌜ r ≡ shown (lampsAt c e (now (trains .entry))) ⌝ }
 {
-    let own = e.own;
-    Indications {
-        circulation: circulation(own.faults.three, is_flashing(c, e), own.device),
-        troncon: troncon(
-            commands(c, e),
-            own.faults.one,
-            watched_occupied(c, e, trains),
-        ),
-        permission: truth_number(own.permission),
-    }
+    taken_apart(lamp_table::entry(index_at(c, e, trains)))
 }
 
 // What a post of a track in its ranges shows.

@@ -39,3 +39,4 @@ pub mod PartExamples
 pub mod OfferedExamples
 pub mod ChecksColumn
 pub mod OnlyOutOfRange
+pub mod LampTable

@@ -7,3 +7,4 @@ pub mod Demand3
 pub mod VoieOccupee
 pub mod RangesKept
 pub mod CellsPast
+pub mod LampTable

@@ -1,6 +1,6 @@
-use Rattle.indications.proofs.Laws.{no-part, red-by-fault, red-by-train, white}
-use Rattle.indications.proofs.troncon.Statement.{statement}
-use Rattle.indications.proofs.troncon.Tie as tie
+use Rattle.lamp_table.proofs.Laws.{no-part, red-by-fault, red-by-train, white}
+use Rattle.lamp_table.proofs.rule.troncon.Statement.{statement}
+use Rattle.lamp_table.proofs.rule.troncon.Tie as tie
 
 returns : tie.Need-returns
 returns c = let a = c .before .args in no-part (a .commands) (a .fault1) (a .occupied) (c .if1 .taken)

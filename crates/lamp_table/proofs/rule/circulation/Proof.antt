@@ -1,5 +1,5 @@
-use Rattle.indications.proofs.circulation.Statement.{statement}
-use Rattle.indications.proofs.circulation.Tie as tie
+use Rattle.lamp_table.proofs.rule.circulation.Statement.{statement}
+use Rattle.lamp_table.proofs.rule.circulation.Tie as tie
 
 returns : tie.Need-returns
 returns c = rw (c .if1 .taken)

@@ -1,0 +1,9 @@
+// Prints the lamp table for panel builders: 256 entries, one decimal number a line.
+use lamp_lines::TABLE_ROOM;
+use lamp_lines::put_table;
+
+fn main() {
+    let mut text = [0; TABLE_ROOM];
+    let n = put_table(&mut text);
+    streams::write_whole(true, &text[..n], b"lamps: cannot write standard output");
+}
