@@ -1,4 +1,4 @@
-// The trains in the block sections. Cells and numbers are compared at 64 bits.
+// The trains in the block sections. Cells and numbers are compared at 16 bits, as they are kept.
 ghost use mathlib.Core.Bool.{false};
 ghost use mathlib.Core.Path.{_≡_};
 ghost use Prim.Native.Nat.{_+_, _<_, _≤_};
@@ -15,22 +15,16 @@ use section::positions;
 use site::place::block_ahead;
 use site::place::block_before;
 
-fn widened(number: u16) -> u64
-    ensures { λ r. ⌜ r ≡ number ⌝ }
-{
-    number as u64
-}
-
-// The train, or the last train, of block section i, widened: the only place where judging reads a cell.
-fn train_in(cells: &Trains, i: usize) -> u64
+// The train, or the last train, of block section i: the only place where judging reads a cell.
+fn train_in(cells: &Trains, i: usize) -> u16
     requires { ⌜ i < mostBlocks ⌝ }
     ensures { λ r. ⌜ r ≡ getD (now (cells .entry)) i 0 ⌝ }
 {
-    widened(cells[i])
+    cells[i]
 }
 
 // The same of the block section that follows the post of rank j.
-pub fn train_after(cells: &Trains, n: u8, up: bool, j: u8) -> u64
+pub fn train_after(cells: &Trains, n: u8, up: bool, j: u8) -> u16
     requires { ⌜ (j + 1 < n) × (n ≤ mostPosts) ⌝ }
     ensures { λ r. ⌜ r ≡ getD (now (cells .entry)) (block n up j) 0 ⌝ }
 {
@@ -40,10 +34,10 @@ pub fn train_after(cells: &Trains, n: u8, up: bool, j: u8) -> u64
 // What is looked for: any train, or the one of that number.
 pub enum Sought {
     AnyTrain,
-    Number(u64),
+    Number(u16),
 }
 
-fn is_sought(sought: Sought, number: u64) -> bool
+fn is_sought(sought: Sought, number: u16) -> bool
     ensures { λ r. ⌜ r ≡ isSought sought number ⌝ }
 {
     match sought {
@@ -68,7 +62,7 @@ pub fn any_of(m: u8, sought: Sought, trains: &Trains) -> bool
 }
 
 // The train in the block section before the post.
-pub fn train_before(c: Settings, e: Site, trains: &Trains) -> u64
+pub fn train_before(c: Settings, e: Site, trains: &Trains) -> u16
     requires { ⌜ (OnTheLine c e) × (atSendingEnd c e ≡ false) ⌝ }
     ensures { λ r. ⌜ r ≡ trainBefore c e (now (trains .entry)) ⌝ }
 {
@@ -76,7 +70,7 @@ pub fn train_before(c: Settings, e: Site, trains: &Trains) -> u64
 }
 
 // The train, or the last train, of the block section ahead.
-pub fn train_ahead(c: Settings, e: Site, cells: &Trains) -> u64
+pub fn train_ahead(c: Settings, e: Site, cells: &Trains) -> u16
     requires { ⌜ (OnTheLine c e) × (atReceivingEnd c e ≡ false) ⌝ }
     ensures { λ r. ⌜ r ≡ getD (now (cells .entry)) (blockAhead c e) 0 ⌝ }
 {

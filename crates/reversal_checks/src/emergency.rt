@@ -36,7 +36,7 @@ pub fn release(c: Settings, e: Site, number: u16, trains: &Trains, last: &Trains
     if watched_occupied(c, e, trains) {
         return Verdict::Refused(13);
     }
-    if train_ahead(c, e, last) != number as u64 {
+    if train_ahead(c, e, last) != number {
         return Verdict::Refused(17);
     }
     Verdict::Accepted(Said::Nothing)

@@ -33,7 +33,7 @@ pub fn start(c: Settings, e: Site, number: u16, trains: &Trains) -> Verdict
     if !at_sending_end(c, e) {
         return Verdict::Refused(12);
     }
-    if any_of(c.posts - 1, Sought::Number(number as u64), trains) {
+    if any_of(c.posts - 1, Sought::Number(number), trains) {
         return Verdict::Refused(17); // also where the stretch is occupied
     }
     if stretch_occupied(c, e, trains) {
@@ -55,7 +55,7 @@ pub fn pass(c: Settings, e: Site, number: u16, trains: &Trains) -> Verdict
     if at_end(c, e) {
         return Verdict::Refused(12);
     }
-    if train_before(c, e, trains) != number as u64 {
+    if train_before(c, e, trains) != number {
         return Verdict::Refused(17);
     }
     if pass_occupied(c, e, trains) {
@@ -74,7 +74,7 @@ pub fn leave(c: Settings, e: Site, number: u16, trains: &Trains) -> Verdict
     if !at_receiving_end(c, e) {
         return Verdict::Refused(12);
     }
-    if train_before(c, e, trains) != number as u64 {
+    if train_before(c, e, trains) != number {
         return Verdict::Refused(17);
     }
     Verdict::Accepted(Said::Nothing)
