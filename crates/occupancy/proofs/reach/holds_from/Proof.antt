@@ -38,7 +38,8 @@ returns-2 : tie.Need-returns-2 Inv-loop μ-loop
 returns-2 c = let d = c .before .before in
     let b = d .before .before in
     sym (b .before .loop .inv .1
-    ∙ reach-ended _ _ _ _ (omega arith) (no-train _ (sym (d .before .train-after .ensures) ∙ d .if1 .left)) (told (c .before .ends-at .ensures) (c .if2 .taken)))
+    ∙ reach-ended _ _ _ _ (omega arith) (no-train _ (sym (d .before .train-after .ensures) ∙ d .if1 .left))
+    (told (c .before .ends-at .ensures) (c .if2 .taken)))
 
 loop-less : tie.Need-loop-less Inv-loop μ-loop
 loop-less c = omega arith
@@ -48,7 +49,8 @@ loop-again c = let d = c .before .before in
     let b = d .before .before in (
       omega arith,
       b .before .loop .inv .1
-          ∙ reach-on _ _ _ _ (omega arith) (no-train _ (sym (d .before .train-after .ensures) ∙ d .if1 .left)) (told (c .before .ends-at .ensures) (c .if2 .left)),
+          ∙ reach-on _ _ _ _ (omega arith) (no-train _ (sym (d .before .train-after .ensures) ∙ d .if1 .left))
+          (told (c .before .ends-at .ensures) (c .if2 .left)),
     )
 
 returns-3 : tie.Need-returns-3 Inv-loop μ-loop

@@ -23,7 +23,8 @@ returns-2 c =
     let u = r .before in
     let m = u .before in
     let l = m .before in
-    rw (told (l .before .at-receiving-end .ensures) (l .if1 .left), c .ends-at .ensures, r .rank-at .ensures, u .is-upward .ensures, m .is-materialised .ensures)
+    let ahead = told (l .before .at-receiving-end .ensures) (l .if1 .left) in
+    rw (ahead, c .ends-at .ensures, r .rank-at .ensures, u .is-upward .ensures, m .is-materialised .ensures)
 
 pub commands-spec : {M : Type 1} → statement M
 commands-spec =
