@@ -1,9 +1,31 @@
 -- The branches are the tests of place, fault, number and zero bytes, in their order: those passed so far hold, the one that led to the return does not.
+use Prim.Native.Nat.{ℕ, _≤_}
+use mathlib.Core.Bool.{true, _&&_}
+use mathlib.Core.Path.{_≡_}
 use borrow.Author.Needs.{needs}
-use Rattle.section.specs.Step.{fieldsWellFormed}
+use borrow.Author.Tests.{leb-true}
+use lib.Dec.{leb, ltb}
+use Rattle.section.specs.Bytes.{within}
+use Rattle.section.specs.Numbers.{lastKind}
+use Rattle.section.specs.Step.{isKind, placeWellFormed, fieldsWellFormed}
+use Rattle.section.proofs.Laws.{and-left, and-right}
 use Rattle.section.proofs.Told.{told-false, told-true}
 use Rattle.steps.proofs.well_formed.fields_well_formed.Statement.{statement}
 use Rattle.steps.proofs.well_formed.fields_well_formed.Tie as tie
+
+-- the kind is one that a set may be asked for
+known-kind : (n kind track post : ℕ) → placeWellFormed n kind track post ≡ true → kind ≤ lastKind
+unfolding placeWellFormed within
+known-kind n kind track post h =
+    leb-true kind lastKind (and-right (leb 1 kind) (leb kind lastKind) (and-left (isKind kind) (ltb track 2 && ltb post n) h))
+
+fault-asked : tie.Need-fault-well-formed-requires
+fault-asked c κs = let b = c .before in
+    known-kind _ _ _ _ (told-true (b .place-well-formed .ensures) (c .if1 .left))
+
+number-asked : tie.Need-number-well-formed-requires
+number-asked c κs = let b = c .before .before in
+    known-kind _ _ _ _ (told-true (b .before .place-well-formed .ensures) (b .if1 .left))
 
 returns : tie.Need-returns
 unfolding fieldsWellFormed
@@ -40,8 +62,8 @@ fields-well-formed-spec =
     (tie.spec
     (λ c κs. search needs)
     returns
-    (λ c κs. search needs)
+    fault-asked
     returns-2
-    (λ c κs. search needs)
+    number-asked
     returns-3
     returns-4)

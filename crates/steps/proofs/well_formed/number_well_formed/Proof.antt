@@ -1,38 +1,39 @@
-use mathlib.Core.Bool.{_||_}
-use mathlib.Core.Path.{refl, sym}
+-- A number above the largest fits no kind; up to it, the set that was chosen has the kinds that may have it.
+use Prim.Native.Nat.{ℕ}
+use mathlib.Core.Bool.{Bool, _||_}
+use mathlib.Core.Path.{refl, sym, _∙_}
 use borrow.Author.Needs.{needs}
-use borrow.Author.Tests.{ne-eqb, le-leb}
 use lib.Dec.{eqb}
 use Rattle.section.specs.Bytes.{within}
+use Rattle.section.specs.Items.{items}
 use Rattle.section.specs.Numbers.{largestTrain, releaseKind, cautionKind}
 use Rattle.section.specs.Step.{isTrainKind, numberWellFormed}
-use Rattle.section.proofs.Told.{told}
-use Rattle.steps.proofs.UpTo.{none-above, not-zero}
+use Rattle.steps.proofs.Sets.{chosen}
+use Rattle.steps.proofs.UpTo.{none-above}
 use Rattle.steps.proofs.well_formed.number_well_formed.Statement.{statement}
 use Rattle.steps.proofs.well_formed.number_well_formed.Tie as tie
+
+-- the number is a train's: a train's own step, or a caution form for one
+abbrev for-a-train : ℕ → Bool
+for-a-train kind = isTrainKind kind || eqb kind cautionKind
+
+abbrev is-release : ℕ → Bool
+is-release kind = eqb kind releaseKind
 
 returns : tie.Need-returns
 unfolding numberWellFormed
 returns c =
     let a = c .before .args in
-    sym (none-above largestTrain (a .number) (isTrainKind (a .kind) || eqb (a .kind) cautionKind) (eqb (a .kind) releaseKind) (c .if1 .taken))
+    sym (none-above largestTrain (a .number) (for-a-train (a .kind)) (is-release (a .kind)) (c .if1 .taken))
 
 returns-2 : tie.Need-returns-2
-unfolding numberWellFormed within
-returns-2 c = rw (c .if2 .taken) (sym (le-leb (c .before .before .args .number) largestTrain (c .before .if1 .left)))
-
-returns-3 : tie.Need-returns-3
-unfolding numberWellFormed
-returns-3 c =
-    let asked = c .before in
-    let few = asked .before .before in
-    rw (told (asked .is-for-a-train .ensures) (c .if3 .taken)) (not-zero largestTrain (few .before .args .number) (few .if1 .left))
-
-returns-4 : tie.Need-returns-4
-unfolding numberWellFormed
-returns-4 c =
-    let asked = c .before in
-    rw (told (asked .is-for-a-train .ensures) (c .if3 .left), ne-eqb _ _ (asked .before .if2 .left)) refl
+unfolding numberWellFormed within items
+returns-2 c =
+    let few = c .before .before in
+    let start = few .before in
+    c .is-in .ensures
+    ∙ chosen largestTrain (start .args .number) for-a-train is-release refl refl (start .pre) (few .if1 .left)
+    (λ w. w .taken) (λ w. w .left) (c .before .if2 .came)
 
 pub number-well-formed-spec : {M : Type 1} → statement M
-number-well-formed-spec = tie.close (tie.spec returns returns-2 (λ c κs. search needs) returns-3 returns-4)
+number-well-formed-spec = tie.close (tie.spec returns (λ c κs. search needs) returns-2)
