@@ -25,7 +25,7 @@ use Rattle.site.specs.InItsRanges.{InItsRanges}
 use Rattle.judging.specs.declared.at_post.PostAnswer.{PostAnswer}
 use Rattle.judging.specs.AtPost.{judgedAtPost, trainsAt, lastAt, trackAt}
 use Rattle.judging.proofs.at_post.OnTrack.{site-in, step-judged, in-ranges, judged}
-use Rattle.judging_in_place.specs.Rows.{row, postsIn, trainsIn, lastIn, runningIn, settled, trackIn, sectionIn}
+use Rattle.cells.specs.Rows.{row, postsIn, trainsIn, lastIn, runningIn, settled, trackIn, sectionIn}
 
 -- the cells taken from a section are its cells
 pub taken-from :

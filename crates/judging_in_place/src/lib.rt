@@ -1,8 +1,6 @@
 // Steps offered one after another to a section and judged in its cells: the one walk over steps. The cells of the two tracks stand side by side,
 // and a step changes them in their places; so nothing else of the section is copied between two steps.
 
-pub mod cells;
-
 ghost use mathlib.Core.Bool.{true};
 ghost use mathlib.Core.Path.{_≡_};
 ghost use Prim.Native.Nat.{_+_, _*_, _≤_};
@@ -14,13 +12,13 @@ ghost use Rattle.text.specs.Text.{written};
 ghost use Rattle.notes.specs.Note.{noteLength, noteWith};
 ghost use Rattle.judging_in_place.specs.Offered.{sectionBefore, AllWellFormed};
 ghost use Rattle.judging_in_place.specs.Entries.{entryLength, entryWith, entriesOf};
-ghost use Rattle.judging_in_place.specs.Rows.{letterAt};
-use crate::cells::last_in;
-use crate::cells::posts_in;
-use crate::cells::row_of;
-use crate::cells::running_in;
-use crate::cells::section_in;
-use crate::cells::trains_in;
+ghost use Rattle.cells.specs.Rows.{letterAt};
+use cells::last_in;
+use cells::posts_in;
+use cells::row_of;
+use cells::running_in;
+use cells::section_in;
+use cells::trains_in;
 use judging::at_post::judge_at_post;
 use layout::step_at;
 use notes::ANSWER_LENGTH;

@@ -13,7 +13,7 @@ use Rattle.judging_in_place.proofs.Rows.{taken-from, two-after, in-rang
 use Rattle.judging_in_place.proofs.Walk.{Walked, begins, entry-fits, goes-on, passes-over, ends}
 use borrow.Author.Needs.{needs}
 use denote.Ref.{now}
-use Rattle.judging_in_place.specs.Rows.{sectionIn}
+use Rattle.cells.specs.Rows.{sectionIn}
 use Rattle.judging_in_place.proofs.judge_steps.Statement.{statement}
 use Rattle.judging_in_place.proofs.judge_steps.Tie as tie
 
