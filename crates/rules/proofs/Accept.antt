@@ -1,5 +1,5 @@
 -- What acceptance means: the bytes give a step, and every check of its row passed. Settings c are those of the section; they stand as a
--- parameter, so that what follows is about tracks.
+-- parameter, and give the line, so that what follows is about tracks.
 use Prim.Native.Nat.{ℕ}
 use mathlib.Core.Bool.{Bool, true, false}
 use mathlib.Core.Path.{_≡_, refl, sym, ap, _∙_}
@@ -14,11 +14,13 @@ use Rattle.section.specs.declared.Verdict.the-variants.{Accepted, Refused}
 use Rattle.section.specs.Range.{inRange}
 use Rattle.section.specs.Step.{decoded, numberOf}
 use Rattle.section.specs.Store.{trackOf, withTrack}
-use Rattle.rules.specs.Site.{siteOn, otherSettledOnVns, Occupancy, occupancyAt}
+use Rattle.rules.specs.declared.Line.{Line}
+use Rattle.rules.specs.Line.{lineOf}
+use Rattle.rules.specs.Site.{siteOn, otherSettledOnVns, Other, Occupancy, occupancyAt}
 use Rattle.rules.specs.Table.{Check, checks, effect, trackAfter}
-use Rattle.rules.specs.Judge.{verdictOf, answerOf, verdictOn, sectionAfter, judgeStep, judgeDecoded, judgeInRange, judge}
-use Rattle.rules.proofs.View.{View, flat, post-flat, Seen, shown, seen, shown-seen}
-use Rattle.rules.proofs.Reading.{Fits, decoded-says}
+use Rattle.rules.specs.Judge.{verdictOf, answerOf, verdictOn, trackAfterOn, sectionAfter, judgeStep, judgeDecoded, judgeInRange, judge}
+use Rattle.rules.proofs.View.{View, flat, post-flat, Seen, on, shown, seen, shown-seen}
+use Rattle.rules.proofs.Reading.{Fits, SeenFits, decoded-says}
 
 -- ## The row of checks
 
@@ -47,10 +49,14 @@ ruled (k ∷ ks) w = go (k .holds) refl (ruled ks w)
 
 -- ## A step on a track: its checks, the track after it
 
-module _ (c : Settings) where
+-- a step of one track asks only whether the other is settled on VNS
+abbrev pub onlyVns : Bool → Other
+onlyVns v = record { onVns = v }
+
+module _ (c : Line) where
   -- what its checks see of the trains, and of the other track: v, whether that is settled on VNS
   abbrev pub occupancyOn : Bool → Bool → ℕ → View → Track → Occupancy
-  occupancyOn v b p k t = occupancyAt c v (siteOn b p t) (numberOf (flat p k)) (t .trains) (t .last)
+  occupancyOn v b p k t = occupancyAt c (onlyVns v) (siteOn b p t) (numberOf (flat p k)) (t .trains) (t .last)
 
   abbrev pub checksAt : Bool → Bool → ℕ → View → Track → List Check
   checksAt v b p k t = checks c (flat p k) (siteOn b p t) (occupancyOn v b p k t)
@@ -62,34 +68,49 @@ module _ (c : Settings) where
     pub fits : Fits (c .posts) p k
     pub held : AllHold (checksAt v b p k t)
 
+module _ (c : Settings) where
+  -- the line of a section
+  abbrev pub line : Section → Line
+  line s = lineOf c
+
   -- ## A step on a section: that it is accepted, what it says, the section after it
 
   unfoldable pub AcceptedIn : Section → Seen → Type 0
-  AcceptedIn s x = AcceptedOn (otherSettledOnVns s (x .track)) (x .track) (x .post) (x .kind) (trackOf s (x .track))
+  AcceptedIn s (on b p k) = AcceptedOn (line s) (otherSettledOnVns s b) b p k (trackOf s b)
 
   unfoldable pub saidIn : Section → Seen → Said
-  saidIn s x = effect c (flat (x .post) (x .kind)) (siteOn (x .track) (x .post) (trackOf s (x .track))) .said
+  saidIn s (on b p k) = effect (line s) (flat p k) (siteOn b p (trackOf s b)) .said
 
   unfoldable pub sectionAfterStep : Section → Seen → Section
-  sectionAfterStep s x = withTrack s (x .track) (trackAfterStep (x .track) (x .post) (x .kind) (trackOf s (x .track)))
+  sectionAfterStep s (on b p k) = withTrack s b (trackAfterStep (line s) b p k (trackOf s b))
 
   abbrev pub checksOf : Section → Seen → List Check
-  checksOf s x = checksAt (otherSettledOnVns s (x .track)) (x .track) (x .post) (x .kind) (trackOf s (x .track))
+  checksOf s (on b p k) = checksAt (line s) (otherSettledOnVns s b) b p k (trackOf s b)
+
+  all-held : (s : Section) (x : Seen) → AcceptedIn s x → AllHold (checksOf s x)
+  unfolding AcceptedIn
+  all-held s (on b p k) h = h .held
+
+  unfoldable pub held-accepted : (s : Section) (x : Seen) → SeenFits (c .posts) x → AllHold (checksOf s x) → AcceptedIn s x
+  unfolding AcceptedIn
+  held-accepted s (on b p k) f h = record { fits = f; held = h }
 
   module _ (s : Section) (e : s .settings ≡ c) where
     verdict-is : (x : Seen) → verdictOn s (shown x) ≡ verdictOf (checksOf s x) (saidIn s x)
     unfolding verdictOn saidIn
-    verdict-is x = rw (e, post-flat (x .post) (x .kind)) refl
+    verdict-is (on b p k) = rw (e, post-flat p k) refl
 
     section-is : (x : Seen) → sectionAfter s (shown x) ≡ sectionAfterStep s x
-    unfolding sectionAfter sectionAfterStep
-    section-is x = rw (e, post-flat (x .post) (x .kind)) refl
+    unfolding sectionAfter sectionAfterStep trackAfterOn
+    section-is (on true p k) = rw (e, post-flat p k) refl
+    section-is (on false p k) = rw (e, post-flat p k) refl
 
     -- a step whose checks all pass
     step-accepted : (x : Seen) → AcceptedIn s x → judgeStep s (shown x) ≡ record { verdict = Accepted (saidIn s x); section = sectionAfterStep s x }
-    unfolding judgeStep answerOf AcceptedIn
+    unfolding judgeStep answerOf
     step-accepted x h =
-        rw (verdict-is x, all-accepted (checksOf s x) (saidIn s x) (h .held)) (ap (λ n. record { verdict = Accepted (saidIn s x); section = n }) (section-is x))
+        rw (verdict-is x, all-accepted (checksOf s x) (saidIn s x) (all-held s x h))
+        (ap (λ n. record { verdict = Accepted (saidIn s x); section = n }) (section-is x))
 
     pub step-refused : (x : Seen) (k : ℕ) → verdictOf (checksOf s x) (saidIn s x) ≡ Refused k → judgeStep s (shown x) ≡ record {
       verdict = Refused k;
@@ -119,16 +140,16 @@ module _ (c : Settings) where
             → judge s bytes ≡ record { verdict = Accepted (saidIn s x); section = sectionAfterStep s x } → Judged bytes
 
       unfoldable pub judged : (bytes : List ℕ) → Judged bytes
-      unfolding AcceptedIn ruled
+      unfolding ruled held-accepted
       judged bytes = by-said (decoded (c .posts) bytes) refl
         where
-          by-rule : (x : Seen) → decoded (c .posts) bytes ≡ Well (shown x) → Fits (c .posts) (x .post) (x .kind) → Ruled (checksOf s x) (saidIn s x)
+          by-rule : (x : Seen) → decoded (c .posts) bytes ≡ Well (shown x) → SeenFits (c .posts) x → Ruled (checksOf s x) (saidIn s x)
               → Judged bytes
-          by-rule x q f (passed h) = let ok : AcceptedIn s x = record { fits = f; held = h } in accepted x q ok (accepted-judge bytes x q ok)
+          by-rule x q f (passed h) = let ok : AcceptedIn s x = held-accepted s x f h in accepted x q ok (accepted-judge bytes x q ok)
           by-rule x q f (failed k z) = refused k (judge-well bytes x q ∙ step-refused x k z)
 
           by-said : (d : Decoded) → decoded (c .posts) bytes ≡ d → Judged bytes
           by-said (Well y) q =
-              by-rule (seen y) (q ∙ ap Well (sym (shown-seen y))) (decoded-says (c .posts) bytes y q .fields .fits)
+              by-rule (seen y) (q ∙ ap Well (sym (shown-seen y))) (decoded-says (c .posts) bytes y q .fits)
               (ruled (checksOf s (seen y)) (saidIn s (seen y)))
           by-said Malformed q = refused 4 (judge-malformed bytes q)

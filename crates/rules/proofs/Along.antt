@@ -13,7 +13,7 @@ use Rattle.section.specs.Settings.{settingsInRange}
 use Rattle.section.proofs.Laws.{posts-right}
 use Rattle.rules.specs.Judge.{judge}
 use Rattle.rules.specs.Demand3.{stateAfter, AcceptedStep, acceptedOf, acceptedSteps}
-use Rattle.rules.proofs.View.{Seen, shown}
+use Rattle.rules.proofs.View.{Seen, on, shown}
 use Rattle.rules.proofs.Reading.{Says, decoded-says}
 use Rattle.rules.proofs.Accept.{AcceptedIn, saidIn, sectionAfterStep, Judged, refused, accepted, judged}
 use Rattle.rules.proofs.Reached.{Reached, reached-kept, fresh-reached, reached-in-range}
@@ -71,17 +71,20 @@ module _ (c : Settings) (right : settingsInRange c ≡ true) where
     pub agrees : Agrees c s ds
     pub progress : Progress c s ds
 
+  unfoldable progress-kept : KeptByAccepted c right (Progress c)
+  progress-kept s ds (on b p k) bytes r says ok =
+      progress c n2 s ds r b (record { post = p; kind = k; as-accepted = acceptedAs c s (on b p k) bytes; says = says }) ok refl
+
   unfoldable kept : KeptByAccepted c right Kept
   kept s ds x bytes r says ok k = record {
     reached = reached-kept c right s x ok r;
     runs = runs-kept c n2 n16 ds (acceptedAs c s x bytes) x says s ok (r .sound) (k .runs);
     agrees = agrees-kept c n2 s ds (acceptedAs c s x bytes) x says ok (k .agrees);
-    progress = progress c n2 s ds r (x .track)
-        (record { post = x .post; kind = x .kind; as-accepted = acceptedAs c s x bytes; says = says }) ok refl (k .progress);
+    progress = progress-kept s ds x bytes r says ok (k .progress);
   }
 
   unfoldable pub all-kept : (offered : List (List ℕ)) → Kept (stateAfter (freshSection c) offered) (acceptedSteps (freshSection c) offered)
-  unfolding from-fresh kept progress fresh-progress
+  unfolding from-fresh kept progress-kept progress fresh-progress
   all-kept =
       from-fresh c right Kept kept
       (record { reached = fresh-reached c right; runs = fresh-runs c n2 n16; agrees = fresh-agrees c; progress = fresh-progress c })

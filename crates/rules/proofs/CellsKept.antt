@@ -7,7 +7,6 @@ use mathlib.Core.List.{List}
 use native.Mathlib.Omega.{arith}
 use lib.ListN.{getD, set}
 use lib.Seq.{getD-set-other}
-use Rattle.section.specs.declared.Settings.{Settings}
 use Rattle.section.specs.declared.Track.{Track}
 use Rattle.section.specs.declared.Section.{Section}
 use Rattle.section.specs.declared.Verdict.the-variants.{Refused}
@@ -16,15 +15,17 @@ use Rattle.section.specs.Post.{blank}
 use Rattle.section.specs.Range.{inRange}
 use Rattle.section.specs.Store.{trackOf}
 use Rattle.section.proofs.Laws.{posts-right, settings-in-range}
+use Rattle.rules.specs.declared.Line.{Line}
 use Rattle.rules.specs.declared.Site.{Site}
 use Rattle.rules.specs.declared.Movement.{Movement}
 use Rattle.rules.specs.declared.Movement.the-variants.{Stays, Enters, Moves, Leaves}
+use Rattle.rules.specs.Line.{lineIn}
 use Rattle.rules.specs.Site.{siteOn, otherSettledOnVns, blockAhead, blockBefore}
 use Rattle.rules.specs.Table.{checks, effect, vacated, cellsAfter, trackAfter}
 use Rattle.rules.specs.Judge.{judge}
-use Rattle.rules.specs.CellsPast.{SamePast, CellsPastKept}
+use Rattle.rules.specs.CellsPast.{SamePast, KeptPast, CellsPastKept}
 use Rattle.rules.proofs.Facts.{by-track, first-not-last, ahead-lt, before-lt}
-use Rattle.rules.proofs.View.{start, pass, leave, View, walks, runs, notes, releases, flat, Seen}
+use Rattle.rules.proofs.View.{start, pass, leave, View, walks, runs, notes, releases, flat, Seen, on}
 use Rattle.rules.proofs.Frame.{no-movement}
 use Rattle.rules.proofs.Accept.{AcceptedOn, trackAfterStep, AcceptedIn, sectionAfterStep, Judged, refused, accepted, judged}
 use Rattle.rules.proofs.Held.{start-held, pass-held, leave-not-first}
@@ -33,7 +34,7 @@ use Rattle.rules.proofs.Exchange.{here-after, there-after}
 pub same-past : (n : ℕ) (t : Track) → SamePast n t t
 same-past n t = record { posts = λ p h. refl; trains = λ i h. refl; last = λ i h. refl }
 
-module _ (c : Settings) where
+module _ (c : Line) where
   -- ## Where a movement stores
 
   abbrev StoresInside : Movement → Site → Type 0
@@ -91,29 +92,38 @@ module _ (c : Settings) where
 
 -- ## Judging
 
-section-past : (s : Section) (x : Seen) → 2 ≤ s .settings .posts → AcceptedIn (s .settings) s x
-    → (b : Bool) → SamePast (s .settings .posts) (trackOf (sectionAfterStep (s .settings) s x) b) (trackOf s b)
-unfolding AcceptedIn
-section-past s x n2 h =
-    by-track (λ b. SamePast (s .settings .posts) (trackOf (sectionAfterStep (s .settings) s x) b) (trackOf s b)) (x .track)
-    (rw (here-after (s .settings) s (x .track) (x .post) (x .kind))
-    (track-past (s .settings) n2 (otherSettledOnVns s (x .track)) (x .track) (x .post) (trackOf s (x .track)) (x .kind) h))
-    (rw (there-after (s .settings) s (x .track) (x .post) (x .kind)) (same-past (s .settings .posts) (trackOf s (not (x .track)))))
+module _ (s : Section) where
+  abbrev after : Seen → Section
+  after x = sectionAfterStep (s .settings) s x
+
+  abbrev n : ℕ
+  n = s .settings .posts
+
+  same-section : KeptPast n s s
+  same-section = record { tracks = λ b. same-past n (trackOf s b) }
+
+  section-past : (x : Seen) → 2 ≤ n → AcceptedIn (s .settings) s x → KeptPast n (after x) s
+  unfolding AcceptedIn
+  section-past (on b p k) n2 h = record {
+    tracks = by-track (λ d. SamePast n (trackOf (after (on b p k)) d) (trackOf s d)) b
+        (rw (here-after (s .settings) s b p k) (track-past (lineIn s) n2 (otherSettledOnVns s b) b p (trackOf s b) k h))
+        (rw (there-after (s .settings) s b p k) (same-past n (trackOf s (not b))));
+  }
 
 out-of-range : (s : Section) (bytes : List ℕ) → inRange s ≡ false → judge s bytes ≡ record { verdict = Refused 6; section = s }
 unfolding judge
 out-of-range s bytes r = rw r refl
 
 pub cells-past-kept : CellsPastKept
-cells-past-kept s bytes b = go (inRange s) refl
+cells-past-kept s bytes = go (inRange s) refl
   where
     Kept : Section → Type 0
-    Kept u = SamePast (s .settings .posts) (trackOf u b) (trackOf s b)
+    Kept u = KeptPast (s .settings .posts) u s
 
     by-table : (r : inRange s ≡ true) → Judged (s .settings) s refl r bytes → Kept (judge s bytes .section)
-    by-table r (refused k e) = rw e (same-past (s .settings .posts) (trackOf s b))
-    by-table r (accepted x d h e) = rw e (section-past s x (posts-right (s .settings) (settings-in-range s r) .0) h b)
+    by-table r (refused k e) = rw e (same-section s)
+    by-table r (accepted x d h e) = rw e (section-past s x (posts-right (s .settings) (settings-in-range s r) .0) h)
 
     go : (r : Bool) → inRange s ≡ r → Kept (judge s bytes .section)
     go true r = by-table r (judged (s .settings) s refl r bytes)
-    go false r = rw (out-of-range s bytes r) (same-past (s .settings .posts) (trackOf s b))
+    go false r = rw (out-of-range s bytes r) (same-section s)

@@ -3,7 +3,7 @@
 -- Stored in both, that effect leaves them in agreement.
 use Prim.Native.Nat.{ℕ, zero, suc, _+_, _-_, _<_}
 use mathlib.Core.Bool.{Bool, true, false, cond, not, _&&_, _||_}
-use mathlib.Core.Path.{_≡_, refl, sym, ap, ap₂, _∙_}
+use mathlib.Core.Path.{_≡_, refl, sym, ap, ap₂, _∙_, subst}
 use mathlib.Core.List.{List}
 use native.Mathlib.Omega.{arith}
 use lib.ListN.{getD, length, length-set}
@@ -24,17 +24,19 @@ use Rattle.section.proofs.Codec.{decoded-post-below}
 use Rattle.section.specs.Numbers.{largestTrain}
 use Rattle.section.specs.Post.{blank}
 use Rattle.section.specs.Range.{postInRange, postsInRange, numbersInRange, trackInRange, inRange}
-use Rattle.section.specs.Step.{decoded, postOf, numberOf}
-use Rattle.section.specs.Store.{trackOf, postOn, withTrack}
+use Rattle.section.specs.Step.{decoded, standsOn, kindOf, postOf, numberOf}
+use Rattle.section.specs.Store.{trackOf, postOn}
 use Rattle.section.proofs.Laws.{rank-lt, block-lt, and-right}
+use Rattle.rules.specs.declared.Line.{Line}
 use Rattle.rules.specs.declared.Site.{Site}
 use Rattle.rules.specs.declared.Movement.{Movement}
 use Rattle.rules.specs.declared.Movement.the-variants.{Stays, Enters, Moves, Leaves}
-use Rattle.rules.specs.Site.{siteOn, settledVns, otherSettledOnVns, isTrain, isNumber, anyOf, reach, stretchHolds, upAt, rankAt, atSendingEnd}
+use Rattle.rules.specs.Line.{lineOf, lineIn}
+use Rattle.rules.specs.Site.{siteOn, Other, otherOn, isTrain, isNumber, anyOf, reach, stretchHolds, upAt, rankAt, atSendingEnd}
 use Rattle.rules.specs.Site.{atReceivingEnd, blockAhead, blockBefore, stretchEnds, trainAt}
 use Rattle.rules.specs.Site.{watchedOccupied, trainBefore, lastEntered, Occupancy, occupancyAt}
 use Rattle.rules.specs.Table.{effect, vacated, cellsAfter, trackAfter}
-use Rattle.rules.specs.Judge.{answerOf, siteOf, occupancyOf, verdictOn, sectionAfter, judgeStep, judgeDecoded, judgeInRange, judge}
+use Rattle.rules.specs.Judge.{answerOf, siteOf, occupancyOf, verdictOn, trackAfterOn, sectionAfter, judgeStep, judgeDecoded, judgeInRange, judge}
 use Rattle.rules.specs.Indications.{lampsAt, shown, indicationsOn, indications, dark}
 use Rattle.rules.specs.CellsPast.{SameBelow, AgreeBelow, CellsPastNotTested}
 use Rattle.rules.proofs.Facts.{by-track, ahead-lt, before-lt, first-cells, set-alike}
@@ -78,7 +80,7 @@ where-false false d a b h = h refl
 
 -- ## What a post sees
 
-module _ (c : Settings) (e : Site) (below : e .post < c .posts) (l k : List ℕ) (same : AlikeBelow (c .posts) l k) where
+module _ (c : Line) (e : Site) (below : e .post < c .posts) (l k : List ℕ) (same : AlikeBelow (c .posts) l k) where
   ahead-alike : atReceivingEnd c e ≡ false → getD l (blockAhead c e) 0 ≡ getD k (blockAhead c e) 0
   ahead-alike q = same _ (ahead-lt (c .posts) (upAt c e) (e .post) below q)
 
@@ -109,13 +111,13 @@ module _ (c : Settings) (e : Site) (below : e .post < c .posts) (l k : List ℕ)
   unfolding lastEntered
   entered-alike = where-false (atReceivingEnd c e) 0 _ _ ahead-alike
 
-module _ (c : Settings) (v : Bool) (e : Site) (below : e .post < c .posts) (number : ℕ) (trains trains′ last last′ : List ℕ)
+module _ (c : Line) (o : Other) (e : Site) (below : e .post < c .posts) (number : ℕ) (trains trains′ last last′ : List ℕ)
     (same : AlikeBelow (c .posts) trains trains′) (same-last : AlikeBelow (c .posts) last last′) where
   abbrev one : Occupancy
-  one = occupancyAt c v e number trains last
+  one = occupancyAt c o e number trains last
 
   abbrev other : Occupancy
-  other = occupancyAt c v e number trains′ last′
+  other = occupancyAt c o e number trains′ last′
 
   anywhere-alike : one .anywhere ≡ other .anywhere
   unfolding occupancyAt
@@ -150,7 +152,7 @@ track-alike n b t u a =
 
 -- ## What a step stores
 
-module _ (c : Settings) (e : Site) where
+module _ (c : Line) (e : Site) where
   vacated-alike : (clears : Bool) (l k : List ℕ) → length l ≡ length k → (i : ℕ) → getD l i 0 ≡ getD k i 0
       → getD (vacated c clears e l) i 0 ≡ getD (vacated c clears e k) i 0
   vacated-alike true l k q i h = set-alike l k (blockBefore c e) i 0 0 q h
@@ -190,14 +192,13 @@ record AnsweredAlike (y z : Answer) : Type 0 where
   section : AgreeBelow (y .section) (z .section)
 
 module _ (s u : Section) (a : AgreeBelow s u) where
+  abbrev n : ℕ
+  n = s .settings .posts
+
   range-alike : inRange s ≡ inRange u
   unfolding inRange
   range-alike =
-      rw (track-alike (s .settings .posts) false (s .a) (u .a) (a .tracks false), track-alike (s .settings .posts) true (s .b) (u .b) (a .tracks true))
-      (rw (a .settings) refl)
-
-  vns-alike : (b : Bool) → otherSettledOnVns s b ≡ otherSettledOnVns u b
-  vns-alike b = ap₂ settledVns (a .tracks (not b) .walk) (a .tracks (not b) .cvt)
+      rw (track-alike n false (s .a) (u .a) (a .tracks false), track-alike n true (s .b) (u .b) (a .tracks true)) (rw (a .settings) refl)
 
   own-alike : (b : Bool) (p : ℕ) → p < s .settings .posts → postOn (trackOf s b) p ≡ postOn (trackOf u b) p
   own-alike b p h = a .tracks b .cells .posts _ h
@@ -205,15 +206,8 @@ module _ (s u : Section) (a : AgreeBelow s u) where
   site-alike : (b : Bool) (p : ℕ) → p < s .settings .posts → siteOn b p (trackOf s b) ≡ siteOn b p (trackOf u b)
   site-alike b p h = rw (own-alike b p h, a .tracks b .cvt, a .tracks b .walk) refl
 
-  with-alike : (b : Bool) (t t′ : Track) → SameBelow (s .settings .posts) t t′ → AgreeBelow (withTrack s b t) (withTrack u b t′)
-  with-alike true t t′ h = record {
-    settings = a .settings;
-    tracks = by-track (λ d. SameBelow (s .settings .posts) (trackOf (withTrack s true t) d) (trackOf (withTrack u true t′) d)) true h (a .tracks false);
-  }
-  with-alike false t t′ h = record {
-    settings = a .settings;
-    tracks = by-track (λ d. SameBelow (s .settings .posts) (trackOf (withTrack s false t) d) (trackOf (withTrack u false t′) d)) false h (a .tracks true);
-  }
+  other-alike : (b : Bool) → otherOn (trackOf s b) ≡ otherOn (trackOf u b)
+  other-alike b = rw (a .tracks b .cvt, a .tracks b .walk) refl
 
   answer-alike : (v : Verdict) (s₁ u₁ : Section) → AgreeBelow s₁ u₁ → AnsweredAlike (answerOf v s s₁) (answerOf v u u₁)
   unfolding answerOf
@@ -226,24 +220,41 @@ module _ (s u : Section) (a : AgreeBelow s u) where
 
     occupancies : occupancyOf s x ≡ occupancyOf u x
     occupancies =
-        occupancy-alike (s .settings) (otherSettledOnVns s (x .track)) (siteOf s x) below (numberOf (x .step)) (trackOf s (x .track) .trains)
-        (trackOf u (x .track) .trains)
+        occupancy-alike (lineIn s) (otherOn (trackOf s (not (x .track)))) (siteOf s x) below (numberOf (x .step))
+        (trackOf s (x .track) .trains) (trackOf u (x .track) .trains)
         (trackOf s (x .track) .last) (trackOf u (x .track) .last) (a .tracks (x .track) .cells .trains) (a .tracks (x .track) .cells .last)
-        ∙ rw (vns-alike (x .track), sites, a .settings) refl
+        ∙ rw (other-alike (not (x .track)), sites, a .settings) refl
 
     verdict-alike : verdictOn s x ≡ verdictOn u x
     unfolding verdictOn
     verdict-alike = rw (occupancies, sites, a .settings) refl
 
-    track-after : SameBelow (s .settings .posts) (trackAfter (s .settings) (x .step) (siteOf s x) (trackOf s (x .track)))
-        (trackAfter (u .settings) (x .step) (siteOf u x) (trackOf u (x .track)))
-    track-after =
-        rw (← sites, ← a .settings)
-        (after-alike (s .settings) (siteOf s x) (x .step) (trackOf s (x .track)) (trackOf u (x .track)) (a .tracks (x .track)))
+    track-after : (b : Bool) → SameBelow n (trackAfterOn s x b) (trackAfterOn u x b)
+    unfolding trackAfterOn
+    track-after b = go (standsOn (kindOf (x .step)) (x .track) b)
+      where
+        p : ℕ
+        p = postOf (x .step)
+
+        e : Site
+        e = siteOn b p (trackOf s b)
+
+        same-line : trackAfter (lineIn s) (x .step) e (trackOf u b) ≡ trackAfter (lineIn u) (x .step) (siteOn b p (trackOf u b)) (trackOf u b)
+        same-line =
+            ap₂ (λ (k : Settings) (y : Site). trackAfter (lineOf k) (x .step) y (trackOf u b)) (a .settings) (site-alike b p below)
+
+        go : (stands : Bool) → SameBelow n (cond stands (trackAfter (lineIn s) (x .step) e (trackOf s b)) (trackOf s b))
+            (cond stands (trackAfter (lineIn u) (x .step) (siteOn b p (trackOf u b)) (trackOf u b)) (trackOf u b))
+        go true = subst (SameBelow n (trackAfter (lineIn s) (x .step) e (trackOf s b))) same-line
+            (after-alike (lineIn s) e (x .step) (trackOf s b) (trackOf u b) (a .tracks b))
+        go false = a .tracks b
 
     section-after : AgreeBelow (sectionAfter s x) (sectionAfter u x)
     unfolding sectionAfter
-    section-after = with-alike (x .track) _ _ track-after
+    section-after = record {
+      settings = a .settings;
+      tracks = by-track (λ b. SameBelow n (trackOf (sectionAfter s x) b) (trackOf (sectionAfter u x) b)) true (track-after true) (track-after false);
+    }
 
     step-alike : AnsweredAlike (judgeStep s x) (judgeStep u x)
     unfolding judgeStep
@@ -274,8 +285,8 @@ module _ (s u : Section) (a : AgreeBelow s u) where
   on-track-alike : (b : Bool) (p : ℕ) → p < s .settings .posts → indicationsOn s b p ≡ indicationsOn u b p
   unfolding indicationsOn
   on-track-alike b p h =
-      ap shown (lamps-alike (s .settings) (siteOn b p (trackOf s b)) h (trackOf s b .trains) (trackOf u b .trains)
-      (a .tracks b .cells .trains) ∙ rw (site-alike b p h, a .settings) refl)
+      ap shown (lamps-alike (lineIn s) (siteOn b p (trackOf s b)) h (trackOf s b .trains) (trackOf u b .trains) (a .tracks b .cells .trains)
+      ∙ rw (site-alike b p h, a .settings) refl)
 
   indications-alike : (track post : ℕ) → indications s track post ≡ indications u track post
   unfolding indications

@@ -3,10 +3,10 @@
 use Prim.Native.Nat.{ℕ}
 use mathlib.Core.Path.{_≡_, refl}
 use mathlib.Core.List.{List, [], _∷_, map}
-use Rattle.section.specs.declared.Settings.{Settings}
 use Rattle.section.specs.declared.Step.{Step}
 use Rattle.section.specs.declared.Step.the-variants.{Order, Set, Announce, Acknowledge, Start, Pass, Leave, MeasuresOn, MeasuresOff, FaultOn}
 use Rattle.section.specs.declared.Step.the-variants.{FaultOff, Release, Key, Caution}
+use Rattle.rules.specs.declared.Line.{Line}
 use Rattle.rules.specs.declared.Site.{Site}
 use Rattle.rules.specs.Site.{Occupancy}
 use Rattle.rules.specs.Table.{Check, checks}
@@ -27,7 +27,7 @@ figures (Release p number) = 15 ∷ 12 ∷ 21 ∷ 13 ∷ 17 ∷ []
 figures (Key p) = 15 ∷ 21 ∷ 13 ∷ 18 ∷ 16 ∷ 20 ∷ []
 figures (Caution p number) = 12 ∷ []
 
-pub figures-in-order : (c : Settings) (x : Step) (e : Site) (g : Occupancy) → map (λ (k : Check). k .refusal) (checks c x e g) ≡ figures x
+pub figures-in-order : (c : Line) (x : Step) (e : Site) (g : Occupancy) → map (λ (k : Check). k .refusal) (checks c x e g) ≡ figures x
 unfolding checks
 figures-in-order c (Order p) e g = refl
 figures-in-order c (Set p) e g = refl

@@ -8,21 +8,21 @@ use mathlib.Core.Path.{_≡_, refl, sym, _∙_}
 use mathlib.Core.Logic.{_⊎_, inl, inr}
 use native.Mathlib.Omega.{arith}
 use native.Mathlib.Decide.{ℕ-discrete, decLt}
-use Rattle.section.specs.declared.Settings.{Settings}
 use Rattle.section.specs.declared.Act.{Act}
 use Rattle.section.specs.declared.Act.the-variants as act
 use Rattle.section.specs.declared.Walk.{Walk}
 use Rattle.section.specs.declared.Walk.the-variants.{Settled, Turn}
 use Rattle.section.specs.Geometry.{upward}
-use Rattle.section.specs.Settings.{settingsInRange}
+use Rattle.rules.specs.declared.Line.{Line}
 use Rattle.rules.specs.Site.{partEnds}
 use Rattle.rules.specs.Indications.{setCount}
 use Rattle.rules.proofs.Facts.{true-or-false}
 use Rattle.rules.proofs.Stretches.{NoEnd}
-use Rattle.rules.proofs.Parts.{part-first}
+use Rattle.rules.proofs.NextPost.{NextOpen}
+use Rattle.rules.proofs.Parts.{LineRight, only-open-ends}
 use Rattle.rules.proofs.Ranges.{rankOn}
 
-module _ (c : Settings) (b : Bool) where
+module _ (c : Line) (b : Bool) where
   -- the block section that follows the post of rank j
   unfoldable pub Cleared : Bool → Walk → ℕ → Type 0
   Cleared cvt w j = (k : ℕ) → setCount (c .posts) (upward b cvt) w ≤ k → k ≤ j → partEnds c b cvt k ≡ false
@@ -33,15 +33,15 @@ module _ (c : Settings) (b : Bool) where
 
   -- ## Nothing: a part begins at the sending end
 
-  from-first : settingsInRange c ≡ true → (cvt : Bool) (w : Walk) (j : ℕ) → setCount (c .posts) (upward b cvt) w ≡ 0 → Cleared cvt w j → ⊥
+  from-first : LineRight c → (cvt : Bool) (w : Walk) (j : ℕ) → setCount (c .posts) (upward b cvt) w ≡ 0 → Cleared cvt w j → ⊥
   unfolding Cleared
-  from-first right cvt w j e h = false≢true (sym (h 0 (omega arith) (omega arith)) ∙ part-first c right b cvt)
+  from-first right cvt w j e h = false≢true (sym (h 0 (omega arith) (omega arith)) ∙ right .part-first b cvt)
 
-  pub cleared-settled : settingsInRange c ≡ true → (cvt : Bool) (j : ℕ) → Cleared cvt Settled j → ⊥
+  pub cleared-settled : LineRight c → (cvt : Bool) (j : ℕ) → Cleared cvt Settled j → ⊥
   unfolding setCount
   cleared-settled right cvt j h = from-first right cvt Settled j refl h
 
-  pub cleared-order : settingsInRange c ≡ true → (cvt : Bool) (p j : ℕ) → rankOn c b cvt p ≡ 0 → Cleared cvt (Turn p act.Set) j → ⊥
+  pub cleared-order : LineRight c → (cvt : Bool) (p j : ℕ) → rankOn c b cvt p ≡ 0 → Cleared cvt (Turn p act.Set) j → ⊥
   unfolding setCount
   cleared-order right cvt p j e h = from-first right cvt (Turn p act.Set) j e h
 
@@ -88,10 +88,15 @@ module _ (c : Settings) (b : Bool) where
       go (no l) (inl u) = inr (record { begins = u; not-before = omega arith; same-part = λ k above upto. h k above upto })
       go (no l) (inr u) = inl (λ k rk kj. at u k rk kj (ℕ-discrete k r))
 
-  pub cleared-announced : (cvt : Bool) (p q j : ℕ) → rankOn c b cvt q ≡ suc (rankOn c b cvt p)
+  -- an announcement: posts that the walk leaves out end no part
+  pub cleared-announced : (cvt : Bool) (p q j : ℕ) → NextOpen c b cvt (rankOn c b cvt p) q
       → Cleared cvt (Turn q act.Acknowledge) j → Cleared cvt (Turn p act.Announce) j
   unfolding Cleared setCount
-  cleared-announced cvt p q j e h k count kj = h k (omega arith) kj
+  cleared-announced cvt p q j next h k count kj = go (decLt k (rankOn c b cvt q))
+    where
+      go : Dec (k < rankOn c b cvt q) → partEnds c b cvt k ≡ false
+      go (yes l) = only-open-ends c b cvt k (next .none-between k count l)
+      go (no l) = h k (omega arith) kj
 
   pub cleared-acknowledged : (cvt : Bool) (p j : ℕ) → Cleared cvt (Turn p act.Set) j → Cleared cvt (Turn p act.Acknowledge) j
   unfolding Cleared setCount

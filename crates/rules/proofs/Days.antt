@@ -22,15 +22,16 @@ use Rattle.section.specs.Geometry.{upward, rank, block, isFirst, isLast}
 use Rattle.section.specs.Numbers.{mostBlocks, mostCrossings, unused}
 use Rattle.section.specs.Post.{sealed}
 use Rattle.section.specs.Range.{postInRange, postsInRange, numbersInRange, actInRange, walkInRange, trackInRange, inRange}
-use Rattle.section.specs.Settings.{isSignalled, noneFrom, isMaterialised, settingsInRange}
-use Rattle.section.specs.Step.{faultWellFormed, numberWellFormed, placeWellFormed, fieldsWellFormed, wellFormed, faultOf, stepOf, stepSaid, decoded}
-use Rattle.section.specs.Step.{postOf, faultNumber, numberOf, bytesOf, encoded}
+use Rattle.section.specs.Settings.{isSignalled, noneFrom, settingsInRange}
+use Rattle.section.specs.Step.{faultWellFormed, numberWellFormed, trackWellFormed, placeWellFormed, fieldsWellFormed, wellFormed, faultOf, stepOf}
+use Rattle.section.specs.Step.{stepSaid, decoded, kindOf, postOf, faultNumber, numberOf, bytesOf, encoded}
 use Rattle.section.specs.Store.{trackOf, withTrack, postOn, withPost}
 use Rattle.section.specs.Words.{refusalOf}
-use Rattle.rules.specs.Site.{reach, anyOf, stretchEnds, crossingAhead, zonesLackAhead, partEnds, commands, watchedOccupied, trainBefore}
-use Rattle.rules.specs.Site.{lastEntered, occupancyAt}
+use Rattle.rules.specs.Line.{isMaterialised, isOpen}
+use Rattle.rules.specs.Site.{reach, firstFrom, anyOf, openAt, nextPost, stretchEnds, liesAhead, crossingAhead, zonesLackAhead, partEnds, commands}
+use Rattle.rules.specs.Site.{watchedOccupied, trainBefore, lastEntered, occupancyAt}
 use Rattle.rules.specs.Table.{checks, effect, cellsAfter, trackAfter}
-use Rattle.rules.specs.Judge.{verdictOf, answerOf, verdictOn, sectionAfter, judgeStep, judgeDecoded, judgeInRange, judge}
+use Rattle.rules.specs.Judge.{verdictOf, answerOf, verdictOn, trackAfterOn, sectionAfter, judgeStep, judgeDecoded, judgeInRange, judge}
 
 -- ## Tracks, directions, lines
 
@@ -134,12 +135,13 @@ offeredAs steps = map encoded steps
 
 -- the answers to a day, 0 or the refusal; unfolded, judging computes
 unfoldable pub refusals : Section → List (List ℕ) → List ℕ
-unfolding judge judgeInRange judgeDecoded judgeStep sectionAfter verdictOn answerOf verdictOf refusalOf
-    checks effect cellsAfter trackAfter reach anyOf stretchEnds crossingAhead zonesLackAhead partEnds commands watchedOccupied
-    trainBefore lastEntered occupancyAt
-    inRange trackInRange walkInRange actInRange numbersInRange postsInRange postInRange settingsInRange crossingsInRange noneFrom isSignalled isMaterialised
-    upward rank block isFirst isLast
-    decoded stepSaid stepOf faultOf wellFormed fieldsWellFormed placeWellFormed numberWellFormed faultWellFormed le16 within postOf numberOf
+unfolding judge judgeInRange judgeDecoded judgeStep sectionAfter trackAfterOn verdictOn answerOf verdictOf refusalOf
+    checks effect cellsAfter trackAfter reach firstFrom anyOf isOpen openAt nextPost stretchEnds liesAhead crossingAhead zonesLackAhead
+    partEnds commands watchedOccupied trainBefore lastEntered occupancyAt
+    inRange trackInRange walkInRange actInRange numbersInRange postsInRange postInRange settingsInRange crossingsInRange noneFrom isSignalled
+    isMaterialised upward rank block isFirst isLast
+    decoded stepSaid stepOf faultOf wellFormed fieldsWellFormed placeWellFormed trackWellFormed numberWellFormed faultWellFormed le16 within
+    kindOf postOf numberOf
 refusals s [] = []
 refusals s (bytes ∷ offered) = refusalOf (judge s bytes .verdict) ∷ refusals (judge s bytes .section) offered
 

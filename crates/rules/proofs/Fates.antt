@@ -16,19 +16,21 @@ use Rattle.section.specs.Geometry.{upward, block}
 use Rattle.section.specs.Numbers.{mostPosts, mostBlocks}
 use Rattle.section.specs.Store.{trackOf}
 use Rattle.section.proofs.Laws.{block-lt}
+use Rattle.rules.specs.declared.Line.{Line}
+use Rattle.rules.specs.Line.{lineOf}
 use Rattle.rules.specs.Site.{otherSettledOnVns, trainAt, stretchEnds}
 use Rattle.rules.specs.Demand3.{AcceptedStep, kind, post, isOfTrain, keep, All, Run, noteStep, runsFrom, runsOf}
 use Rattle.rules.specs.Demand3.{OneAfterAnother, TrainThere, Fate}
 use Rattle.rules.proofs.Facts.{by-track, beq-same, beq-other}
-use Rattle.rules.proofs.View.{Seen, shown}
+use Rattle.rules.proofs.View.{View, Seen, on, shown}
 use Rattle.rules.proofs.Reading.{Says}
-use Rattle.rules.proofs.Accept.{AcceptedOn, trackAfterStep, AcceptedIn, sectionAfterStep}
+use Rattle.rules.proofs.Accept.{AcceptedOn, trackAfterStep, line, AcceptedIn, sectionAfterStep}
 use Rattle.rules.proofs.Invariant.{Sound}
 use Rattle.rules.proofs.Exchange.{here-after, there-after}
-use Rattle.rules.proofs.Stretches.{empty-spaced}
-use Rattle.rules.proofs.Runs.{offTrack, follows-in-turn, follows-fates, follows-there}
+use Rattle.rules.proofs.Stretches.{Spaced, empty-spaced}
+use Rattle.rules.proofs.Runs.{Follows, offTrack, follows-in-turn, follows-fates, follows-there}
 use Rattle.rules.proofs.TrainSteps.{ofTrain, noteView, note-test}
-use Rattle.rules.proofs.Trains.{SpacedOn, FollowsOn, trains-kept, no-zero}
+use Rattle.rules.proofs.Trains.{trains-kept, no-zero}
 
 -- ## A train's runs after one more step
 
@@ -49,21 +51,22 @@ runs-last test rs (x ∷ ds) d = go (test x) (runs-last test (noteStep (kind x) 
     go true here there = here
     go false here there = there
 
-module _ (n : ℕ) (ds : List AcceptedStep) (d : AcceptedStep) (x : Seen) (h : Says n (d .bytes) (shown x)) where
-  -- the runs of train z on the track b, one more step noted where the test says so
-  abbrev noted : Bool → ℕ → Bool → List Run
-  noted b z test = cond (test && ofTrain z (x .kind)) (noteView (x .kind) (x .post) (runsOf b z ds)) (runsOf b z ds)
+module _ (n : ℕ) (ds : List AcceptedStep) (d : AcceptedStep) where
+  module _ (t : Bool) (q : ℕ) (v : View) (h : Says n (d .bytes) (shown (on t q v))) where
+    -- the runs of train z on the track b, one more step noted where the test says so
+    abbrev noted : Bool → ℕ → Bool → List Run
+    noted b z test = cond (test && ofTrain z v) (noteView v q (runsOf b z ds)) (runsOf b z ds)
 
-  runs-after : (b : Bool) (z : ℕ) → runsOf b z (ds ++ d ∷ []) ≡ noted b z (Bool·beq (x .track) b)
-  unfolding runsOf
-  runs-after b z = runs-last (λ e. isOfTrain b z e) [] ds d ∙ note-test n d x h b z (runsOf b z ds)
+    runs-after : (b : Bool) (z : ℕ) → runsOf b z (ds ++ d ∷ []) ≡ noted b z (Bool·beq t b)
+    unfolding runsOf
+    runs-after b z = runs-last (λ e. isOfTrain b z e) [] ds d ∙ note-test n d t q v h b z (runsOf b z ds)
 
-  -- on the step's own track, and on the other
-  runs-here : (z : ℕ) → runsOf (x .track) z (ds ++ d ∷ []) ≡ noted (x .track) z true
-  runs-here z = runs-after (x .track) z ∙ ap (noted (x .track) z) (beq-same (x .track))
+    -- on the step's own track, and on the other
+    runs-here : (z : ℕ) → runsOf t z (ds ++ d ∷ []) ≡ noted t z true
+    runs-here z = runs-after t z ∙ ap (noted t z) (beq-same t)
 
-  runs-there : (z : ℕ) → runsOf (not (x .track)) z (ds ++ d ∷ []) ≡ runsOf (not (x .track)) z ds
-  runs-there z = runs-after (not (x .track)) z ∙ ap (noted (not (x .track)) z) (beq-other (x .track))
+    runs-there : (z : ℕ) → runsOf (not t) z (ds ++ d ∷ []) ≡ runsOf (not t) z ds
+    runs-there z = runs-after (not t) z ∙ ap (noted (not t) z) (beq-other t)
 
 -- ## Three fields of the claim for one track
 
@@ -76,66 +79,72 @@ module _ (c : Settings) where
 module _ (c : Settings) (n2 : 2 ≤ c .posts) (n16 : c .posts ≤ mostPosts) where
   -- ## What holds of a track's trains after the accepted steps ds
 
-  pub record TrackRuns (b : Bool) (t : Track) (ds : List AcceptedStep) : Type 0 where
-    pub spaced : SpacedOn c n2 n16 b (t .cvt) (t .trains)
-    pub follows : (z : ℕ) → z ≢ 0 → FollowsOn c n2 n16 b (t .cvt) (t .trains) z (runsOf b z ds)
+  pub record TrackRuns (ln : Line) (b : Bool) (t : Track) (ds : List AcceptedStep) : Type 0 where
+    pub spaced : Spaced (c .posts) (stretchEnds ln b (t .cvt)) (trainAt ln b (t .cvt) (t .trains))
+    pub follows : (z : ℕ) → z ≢ 0 → Follows c n2 (upward b (t .cvt)) (trainAt ln b (t .cvt) (t .trains)) z (runsOf b z ds)
     pub none-zero : runsOf b 0 ds ≡ []
 
   abbrev pub SectionRuns : Section → List AcceptedStep → Type 0
-  SectionRuns s ds = (b : Bool) → TrackRuns b (trackOf s b) ds
+  SectionRuns s ds = (b : Bool) → TrackRuns (line c s) b (trackOf s b) ds
 
   -- ## Kept by every accepted step
 
-  module _ (ds : List AcceptedStep) (d : AcceptedStep) (x : Seen) (says : Says (c .posts) (d .bytes) (shown x)) where
-    here-kept : (v : Bool) (t : Track) → AcceptedOn c v (x .track) (x .post) (x .kind) t → Sound c (x .track) t → TrackRuns (x .track) t ds
-        → TrackRuns (x .track) (trackAfterStep c (x .track) (x .post) (x .kind) t) (ds ++ d ∷ [])
-    here-kept v t h so m =
-        let k = trains-kept c n2 n16 (x .track) v t (x .post) (so .sizes .trains) (x .kind) h (so .clear) in
-        record {
-          spaced = k .spaced (m .spaced);
-          follows = λ z nz. rw (runs-here (c .posts) ds d x says z) (k .follows z (runsOf (x .track) z ds) nz (m .spaced) (m .follows z nz));
-          none-zero = runs-here (c .posts) ds d x says 0
-              ∙ ap (λ w. cond w (noteView (x .kind) (x .post) (runsOf (x .track) 0 ds)) (runsOf (x .track) 0 ds))
-              (no-zero c n2 n16 (x .track) v t (x .post) (so .sizes .trains) (x .kind) h)
-              ∙ m .none-zero;
-        }
+  module _ (ds : List AcceptedStep) (d : AcceptedStep) where
+    module _ (b : Bool) (p : ℕ) (k : View) (says : Says (c .posts) (d .bytes) (shown (on b p k))) (s : Section) where
+      here-kept : (v : Bool) (t : Track) → AcceptedOn (line c s) v b p k t → Sound (line c s) b t → TrackRuns (line c s) b t ds
+          → TrackRuns (line c s) b (trackAfterStep (line c s) b p k t) (ds ++ d ∷ [])
+      here-kept v t h so m =
+          let kept = trains-kept c n2 n16 s b v t p (so .sizes .trains) k h (so .clear) in
+          record {
+            spaced = kept .spaced (m .spaced);
+            follows = λ z nz. rw (runs-here (c .posts) ds d b p k says z) (kept .follows z (runsOf b z ds) nz (m .spaced) (m .follows z nz));
+            none-zero = runs-here (c .posts) ds d b p k says 0
+                ∙ ap (λ w. cond w (noteView k p (runsOf b 0 ds)) (runsOf b 0 ds)) (no-zero c n2 n16 s b v t p (so .sizes .trains) k h)
+                ∙ m .none-zero;
+          }
 
-    there-kept : (t : Track) → TrackRuns (not (x .track)) t ds → TrackRuns (not (x .track)) t (ds ++ d ∷ [])
-    there-kept t m = record {
-      spaced = m .spaced;
-      follows = λ z nz. rw (runs-there (c .posts) ds d x says z) (m .follows z nz);
-      none-zero = runs-there (c .posts) ds d x says 0 ∙ m .none-zero;
-    }
+      there-kept : (t : Track) → TrackRuns (line c s) (not b) t ds → TrackRuns (line c s) (not b) t (ds ++ d ∷ [])
+      there-kept t m = record {
+        spaced = m .spaced;
+        follows = λ z nz. rw (runs-there (c .posts) ds d b p k says z) (m .follows z nz);
+        none-zero = runs-there (c .posts) ds d b p k says 0 ∙ m .none-zero;
+      }
 
-    pub runs-kept : (s : Section) → AcceptedIn c s x → ((b : Bool) → Sound c b (trackOf s b)) → SectionRuns s ds
-        → SectionRuns (sectionAfterStep c s x) (ds ++ d ∷ [])
+    one-kept : (b : Bool) (p : ℕ) (k : View) → Says (c .posts) (d .bytes) (shown (on b p k)) → (s : Section) → AcceptedIn c s (on b p k)
+        → ((e : Bool) → Sound (line c s) e (trackOf s e)) → SectionRuns s ds → SectionRuns (sectionAfterStep c s (on b p k)) (ds ++ d ∷ [])
     unfolding AcceptedIn
-    runs-kept s h so m =
-        by-track (λ b. TrackRuns b (trackOf (sectionAfterStep c s x) b) (ds ++ d ∷ [])) (x .track)
-        (rw (here-after c s (x .track) (x .post) (x .kind))
-        (here-kept (otherSettledOnVns s (x .track)) (trackOf s (x .track)) h (so (x .track)) (m (x .track))))
-        (rw (there-after c s (x .track) (x .post) (x .kind)) (there-kept (trackOf s (not (x .track))) (m (not (x .track)))))
+    one-kept b p k says s h so m =
+        by-track (λ e. TrackRuns (line c s) e (trackOf (sectionAfterStep c s (on b p k)) e) (ds ++ d ∷ [])) b
+        (rw (here-after c s b p k) (here-kept b p k says s (otherSettledOnVns s b) (trackOf s b) h (so b) (m b)))
+        (rw (there-after c s b p k) (there-kept b p k says s (trackOf s (not b)) (m (not b))))
+
+    pub runs-kept : (x : Seen) → Says (c .posts) (d .bytes) (shown x) → (s : Section) → AcceptedIn c s x → ((b : Bool) → Sound (line c s) b (trackOf s b))
+        → SectionRuns s ds → SectionRuns (sectionAfterStep c s x) (ds ++ d ∷ [])
+    runs-kept (on b p k) says s h so m = one-kept b p k says s h so m
 
   -- ## The fresh section
 
-  fresh-track-runs : (b : Bool) → TrackRuns b (freshTrack (c .posts) b) []
+  abbrev freshLine : Line
+  freshLine = lineOf c
+
+  fresh-track-runs : (b : Bool) → TrackRuns freshLine b (freshTrack (c .posts) b) []
   unfolding freshTrack runsOf
   fresh-track-runs b = record {
-    spaced = empty-spaced (c .posts) (stretchEnds c b false) (trainAt c b false (replicate mostBlocks 0)) zeros;
+    spaced = empty-spaced (c .posts) (stretchEnds freshLine b false) (trainAt freshLine b false (replicate mostBlocks 0)) zeros;
     follows = λ z nz. offTrack (λ j h e. nz (sym e ∙ zeros j h)) tt;
     none-zero = refl;
   }
     where
-      zeros : (j : ℕ) → suc j < c .posts → trainAt c b false (replicate mostBlocks 0) j ≡ 0
+      zeros : (j : ℕ) → suc j < c .posts → trainAt freshLine b false (replicate mostBlocks 0) j ≡ 0
       zeros j h = getD-replicate mostBlocks (block (c .posts) (upward b false) j) 0 0 (omega (arith, block-lt (c .posts) (upward b false) j h))
 
   pub fresh-runs : SectionRuns (freshSection c) []
   unfolding freshSection
-  fresh-runs = by-track (λ b. TrackRuns b (trackOf (freshSection c) b) []) true (fresh-track-runs true) (fresh-track-runs false)
+  fresh-runs = by-track (λ b. TrackRuns freshLine b (trackOf (freshSection c) b) []) true (fresh-track-runs true) (fresh-track-runs false)
 
   -- ## What that says
 
-  pub runs-right : (s : Section) (ds : List AcceptedStep) (b : Bool) → TrackRuns b (trackOf s b) ds → RunsRight c s ds b
+  pub runs-right : (s : Section) (ds : List AcceptedStep) (b : Bool) → TrackRuns (line c s) b (trackOf s b) ds → RunsRight c s ds b
   runs-right s ds b m = record {
     fates = λ z. fate z (ℕ-discrete z 0);
     one-after-another = λ z. in-turn z (ℕ-discrete z 0);

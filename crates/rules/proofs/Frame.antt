@@ -7,7 +7,6 @@ use mathlib.Core.List.{List}
 use lib.ListN.{length, length-set}
 use lib.Dec.{eqb}
 use borrow.Author.Tests.{eqb-true}
-use Rattle.section.specs.declared.Settings.{Settings}
 use Rattle.section.specs.declared.Fault.the-variants.{One, Two, Three, Four}
 use Rattle.section.specs.declared.Act.{Act}
 use Rattle.section.specs.declared.Act.the-variants as act
@@ -15,6 +14,7 @@ use Rattle.section.specs.declared.Walk.{Walk}
 use Rattle.section.specs.declared.Walk.the-variants.{Settled, Turn}
 use Rattle.section.specs.declared.Said.the-variants.{Nothing}
 use Rattle.section.proofs.Laws.{and-left, and-right}
+use Rattle.rules.specs.declared.Line.{Line}
 use Rattle.rules.specs.declared.Site.{Site}
 use Rattle.rules.specs.declared.Effect.{Effect}
 use Rattle.rules.specs.declared.Movement.{Movement}
@@ -68,7 +68,7 @@ is-settled (Turn p a) h = absurd (false≢true h)
 
 -- ## Lengths
 
-module _ (c : Settings) where
+module _ (c : Line) where
   pub vacated-length : (clears : Bool) (e : Site) (l : List ℕ) → length (vacated c clears e l) ≡ length l
   vacated-length true e l = length-set l (blockBefore c e) 0
   vacated-length false e l = refl

@@ -1,18 +1,18 @@
 -- What an accepted step found, by name: a record for each kind whose checks have something to tell, read off the row of checks and written back
 -- to it. No other file counts the places of a row.
-use Prim.Native.Nat.{ℕ, _≤_}
+use Prim.Native.Nat.{ℕ, suc, _≤_, _<_}
 use mathlib.Core.Bool.{Bool, true, false, not}
 use mathlib.Core.Path.{_≡_, sym, ap, _∙_}
 use lib.ListN.{getD}
 use lib.Dec.{eqb}
 use borrow.Author.Tests.{eqb-true, not-true}
-use Rattle.section.specs.declared.Settings.{Settings}
 use Rattle.section.specs.declared.Act.the-variants as act
 use Rattle.section.specs.declared.Fault.{Fault}
 use Rattle.section.specs.declared.Track.{Track}
 use Rattle.section.specs.Geometry.{upward}
 use Rattle.section.specs.Numbers.{mostSeals}
 use Rattle.section.specs.Post.{hasFault}
+use Rattle.rules.specs.declared.Line.{Line}
 use Rattle.rules.specs.declared.Site.{Site}
 use Rattle.rules.specs.Site.{isSettled, isTurn, siteOn, Occupancy, atSendingEnd, atReceivingEnd, blockBefore, crossingAhead, commands, occupancyAt}
 use Rattle.rules.specs.Table.{orderAllowed, measuresSuffice, orderOccupied, passOccupied, releaseInTurn, fault1Confirmed, cautionHeld, checks}
@@ -24,11 +24,11 @@ use Rattle.rules.proofs.Accept.{occupancyOn, AcceptedOn}
 
 -- ## What is found, at a site with that occupancy
 
-module _ (c : Settings) (e : Site) (g : Occupancy) where
+module _ (c : Line) (e : Site) (g : Occupancy) where
   pub record OrderHeld : Type 0 where
     pub settled : isSettled (e .walk) ≡ true
     pub first : atSendingEnd c e ≡ true
-    pub allowed : orderAllowed e (g .otherOnVns) ≡ true
+    pub allowed : orderAllowed e (g .other .onVns) ≡ true
     pub free : orderOccupied c g ≡ false
 
   pub record SetHeld : Type 0 where
@@ -94,7 +94,7 @@ module _ (c : Settings) (e : Site) (g : Occupancy) where
     pub free : g .watched ≡ false
     pub last-train : eqb (g .lastAhead) z ≡ true
 
-module _ {c : Settings} {v b : Bool} {p : ℕ} {t : Track} where
+module _ {c : Line} {v b : Bool} {p : ℕ} {t : Track} where
   -- ## Read off the row
 
   pub order-held : AcceptedOn c v b p (walks order) t → OrderHeld c (siteOn b p t) (occupancyOn c v b p (walks order) t)
@@ -103,24 +103,28 @@ module _ {c : Settings} {v b : Bool} {p : ℕ} {t : Track} where
 
   pub set-held : AcceptedOn c v b p (walks setDevice) t → SetHeld c (siteOn b p t) (occupancyOn c v b p (walks setDevice) t)
   unfolding checks flat
-  set-held h = record {
-    in-turn = h .held .0;
-    free = not-true _ (h .held .1 .0);
-    fault1-confirmed = h .held .1 .1 .0;
-    measures-suffice = h .held .1 .1 .1 .0;
-    no-fault2 = not-true _ (h .held .1 .1 .1 .1 .0);
-  }
+  set-held h =
+      let row = h .held in
+      record {
+        in-turn = row .0;
+        free = not-true _ (row .1 .0);
+        fault1-confirmed = row .1 .1 .0;
+        measures-suffice = row .1 .1 .1 .0;
+        no-fault2 = not-true _ (row .1 .1 .1 .1 .0);
+      }
 
   pub key-held : AcceptedOn c v b p (walks key) t → KeyHeld c (siteOn b p t) (occupancyOn c v b p (walks key) t)
   unfolding checks flat
-  key-held h = record {
-    in-turn = h .held .0;
-    fault2 = h .held .1 .0;
-    free = not-true _ (h .held .1 .1 .0);
-    fault1-confirmed = h .held .1 .1 .1 .0;
-    measures-suffice = h .held .1 .1 .1 .1 .0;
-    seal-left = not-true _ (h .held .1 .1 .1 .1 .1 .0);
-  }
+  key-held h =
+      let row = h .held in
+      record {
+        in-turn = row .0;
+        fault2 = row .1 .0;
+        free = not-true _ (row .1 .1 .0);
+        fault1-confirmed = row .1 .1 .1 .0;
+        measures-suffice = row .1 .1 .1 .1 .0;
+        seal-left = not-true _ (row .1 .1 .1 .1 .1 .0);
+      }
 
   pub announce-held : AcceptedOn c v b p (walks announce) t → AnnounceHeld c (siteOn b p t) (occupancyOn c v b p (walks announce) t)
   unfolding checks flat
@@ -181,13 +185,15 @@ module _ {c : Settings} {v b : Bool} {p : ℕ} {t : Track} where
 
   pub release-held : {z : ℕ} → AcceptedOn c v b p (releases z) t → ReleaseHeld c (siteOn b p t) (occupancyOn c v b p (releases z) t) z
   unfolding checks flat
-  release-held h = record {
-    in-turn = h .held .0;
-    in-command = h .held .1 .0;
-    fault1 = h .held .1 .1 .0;
-    free = not-true _ (h .held .1 .1 .1 .0);
-    last-train = h .held .1 .1 .1 .1 .0;
-  }
+  release-held h =
+      let row = h .held in
+      record {
+        in-turn = row .0;
+        in-command = row .1 .0;
+        fault1 = row .1 .1 .0;
+        free = not-true _ (row .1 .1 .1 .0);
+        last-train = row .1 .1 .1 .1 .0;
+      }
 
   -- the train of a pass or a leave stands in the block section before the post
   pub pass-before : {z : ℕ} → AcceptedOn c v b p (runs pass z) t → getD (t .trains) (blockBefore c (siteOn b p t)) 0 ≡ z
@@ -210,7 +216,10 @@ module _ {c : Settings} {v b : Bool} {p : ℕ} {t : Track} where
   pub set-accepted : Fits (c .posts) p (walks setDevice) → SetHeld c (siteOn b p t) (occupancyOn c v b p (walks setDevice) t)
       → AcceptedOn c v b p (walks setDevice) t
   unfolding checks flat
-  set-accepted f h = record { fits = f; held = (h .in-turn, (ap not (h .free), (h .fault1-confirmed, (h .measures-suffice, (ap not (h .no-fault2), tt))))) }
+  set-accepted f h = record {
+    fits = f;
+    held = (h .in-turn, (ap not (h .free), (h .fault1-confirmed, (h .measures-suffice, (ap not (h .no-fault2), tt)))));
+  }
 
   pub key-accepted : Fits (c .posts) p (walks key) → KeyHeld c (siteOn b p t) (occupancyOn c v b p (walks key) t) → AcceptedOn c v b p (walks key) t
   unfolding checks flat
@@ -233,3 +242,7 @@ module _ {c : Settings} {v b : Bool} {p : ℕ} {t : Track} where
       → AcceptedOn c v b p (releases z) t
   unfolding checks flat
   release-accepted f h = record { fits = f; held = (h .in-turn, (h .in-command, (h .fault1, (ap not (h .free), (h .last-train, tt))))) }
+
+-- no train on a track, of n posts
+abbrev pub NoTrain : ℕ → Track → Type 0
+NoTrain n t = (i : ℕ) → suc i < n → getD (t .trains) i 0 ≡ 0

@@ -9,7 +9,6 @@ use native.Mathlib.Omega.{arith}
 use native.Mathlib.Decide.{ℕ-discrete, decLt}
 use lib.ListN.{getD, set, length, length-set}
 use lib.Seq.{getD-set-other, getD-set-same}
-use Rattle.section.specs.declared.Settings.{Settings}
 use Rattle.section.specs.declared.Post.{Post}
 use Rattle.section.specs.declared.Act.{Act}
 use Rattle.section.specs.declared.Act.the-variants as act
@@ -19,24 +18,25 @@ use Rattle.section.specs.declared.Track.{Track}
 use Rattle.section.specs.Geometry.{upward, block, isLast}
 use Rattle.section.specs.Numbers.{mostPosts, mostBlocks}
 use Rattle.section.specs.Post.{blank}
-use Rattle.section.specs.Settings.{settingsInRange}
-use Rattle.section.proofs.Laws.{rank-lt, rank-inj, block-inj, block-lt, block-block, posts-right}
+use Rattle.section.proofs.Laws.{rank-lt, rank-inj, block-inj, block-lt, block-block}
+use Rattle.rules.specs.declared.Line.{Line}
 use Rattle.rules.specs.declared.Site.{Site}
 use Rattle.rules.specs.Site.{siteOn, isTurn, atReceivingEnd, blockAhead, blockBefore, nextPost, trainAt, watchedOccupied}
 use Rattle.rules.specs.Site.{occupancyAt, partEnds}
 use Rattle.rules.specs.Table.{checks, effect, cellsAfter, trackAfter}
-use Rattle.rules.proofs.Facts.{first-rank, not-first-rank, last-rank, not-last-rank, next-rank, far-end, set-zero}
+use Rattle.rules.proofs.Facts.{first-rank, not-first-rank, last-rank, not-last-rank, far-end, set-zero}
 use Rattle.rules.proofs.View.{order, setDevice, announce, acknowledge, key, start, pass, leave, View, walks, runs, notes, releases, flat}
 use Rattle.rules.proofs.Frame.{is-turn, is-settled, movesNoTrain, keepsRunning, running-kept, no-movement, cells-length}
 use Rattle.rules.proofs.Accept.{AcceptedOn, trackAfterStep}
-use Rattle.rules.proofs.Held.{order-held, set-held, key-held, announce-held, acknowledge-held, start-held, pass-held, pass-before}
+use Rattle.rules.proofs.Held.{order-held, set-held, key-held, announce-held, acknowledge-held, start-held, pass-held, pass-before, NoTrain}
+use Rattle.rules.proofs.NextPost.{next-post}
 use Rattle.rules.proofs.Stretches.{free-there}
-use Rattle.rules.proofs.Parts.{watches, begins-commands}
+use Rattle.rules.proofs.Parts.{watches, begins-commands, LineRight}
 use Rattle.rules.proofs.Cleared.{Cleared, cleared-back, cleared-settled, cleared-order, cleared-turn, cleared-all, OwnPart, cleared-set}
 use Rattle.rules.proofs.Cleared.{cleared-announced, cleared-acknowledged}
 use Rattle.rules.proofs.Ranges.{rankOn, TurnFits, InRange, announce-next, in-range-kept}
 
-module _ (c : Settings) (b : Bool) where
+module _ (c : Line) (b : Bool) where
   -- ## What is kept
 
   -- the block sections that the reversal has cleared hold no train
@@ -71,7 +71,7 @@ module _ (c : Settings) (b : Bool) where
 
     -- ## What is cleared
 
-    clear-set : settingsInRange c ≡ true → (last : Bool) → isLast (c .posts) (upward b (t .cvt)) p ≡ last → isTurn (t .walk) p act.Set ≡ true
+    clear-set : LineRight c → (last : Bool) → isLast (c .posts) (upward b (t .cvt)) p ≡ last → isTurn (t .walk) p act.Set ≡ true
         → watchedOccupied c e (t .trains) ≡ false → ClearedFree (t .cvt) (t .walk) (t .trains)
         → ClearedFree (cond last (not (t .cvt)) (t .cvt)) (cond last Settled (Turn p act.Announce)) (t .trains)
     clear-set right true q hw ha clear j h k = absurd (cleared-settled c b right (not (t .cvt)) j h)
@@ -119,7 +119,7 @@ module _ (c : Settings) (b : Bool) where
     unfolding trackAfter cellsAfter
     clear-unmoved k i j clear = rw (no-movement c p k e i, running-kept c p k e j .walk, running-kept c p k e j .cvt) clear
 
-    clear-kept : settingsInRange c ≡ true → (k : View) → AcceptedOn c v b p k t → ClearedFree (t .cvt) (t .walk) (t .trains)
+    clear-kept : LineRight c → (k : View) → AcceptedOn c v b p k t → ClearedFree (t .cvt) (t .walk) (t .trains)
         → TurnFits c b (t .cvt) (t .walk)
         → ClearedFree (trackAfterStep c b p k t .cvt) (trackAfterStep c b p k t .walk) (trackAfterStep c b p k t .trains)
     unfolding checks occupancyAt trackAfter effect cellsAfter flat
@@ -128,8 +128,7 @@ module _ (c : Settings) (b : Bool) where
     clear-kept right (walks setDevice) h clear f = clear-set right (atReceivingEnd c e) refl (set-held h .in-turn) (set-held h .free) clear
     clear-kept right (walks announce) h clear f = λ j l m.
         subst (λ (w : Walk). ClearedFree (t .cvt) w (t .trains)) (is-turn (t .walk) p act.Announce (announce-held h .in-turn)) clear j
-        (cleared-announced c b (t .cvt) p (nextPost c e) j
-        (next-rank (c .posts) (upward b (t .cvt)) p (h .fits .below) (announce-next c b v t p (announce-held h .in-turn) f)) l) m
+        (cleared-announced c b (t .cvt) p (nextPost c e) j (next-post c e (announce-next c b v t p (announce-held h .in-turn) f)) l) m
     clear-kept right (walks acknowledge) h clear f = λ j l m.
         subst (λ (w : Walk). ClearedFree (t .cvt) w (t .trains)) (is-turn (t .walk) p act.Acknowledge (acknowledge-held h .in-turn)) clear j
         (cleared-acknowledged c b (t .cvt) p j l) m
@@ -152,7 +151,7 @@ module _ (c : Settings) (b : Bool) where
 
     module _ (n16 : c .posts ≤ mostPosts) (z : Sizes t) where
       -- a step that gives its post no permission
-      permit-same : (o : Post) (w : Walk) → p < c .posts → (o .permission ≡ true → e .own .permission ≡ true)
+      pub permit-same : (o : Post) (w : Walk) → p < c .posts → (o .permission ≡ true → e .own .permission ≡ true)
           → ((r : ℕ) → MayHold (t .walk) r → MayHold w r) → Permits (t .cvt) (t .walk) (t .posts) → Permits (t .cvt) w (set (t .posts) p o)
       permit-same o w p<n f g old q q<n h = go (ℕ-discrete q p)
         where
@@ -225,28 +224,25 @@ module _ (c : Settings) (b : Bool) where
       last = cells-length c false (effect c (flat p k) e .train) e (t .last) ∙ z .last;
     }
 
-    pub sound-kept : settingsInRange c ≡ true → (k : View) → AcceptedOn c v b p k t → Sound t → Sound (trackAfterStep c b p k t)
+    pub sound-kept : LineRight c → (k : View) → AcceptedOn c v b p k t → Sound t → Sound (trackAfterStep c b p k t)
     sound-kept right k h s = record {
       clear = clear-kept right k h (s .clear) (s .ranges .turn);
-      permits = permits-kept (posts-right c right .1) (s .sizes) k h (s .permits);
+      permits = permits-kept (right .most) (s .sizes) k h (s .permits);
       sizes = sizes-kept k (s .sizes);
       ranges = in-range-kept c b v t p k h (s .ranges);
     }
 
 -- ## The last set or key finds no train on the track
 
-abbrev pub NoTrain : Settings → Track → Type 0
-NoTrain c t = (i : ℕ) → suc i < c .posts → getD (t .trains) i 0 ≡ 0
-
-pub all-free : (c : Settings) (b : Bool) (t : Track) (p : ℕ) → isLast (c .posts) (upward b (t .cvt)) p ≡ true
-    → ClearedFree c b (t .cvt) (Turn p act.Set) (t .trains) → NoTrain c t
+pub all-free : (c : Line) (b : Bool) (t : Track) (p : ℕ) → isLast (c .posts) (upward b (t .cvt)) p ≡ true
+    → ClearedFree c b (t .cvt) (Turn p act.Set) (t .trains) → NoTrain (c .posts) t
 all-free c b t p hr clear i h =
     let e : suc (rankOn c b (t .cvt) p) ≡ c .posts = last-rank (c .posts) (upward b (t .cvt)) p hr in
     let l : suc (block (c .posts) (upward b (t .cvt)) i) < c .posts = block-lt (c .posts) (upward b (t .cvt)) i h in
     rw (block-block (c .posts) (upward b (t .cvt)) i h) at (clear (block (c .posts) (upward b (t .cvt)) i) (cleared-all c b (t .cvt) p _ e l) l)
 
 -- a turn at the last post, with its act set
-pub last-free : (c : Settings) (b : Bool) (t : Track) (p : ℕ) → isLast (c .posts) (upward b (t .cvt)) p ≡ true → isTurn (t .walk) p act.Set ≡ true
-    → ClearedFree c b (t .cvt) (t .walk) (t .trains) → NoTrain c t
+pub last-free : (c : Line) (b : Bool) (t : Track) (p : ℕ) → isLast (c .posts) (upward b (t .cvt)) p ≡ true → isTurn (t .walk) p act.Set ≡ true
+    → ClearedFree c b (t .cvt) (t .walk) (t .trains) → NoTrain (c .posts) t
 last-free c b t p hr hw clear =
     all-free c b t p hr (subst (λ (w : Walk). ClearedFree c b (t .cvt) w (t .trains)) (is-turn (t .walk) p act.Set hw) clear)

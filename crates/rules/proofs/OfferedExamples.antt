@@ -14,18 +14,18 @@ unfoldable pub answerTo : Section → List ℕ → List ℕ
 unfolding refusals fresh sealedAt
 answerTo s bytes = refusals s (bytes ∷ [])
 
--- order by post 0 of A, and its bytes with kind 15
+-- order by post 0 of A, and its bytes with a kind that there is not
 abbrev pub orderA0 : List ℕ
 orderA0 = 1 ∷ 0 ∷ 0 ∷ 0 ∷ 0 ∷ 0 ∷ 0 ∷ 0 ∷ []
 
-abbrev pub kind15 : List ℕ
-kind15 = 15 ∷ 0 ∷ 0 ∷ 0 ∷ 0 ∷ 0 ∷ 0 ∷ 0 ∷ []
+abbrev pub noKind : List ℕ
+noKind = 15 ∷ 0 ∷ 0 ∷ 0 ∷ 0 ∷ 0 ∷ 0 ∷ 0 ∷ []
 
 -- 4: "a step outside the above. A single step offered to the engine is tested alike."
 pub malformed-refused-4 :
     Holds
     ((answerTo (fresh (telephone 3 7)) orderA0 gives 0 ∷ [])
-    ∷ (answerTo (fresh (telephone 3 7)) kind15 gives 4 ∷ [])
+    ∷ (answerTo (fresh (telephone 3 7)) noKind gives 4 ∷ [])
     ∷ (answerTo (fresh (telephone 3 7)) [] gives 4 ∷ [])
     ∷ (answerTo (fresh (telephone 3 7)) (1 ∷ 0 ∷ 0 ∷ 0 ∷ 0 ∷ 0 ∷ 0 ∷ []) gives 4 ∷ [])
     -- track 2, post 3 of three, a fault in an order, bytes 6–7
@@ -70,7 +70,7 @@ pub out-of-range-refused-6 :
     ∷ (answerTo (changedTrack B (running VNS (Turn 3 act.Set)) (fresh (telephone 3 7))) orderA0 gives 6 ∷ [])
     ∷ (answerTo (changedTrack B (running VNS (Turn 0 act.Announce)) (fresh (telephone 3 7))) orderA0 gives 6 ∷ [])
     -- before 4
-    ∷ (answerTo (fresh (telephone 3 3)) kind15 gives 6 ∷ [])
+    ∷ (answerTo (fresh (telephone 3 3)) noKind gives 6 ∷ [])
     ∷ (answerTo (fresh (telephone 3 3)) [] gives 6 ∷ [])
     -- "Cells past post n−1 or block section n−2 are neither tested nor changed."
     ∷ (answerTo (sealedAt A 3 1000 (fresh (telephone 3 7))) orderA0 gives 0 ∷ [])

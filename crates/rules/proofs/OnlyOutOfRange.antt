@@ -20,6 +20,7 @@ use Rattle.section.specs.Range.{inRange}
 use Rattle.section.specs.Step.{decoded}
 use Rattle.section.specs.Words.{refusalOf}
 use Rattle.section.proofs.Laws.{and-left, and-right}
+use Rattle.rules.specs.Line.{lineIn}
 use Rattle.rules.specs.Table.{Check, checks}
 use Rattle.rules.specs.Judge.{verdictOf, answerOf, siteOf, occupancyOf, verdictOn, sectionAfter, judgeStep, judgeDecoded, judgeInRange, judge}
 use Rattle.rules.proofs.ChecksColumn.{figures, figures-in-order}
@@ -68,14 +69,14 @@ unfolding judgeStep answerOf verdictOn
 never-by-the-table s x e = go (verdictOn s x) refl e
   where
     row : List Check
-    row = checks (s .settings) (x .step) (siteOf s x) (occupancyOf s x)
+    row = checks (lineIn s) (x .step) (siteOf s x) (occupancyOf s x)
 
     go : (v : Verdict) → verdictOn s x ≡ v → answerOf v s (sectionAfter s x) .verdict ≡ Refused 6 → ⊥
     go (Accepted said) q r = let z : _≡_ {A = ℕ} 0 1 = cc in omega arith
     go (Refused k) q r =
         let six : k ≡ 6 = cc in
         let from : fromTheState (map figureOf row) ≡ true =
-        rw (figures-in-order (s .settings) (x .step) (siteOf s x) (occupancyOf s x)) (figures-from-the-state (x .step)) in
+        rw (figures-in-order (lineIn s) (x .step) (siteOf s x) (occupancyOf s x)) (figures-from-the-state (x .step)) in
         false≢true (rw six at (refused-from-the-state row _ k from q))
 
 -- a refusal is told by its number

@@ -1,8 +1,8 @@
 -- The part that a post commands: a post sees no train in it exactly where before each train ahead a part ends. By telephone one ends at every
 -- post, so the search ends after the block section ahead: the earlier rule. On every line the sending end begins one, since end posts are
 -- signalled.
-use Prim.Native.Nat.{ℕ, suc, _-_, _<_}
-use mathlib.Core.Bool.{Bool, true, false, not, _&&_, or-true, or-false}
+use Prim.Native.Nat.{ℕ, suc, _-_, _≤_, _<_}
+use mathlib.Core.Bool.{Bool, true, false, not, _&&_, _||_, or-true, or-false, true≢false}
 use mathlib.Core.Path.{_≡_, refl, ap}
 use mathlib.Core.List.{List}
 use native.Mathlib.Omega.{arith}
@@ -13,10 +13,13 @@ use Rattle.section.specs.declared.Settings.{Settings}
 use Rattle.section.specs.Bytes.{within}
 use Rattle.section.specs.Geometry.{upward, rank}
 use Rattle.section.specs.Numbers.{leastPosts, mostPosts}
-use Rattle.section.specs.Settings.{isSignalled, isMaterialised, settingsInRange}
-use Rattle.section.proofs.Laws.{both, and-left, and-right}
+use Rattle.section.specs.Settings.{isSignalled, settingsInRange}
+use Rattle.section.proofs.Laws.{both, and-left, and-right, posts-right}
+use Rattle.rules.specs.declared.Line.{Line}
 use Rattle.rules.specs.declared.Site.{Site}
-use Rattle.rules.specs.Site.{isTrain, reach, stretchHolds, upAt, rankAt, atReceivingEnd, blockAhead, trainAt, partEnds, commands, watchedOccupied}
+use Rattle.rules.specs.Line.{lineOf, isMaterialised, isOpen}
+use Rattle.rules.specs.Site.{isTrain, reach, stretchHolds, upAt, rankAt, atReceivingEnd, blockAhead, trainAt, openAt, partEnds, commands}
+use Rattle.rules.specs.Site.{watchedOccupied}
 use Rattle.rules.specs.Parts.{TelephoneKeepsTheRule}
 use Rattle.rules.proofs.Facts.{nand-r, not-last-rank}
 use Rattle.rules.proofs.Stretches.{FreeFrom, free-from, from-free}
@@ -30,7 +33,7 @@ one-section : (ends : ℕ → Bool) (f : ℕ → ℕ) (m j : ℕ) → ends (suc 
 unfolding reach
 one-section ends f m j h = rw h (or-false (isTrain (f j)))
 
-module _ (c : Settings) (e : Site) where
+module _ (c : Line) (e : Site) where
   -- ## What is watched
 
   -- no train in the part that begins at the post
@@ -101,6 +104,12 @@ module _ (c : Settings) (e : Site) where
 pub telephone-keeps-the-rule : TelephoneKeepsTheRule
 telephone-keeps-the-rule c e form below = record { commanded = commanded c e form; watched = watched c e form below }
 
+-- ## A part ends only at an open post
+
+pub only-open-ends : (c : Line) (b cvt : Bool) (j : ℕ) → openAt c b cvt j ≡ false → partEnds c b cvt j ≡ false
+unfolding openAt isOpen
+only-open-ends c b cvt j h = absurd (true≢false h)
+
 -- ## The sending end begins a part
 
 module _ (c : Settings) (right : settingsInRange c ≡ true) where
@@ -110,9 +119,23 @@ module _ (c : Settings) (right : settingsInRange c ≡ true) where
       let rest = and-right (leb (c .form) 1) _ (and-right (within leastPosts mostPosts (c .posts)) _ right) in
       (and-left (isSignalled (c .mask) 0) _ rest, and-left (isSignalled (c .mask) (c .posts - 1)) _ (and-right (isSignalled (c .mask) 0) _ rest))
 
+-- what the proofs use of a line
+pub record LineRight (c : Line) : Type 0 where
+  pub least : leastPosts ≤ c .posts
+  pub most : c .posts ≤ mostPosts
   pub part-first : (b cvt : Bool) → partEnds c b cvt 0 ≡ true
-  unfolding partEnds upward rank
-  part-first true true = simp (ends-signalled .0, ends-signalled .1, or-true) refl
-  part-first true false = simp (ends-signalled .0, ends-signalled .1, or-true) refl
-  part-first false true = simp (ends-signalled .0, ends-signalled .1, or-true) refl
-  part-first false false = simp (ends-signalled .0, ends-signalled .1, or-true) refl
+
+pub line-right : (c : Settings) → settingsInRange c ≡ true → LineRight (lineOf c)
+unfolding partEnds rank
+line-right c right = record {
+  least = posts-right c right .0;
+  most = posts-right c right .1;
+  part-first = λ b cvt. go (upward b cvt);
+}
+  where
+    signals : (isSignalled (c .mask) 0 ≡ true) × (isSignalled (c .mask) (c .posts - 1) ≡ true)
+    signals = ends-signalled c right
+
+    go : (up : Bool) → (not (isMaterialised (lineOf c)) || isSignalled (c .mask) (rank (c .posts) up 0)) ≡ true
+    go true = rw (signals .0) (or-true (not (isMaterialised (lineOf c))))
+    go false = rw (signals .1) (or-true (not (isMaterialised (lineOf c))))

@@ -20,8 +20,8 @@ use Rattle.rules.proofs.Facts.{by-track}
 use Rattle.rules.proofs.View.{View, Seen, on, shown}
 use Rattle.rules.proofs.Reading.{Says}
 use Rattle.rules.proofs.Frame.{movesNoTrain, keepsRunning}
-use Rattle.rules.proofs.Accept.{AcceptedIn, saidIn, sectionAfterStep, accepted-judge}
-use Rattle.rules.proofs.Invariant.{NoTrain}
+use Rattle.rules.proofs.Accept.{line, AcceptedIn, saidIn, sectionAfterStep, accepted-judge}
+use Rattle.rules.proofs.Held.{NoTrain}
 use Rattle.rules.proofs.Swap.{trains-unmoved}
 use Rattle.rules.proofs.Exchange.{here-after, there-after, cvts-kept, Exchanged}
 use Rattle.rules.proofs.Reached.{Reached, reached-kept, reached-in-range}
@@ -58,24 +58,23 @@ module _ (c : Settings) where
 
   -- a track on which a reversal runs holds no train
   abbrev pub Clear : Section → Type 0
-  Clear s = (b : Bool) → isSettled (trackOf s b .walk) ≡ false → NoTrain c (trackOf s b)
+  Clear s = (b : Bool) → isSettled (trackOf s b .walk) ≡ false → NoTrain (c .posts) (trackOf s b)
 
   pub data Performed : Section → List AcceptedStep → Section → Type 0 where
     done : {s : Section} → Performed s [] s
-    step : {s end : Section} {ds : List AcceptedStep} (b : Bool) (i : DecodedStep b) → AcceptedIn c s (stepOf b i)
-        → saidIn c s (stepOf b i) ≡ i .as-accepted .said
-        → Clear (sectionAfterStep c s (stepOf b i)) → Performed (sectionAfterStep c s (stepOf b i)) ds end → Performed s (i .as-accepted ∷ ds) end
+    step : {s end : Section} {ds : List AcceptedStep} (x : Seen) (d : AcceptedStep) → Says (c .posts) (d .bytes) (shown x) → AcceptedIn c s x
+        → saidIn c s x ≡ d .said → Clear (sectionAfterStep c s x) → Performed (sectionAfterStep c s x) ds end → Performed s (d ∷ ds) end
 
   pub performed-append : (b : List AcceptedStep) {s₀ s₁ s₂ : Section} {a : List AcceptedStep} → Performed s₀ a s₁ → Performed s₁ b s₂ → Performed s₀ (a ++ b) s₂
   performed-append b done h = h
-  performed-append b (step d i ok said cl r) h = step d i ok said cl (performed-append b r h)
+  performed-append b (step x d says ok said cl r) h = step x d says ok said cl (performed-append b r h)
 
   no-reversal : (s : Section) → ((b : Bool) → trackOf s b .walk ≡ Settled) → Clear s
   no-reversal s w b e = absurd (not-settled (trackOf s b .walk) (w b) e)
 
-  pub performed-one : (s : Section) (b : Bool) (i : DecodedStep b) → AcceptedIn c s (stepOf b i) → saidIn c s (stepOf b i) ≡ i .as-accepted .said
-      → ((d : Bool) → trackOf (sectionAfterStep c s (stepOf b i)) d .walk ≡ Settled) → Performed s (i .as-accepted ∷ []) (sectionAfterStep c s (stepOf b i))
-  performed-one s b i ok said w = step b i ok said (no-reversal (sectionAfterStep c s (stepOf b i)) w) done
+  pub performed-one : (s : Section) (x : Seen) (d : AcceptedStep) → Says (c .posts) (d .bytes) (shown x) → AcceptedIn c s x → saidIn c s x ≡ d .said
+      → ((b : Bool) → trackOf (sectionAfterStep c s x) b .walk ≡ Settled) → Performed s (d ∷ []) (sectionAfterStep c s x)
+  performed-one s x d says ok said w = step x d says ok said (no-reversal (sectionAfterStep c s x) w) done
 
   -- judged as the claim says
   pub performed-performs : (right : settingsInRange c ≡ true) (behind : List AcceptedStep) {s end : Section} {ds : List AcceptedStep} → Reached c s
@@ -83,22 +82,20 @@ module _ (c : Settings) where
       → Performed s ds end → Performs c s behind ds end
   unfolding Performs
   performed-performs right behind r a done = refl
-  performed-performs right behind {s = s} {end = end} r a (step {ds = ds} b i ok said cl rest) =
-      subst (λ (x : Answer). (x .verdict ≡ Accepted (i .as-accepted .said)) × NoTrainInReversal c (behind ++ i .as-accepted ∷ []) (x .section)
-      × Performs c (x .section) (behind ++ i .as-accepted ∷ []) ds end)
-      (sym (accepted-judge c s (r .settings) (reached-in-range c right s r) (i .as-accepted .bytes) (stepOf b i) (i .says .decodes) ok)) (
+  performed-performs right behind {s = s} {end = end} r a (step {ds = ds} x d says ok said cl rest) =
+      subst (λ (y : Answer). (y .verdict ≡ Accepted (d .said)) × NoTrainInReversal c (behind ++ d ∷ []) (y .section)
+      × Performs c (y .section) (behind ++ d ∷ []) ds end)
+      (sym (accepted-judge c s (r .settings) (reached-in-range c right s r) (d .bytes) x (says .decodes) ok)) (
         ap Accepted said,
-        record { empty = λ d u. cl d (settled-not d u) },
-        performed-performs right (behind ++ i .as-accepted ∷ []) (reached-kept c right s (stepOf b i) ok r) after rest,
+        record { empty = λ b u. cl b (settled-not b u) },
+        performed-performs right (behind ++ d ∷ []) (reached-kept c right s x ok r) after rest,
       )
     where
-      after : Agrees c (sectionAfterStep c s (stepOf b i)) (behind ++ i .as-accepted ∷ [])
-      after = agrees-kept c (posts-right c right .0) s behind (i .as-accepted) (stepOf b i) (i .says) ok a
+      after : Agrees c (sectionAfterStep c s x) (behind ++ d ∷ [])
+      after = agrees-kept c (posts-right c right .0) s behind d x says ok a
 
-      settled-not : (d : Bool) → underWay (c .posts) d (behind ++ i .as-accepted ∷ []) ≡ true
-          → isSettled (trackOf (sectionAfterStep c s (stepOf b i)) d .walk) ≡ false
-      settled-not d u =
-          not-true _ (sym (under-way c (sectionAfterStep c s (stepOf b i)) (behind ++ i .as-accepted ∷ []) after d) ∙ u)
+      settled-not : (b : Bool) → underWay (c .posts) b (behind ++ d ∷ []) ≡ true → isSettled (trackOf (sectionAfterStep c s x) b .walk) ≡ false
+      settled-not b u = not-true _ (sym (under-way c (sectionAfterStep c s x) (behind ++ d ∷ []) after b) ∙ u)
 
   -- ## The steps held back: they move no train and leave the running direction
 
@@ -125,30 +122,32 @@ module _ (c : Settings) where
   late-trains b [] s end e = ap (λ w. trackOf w b .trains) e
   late-trains b (i ∷ is) s end l =
       sym (ap (λ t. t .trains) (here-after c s b (i .post) (i .kind))
-      ∙ trains-unmoved c (otherSettledOnVns s b) b (i .kind) (i .post) (trackOf s b) (l .0 .moves-none))
+      ∙ trains-unmoved (line c s) (otherSettledOnVns s b) b (i .kind) (i .post) (trackOf s b) (l .0 .moves-none))
       ∙ late-trains b is (sectionAfterStep c s (stepOf b i)) end (l .1)
 
   -- where no train is on the track at the end, they are performed
   pub late-performed : (b : Bool) (is : List (DecodedStep b)) (s end : Section) → Late b s is end → trackOf s (not b) .walk ≡ Settled
-      → NoTrain c (trackOf end b) → Performed s (allAccepted b is) end
+      → NoTrain (c .posts) (trackOf end b) → Performed s (allAccepted b is) end
   late-performed b [] s end e w f = subst (λ z. Performed s [] z) e done
   late-performed b (i ∷ is) s end l w f =
       let w₁ : trackOf (sectionAfterStep c s (stepOf b i)) (not b) .walk ≡ Settled = ap (λ t. t .walk) (there-after c s b (i .post) (i .kind)) ∙ w in
-      step b i (l .0 .ok) (l .0 .said)
-      (by-track (λ d. isSettled (trackOf (sectionAfterStep c s (stepOf b i)) d .walk) ≡ false → NoTrain c (trackOf (sectionAfterStep c s (stepOf b i)) d)) b
+      step (stepOf b i) (i .as-accepted) (i .says) (l .0 .ok) (l .0 .said)
+      (by-track
+      (λ d. isSettled (trackOf (sectionAfterStep c s (stepOf b i)) d .walk) ≡ false → NoTrain (c .posts) (trackOf (sectionAfterStep c s (stepOf b i)) d)) b
       (λ r j h. rw (late-trains b is (sectionAfterStep c s (stepOf b i)) end (l .1)) (f j h))
       (λ r. absurd (not-settled (trackOf (sectionAfterStep c s (stepOf b i)) (not b) .walk) w₁ r)))
       (late-performed b is (sectionAfterStep c s (stepOf b i)) end (l .1) w₁ f)
 
   -- a step that leaves walk and direction, and changes places with each of them goes before them all
-  pub goes-first : (b : Bool) (x : Seen) (P : DecodedStep b → Type 0) → keepsRunning (x .kind) ≡ true
-      → ((s : Section) (i : DecodedStep b) → P i → LateStep b s i → AcceptedIn c (sectionAfterStep c s (stepOf b i)) x → Exchanged c s (stepOf b i) x)
-      → (is : List (DecodedStep b)) (s end : Section) → All P is → Late b s is end → AcceptedIn c end x
-      → AcceptedIn c s x × Late b (sectionAfterStep c s x) is (sectionAfterStep c end x)
-  goes-first b x P j f [] s end a e h = (subst (λ w. AcceptedIn c w x) (sym e) h, ap (λ w. sectionAfterStep c w x) e)
-  goes-first b x P j f (i ∷ is) s end a l h =
-      let r = goes-first b x P j f is (sectionAfterStep c s (stepOf b i)) end (a .1) (l .1) h in
-      let e : Exchanged c s (stepOf b i) x = f s i (a .0) (l .0) (r .0) in (
+  pub goes-first : (b t : Bool) (q : ℕ) (k : View) (P : DecodedStep b → Type 0) → keepsRunning k ≡ true
+      → ((s : Section) (i : DecodedStep b) → P i → LateStep b s i → AcceptedIn c (sectionAfterStep c s (stepOf b i)) (on t q k)
+      → Exchanged c s (stepOf b i) (on t q k))
+      → (is : List (DecodedStep b)) (s end : Section) → All P is → Late b s is end → AcceptedIn c end (on t q k)
+      → AcceptedIn c s (on t q k) × Late b (sectionAfterStep c s (on t q k)) is (sectionAfterStep c end (on t q k))
+  goes-first b t q k P j f [] s end a e h = (subst (λ w. AcceptedIn c w (on t q k)) (sym e) h, ap (λ w. sectionAfterStep c w (on t q k)) e)
+  goes-first b t q k P j f (i ∷ is) s end a l h =
+      let r = goes-first b t q k P j f is (sectionAfterStep c s (stepOf b i)) end (a .1) (l .1) h in
+      let e : Exchanged c s (stepOf b i) (on t q k) = f s i (a .0) (l .0) (r .0) in (
         e .x-first,
         (
           record {
@@ -156,9 +155,9 @@ module _ (c : Settings) where
             said = e .l-says ∙ l .0 .said;
             moves-none = l .0 .moves-none;
             cvt-kept =
-                ap (λ w. trackOf w b .cvt) (e .same-end) ∙ cvts-kept c (sectionAfterStep c s (stepOf b i)) (x .track) (x .post) (x .kind) j b ∙ l .0 .cvt-kept
-                ∙ sym (cvts-kept c s (x .track) (x .post) (x .kind) j b);
+                ap (λ w. trackOf w b .cvt) (e .same-end) ∙ cvts-kept c (sectionAfterStep c s (stepOf b i)) t q k j b ∙ l .0 .cvt-kept
+                ∙ sym (cvts-kept c s t q k j b);
           },
-          subst (λ w. Late b w is (sectionAfterStep c end x)) (sym (e .same-end)) (r .1),
+          subst (λ w. Late b w is (sectionAfterStep c end (on t q k))) (sym (e .same-end)) (r .1),
         ),
       )

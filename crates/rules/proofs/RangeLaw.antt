@@ -12,9 +12,10 @@ use Rattle.section.specs.Store.{trackOf}
 use Rattle.section.proofs.Laws.{settings-in-range, track-in-range, section-in-range}
 use Rattle.rules.specs.Judge.{judgeInRange, judge}
 use Rattle.rules.specs.RangesKept.{RangesKept}
+use Rattle.rules.specs.Line.{lineIn}
 use Rattle.rules.specs.Site.{otherSettledOnVns}
 use Rattle.rules.proofs.Facts.{by-track}
-use Rattle.rules.proofs.View.{Seen}
+use Rattle.rules.proofs.View.{View, Seen, on}
 use Rattle.rules.proofs.Accept.{AcceptedIn, sectionAfterStep, Judged, refused, accepted, judged}
 use Rattle.rules.proofs.Ranges.{InRange, track-in, track-out, in-range-kept}
 use Rattle.rules.proofs.Exchange.{here-after, there-after, settings-after}
@@ -23,24 +24,31 @@ use Rattle.rules.proofs.Exchange.{here-after, there-after, settings-aft
 
 pub record SectionInRange (s : Section) : Type 0 where
   pub settings : settingsInRange (s .settings) ≡ true
-  pub tracks : (b : Bool) → InRange (s .settings) b (trackOf s b)
+  pub tracks : (b : Bool) → InRange (lineIn s) b (trackOf s b)
 
 pub section-in : (s : Section) → inRange s ≡ true → SectionInRange s
 section-in s h =
-    record { settings = settings-in-range s h; tracks = λ b. track-in (s .settings) b (trackOf s b) (track-in-range s h b) }
+    record { settings = settings-in-range s h; tracks = λ b. track-in (lineIn s) b (trackOf s b) (track-in-range s h b) }
 
 pub section-out : (s : Section) → SectionInRange s → inRange s ≡ true
-section-out s r = section-in-range s (r .settings) (λ b. track-out (s .settings) b (trackOf s b) (r .tracks b))
+section-out s r = section-in-range s (r .settings) (λ b. track-out (lineIn s) b (trackOf s b) (r .tracks b))
 
-section-kept : (s : Section) (x : Seen) → AcceptedIn (s .settings) s x → SectionInRange s → SectionInRange (sectionAfterStep (s .settings) s x)
-unfolding AcceptedIn
-section-kept s x h r = record {
-  settings = rw (settings-after (s .settings) s x) (r .settings);
-  tracks = rw (settings-after (s .settings) s x) (by-track (λ b. InRange (s .settings) b (trackOf (sectionAfterStep (s .settings) s x) b)) (x .track)
-      (rw (here-after (s .settings) s (x .track) (x .post) (x .kind))
-      (in-range-kept (s .settings) (x .track) (otherSettledOnVns s (x .track)) (trackOf s (x .track)) (x .post) (x .kind) h (r .tracks (x .track))))
-      (rw (there-after (s .settings) s (x .track) (x .post) (x .kind)) (r .tracks (not (x .track)))));
-}
+module _ (s : Section) where
+  abbrev after : Seen → Section
+  after x = sectionAfterStep (s .settings) s x
+
+  one-kept : (b : Bool) (p : ℕ) (k : View) → AcceptedIn (s .settings) s (on b p k) → SectionInRange s → SectionInRange (after (on b p k))
+  unfolding AcceptedIn
+  one-kept b p k h r = record {
+    settings = rw (settings-after (s .settings) s (on b p k)) (r .settings);
+    tracks = rw (settings-after (s .settings) s (on b p k))
+        (by-track (λ d. InRange (lineIn s) d (trackOf (after (on b p k)) d)) b
+        (rw (here-after (s .settings) s b p k) (in-range-kept (lineIn s) b (otherSettledOnVns s b) (trackOf s b) p k h (r .tracks b)))
+        (rw (there-after (s .settings) s b p k) (r .tracks (not b))));
+  }
+
+  section-kept : (x : Seen) → AcceptedIn (s .settings) s x → SectionInRange s → SectionInRange (after x)
+  section-kept (on b p k) h r = one-kept b p k h r
 
 pub ranges-kept : RangesKept
 ranges-kept s bytes r = go (judged (s .settings) s refl r bytes)

@@ -8,7 +8,6 @@ use native.Mathlib.Omega.{arith}
 use lib.ListN.{getD, set}
 use lib.Dec.{eqb, ltb}
 use borrow.Author.Tests.{ltb-true, eqb-false, lt-ltb, not-true}
-use Rattle.section.specs.declared.Settings.{Settings}
 use Rattle.section.specs.declared.Fault.the-variants.{One, Two, Three, Four}
 use Rattle.section.specs.declared.Post.{Post}
 use Rattle.section.specs.declared.Act.the-variants as act
@@ -21,19 +20,21 @@ use Rattle.section.specs.Post.{blank}
 use Rattle.section.specs.Range.{postInRange, actInRange, walkInRange, trackInRange}
 use Rattle.section.specs.Store.{postOn}
 use Rattle.section.proofs.Laws.{track-ranges, ranges-hold, seals-right, caution-right, post-in-range, set-keeps, and-left, and-right, both}
+use Rattle.rules.specs.declared.Line.{Line}
 use Rattle.rules.specs.declared.Site.{Site}
 use Rattle.rules.specs.declared.Movement.{Movement}
 use Rattle.rules.specs.declared.Movement.the-variants.{Stays, Enters, Moves, Leaves}
 use Rattle.rules.specs.Site.{siteOn, isTurn, atReceivingEnd}
 use Rattle.rules.specs.Table.{checks, effect, vacated, cellsAfter, trackAfter}
-use Rattle.rules.proofs.Facts.{next-rank, next-lt, not-first-rank, rank-not-first, not-last-rank, rank-not-last}
+use Rattle.rules.proofs.Facts.{not-first-rank, rank-not-first, not-last-rank, rank-not-last}
 use Rattle.rules.proofs.View.{order, setDevice, announce, acknowledge, key, start, pass, leave, measures, fault, caution, View, walks, runs, notes}
 use Rattle.rules.proofs.View.{releases, flat}
 use Rattle.rules.proofs.Frame.{is-turn, running-kept, no-movement}
 use Rattle.rules.proofs.Accept.{AcceptedOn, trackAfterStep}
 use Rattle.rules.proofs.Held.{key-held, announce-held}
+use Rattle.rules.proofs.NextPost.{next-post}
 
-module _ (c : Settings) (b : Bool) where
+module _ (c : Line) (b : Bool) where
   -- the rank of post p on the track
   abbrev pub rankOn : Bool → ℕ → ℕ
   rankOn cvt p = rank (c .posts) (upward b cvt) p
@@ -179,8 +180,8 @@ module _ (c : Settings) (b : Bool) where
     turn-kept (walks order) h f = h .fits .below
     turn-kept (walks setDevice) h f = set-turn (atReceivingEnd c e) refl (h .fits .below)
     turn-kept (walks announce) h f =
-        let n : suc (rankOn (t .cvt) p) < c .posts = announce-next (announce-held h .in-turn) f in
-        (next-lt (c .posts) (upward b (t .cvt)) p (h .fits .below) n, omega (arith, next-rank (c .posts) (upward b (t .cvt)) p (h .fits .below) n))
+        let n = next-post c e (announce-next (announce-held h .in-turn) f) in
+        (n .below, omega (arith, n .after))
     turn-kept (walks acknowledge) h f = h .fits .below
     turn-kept (walks key) h f = set-turn (atReceivingEnd c e) refl (h .fits .below)
     turn-kept (runs m z) h f = rw (running-kept c p (runs m z) e refl .walk, running-kept c p (runs m z) e refl .cvt) f

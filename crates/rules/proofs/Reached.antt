@@ -22,27 +22,24 @@ use Rattle.section.specs.Range.{postInRange, inRange}
 use Rattle.section.specs.Settings.{settingsInRange}
 use Rattle.section.specs.Store.{trackOf}
 use Rattle.section.proofs.Laws.{posts-right, set-keeps}
+use Rattle.rules.specs.declared.Line.{Line}
+use Rattle.rules.specs.Line.{lineOf}
 use Rattle.rules.specs.Site.{settledOnVns, otherSettledOnVns, occupancyAt}
 use Rattle.rules.specs.Table.{effect, trackAfter}
 use Rattle.rules.specs.Judge.{judge}
 use Rattle.rules.proofs.Facts.{or-right, by-track, replicate-keeps}
-use Rattle.rules.proofs.View.{order, setDevice, announce, acknowledge, key, View, walks, runs, notes, releases, flat, Seen}
+use Rattle.rules.proofs.View.{order, setDevice, announce, acknowledge, key, View, walks, runs, notes, releases, flat, Seen, on}
 use Rattle.rules.proofs.Frame.{is-turn, is-settled}
-use Rattle.rules.proofs.Accept.{AcceptedOn, trackAfterStep, AcceptedIn, sectionAfterStep, Judged, refused, accepted, judged}
+use Rattle.rules.proofs.Accept.{AcceptedOn, trackAfterStep, line, AcceptedIn, sectionAfterStep, Judged, refused, accepted, judged}
 use Rattle.rules.proofs.Held.{order-held, set-held, key-held, announce-held, acknowledge-held}
+use Rattle.rules.proofs.Parts.{LineRight, line-right}
 use Rattle.rules.proofs.RangeLaw.{section-out}
 use Rattle.rules.proofs.Cleared.{cleared-settled}
 use Rattle.rules.proofs.Invariant.{Sound, sound-kept}
 use Rattle.rules.proofs.Exchange.{here-after, there-after, settings-after, vns-kept}
 
-module _ (c : Settings) where
-  pub record Reached (s : Section) : Type 0 where
-    pub settings : s .settings ≡ c
-    pub sound : (b : Bool) → Sound c b (trackOf s b)
-    -- at most one track is not settled on VNS
-    pub single : (b : Bool) → (settledOnVns (trackOf s b) || otherSettledOnVns s b) ≡ true
-
-  -- ## Kept by every accepted step
+module _ (c : Line) where
+  -- ## Kept by every accepted step: at most one track is not settled on VNS
 
   single-kept : (v b : Bool) (p : ℕ) (k : View) (t : Track) → AcceptedOn c v b p k t → (settledOnVns t || v) ≡ true
       → (settledOnVns (trackAfterStep c b p k t) || v) ≡ true
@@ -62,42 +59,48 @@ module _ (c : Settings) where
   single-kept v b p (notes k) t h o = rw (vns-kept c b p (notes k) t refl) o
   single-kept v b p (releases z) t h o = o
 
+module _ (c : Settings) where
+  pub record Reached (s : Section) : Type 0 where
+    pub settings : s .settings ≡ c
+    pub sound : (b : Bool) → Sound (line c s) b (trackOf s b)
+    -- at most one track is not settled on VNS
+    pub single : (b : Bool) → (settledOnVns (trackOf s b) || otherSettledOnVns s b) ≡ true
+
+  pub reached-right : settingsInRange c ≡ true → (s : Section) → Reached s → LineRight (line c s)
+  reached-right right s r = line-right c right
+
   other-other : (s : Section) (b : Bool) → trackOf s (not (not b)) ≡ trackOf s b
   other-other s true = refl
   other-other s false = refl
 
-  pub reached-kept : settingsInRange c ≡ true → (s : Section) (x : Seen) → AcceptedIn c s x → Reached s → Reached (sectionAfterStep c s x)
-  unfolding AcceptedIn
-  reached-kept right s x h r = record {
-    settings = settings-after c s x ∙ r .settings;
-    sound = by-track (λ d. Sound c d (trackOf after d)) b (rw here (sound-kept c b v (trackOf s b) p right k h (r .sound b))) (rw there (r .sound (not b)));
-    single = by-track (λ d. (settledOnVns (trackOf after d) || otherSettledOnVns after d) ≡ true) b (rw (here, there) one)
-        (rw (other-other after b, here, there) (or-comm v (settledOnVns (trackAfterStep c b p k (trackOf s b))) ∙ one));
-  }
-    where
-      b : Bool
-      b = x .track
+  module _ (right : settingsInRange c ≡ true) (s : Section) where
+    one-kept : (b : Bool) (p : ℕ) (k : View) → AcceptedIn c s (on b p k) → Reached s → Reached (sectionAfterStep c s (on b p k))
+    unfolding AcceptedIn
+    one-kept b p k h r = record {
+      settings = settings-after c s (on b p k) ∙ r .settings;
+      sound = by-track (λ d. Sound (line c s) d (trackOf after d)) b
+          (rw here (sound-kept (line c s) b v (trackOf s b) p (reached-right right s r) k h (r .sound b))) (rw there (r .sound (not b)));
+      single = by-track (λ d. (settledOnVns (trackOf after d) || otherSettledOnVns after d) ≡ true) b (rw (here, there) one)
+          (rw (other-other after b, here, there) (or-comm v (settledOnVns (trackAfterStep (line c s) b p k (trackOf s b))) ∙ one));
+    }
+      where
+        v : Bool
+        v = otherSettledOnVns s b
 
-      p : ℕ
-      p = x .post
+        after : Section
+        after = sectionAfterStep c s (on b p k)
 
-      k : View
-      k = x .kind
+        here : trackOf after b ≡ trackAfterStep (line c s) b p k (trackOf s b)
+        here = here-after c s b p k
 
-      v : Bool
-      v = otherSettledOnVns s b
+        there : trackOf after (not b) ≡ trackOf s (not b)
+        there = there-after c s b p k
 
-      after : Section
-      after = sectionAfterStep c s x
+        one : (settledOnVns (trackAfterStep (line c s) b p k (trackOf s b)) || v) ≡ true
+        one = single-kept (line c s) v b p k (trackOf s b) h (r .single b)
 
-      here : trackOf after b ≡ trackAfterStep c b p k (trackOf s b)
-      here = here-after c s b p k
-
-      there : trackOf after (not b) ≡ trackOf s (not b)
-      there = there-after c s b p k
-
-      one : (settledOnVns (trackAfterStep c b p k (trackOf s b)) || v) ≡ true
-      one = single-kept v b p k (trackOf s b) h (r .single b)
+    pub reached-kept : (x : Seen) → AcceptedIn c s x → Reached s → Reached (sectionAfterStep c s x)
+    reached-kept (on b p k) h r = one-kept b p k h r
 
   -- ## The fresh section
 
@@ -121,10 +124,16 @@ module _ (c : Settings) where
     fresh-permits false p p<n h = fresh-only 0 p (permitted true blank) (omega (arith, n16)) h
     fresh-permits true p p<n h = omega (arith, fresh-only (c .posts - 1) p (permitted true blank) (omega (arith, n16)) h)
 
-    fresh-sound : (b : Bool) → Sound c b (freshTrack (c .posts) b)
+    abbrev freshLine : Line
+    freshLine = lineOf c
+
+    fresh-right : LineRight freshLine
+    fresh-right = line-right c right
+
+    fresh-sound : (b : Bool) → Sound freshLine b (freshTrack (c .posts) b)
     unfolding freshTrack postInRange
     fresh-sound b = record {
-      clear = λ j h k. absurd (cleared-settled c b right false j h);
+      clear = λ j h k. absurd (cleared-settled freshLine b fresh-right false j h);
       permits = λ p p<n h. fresh-permits b p p<n h;
       sizes = record { posts = length-set (replicate mostPosts blank) (cond b (c .posts - 1) 0) (permitted true blank); trains = refl; last = refl };
       ranges = record {
@@ -145,7 +154,7 @@ module _ (c : Settings) where
     unfolding freshSection
     fresh-reached = record {
       settings = refl;
-      sound = by-track (λ d. Sound c d (trackOf (freshSection c) d)) true (fresh-sound true) (fresh-sound false);
+      sound = by-track (λ d. Sound freshLine d (trackOf (freshSection c) d)) true (fresh-sound true) (fresh-sound false);
       single = fresh-single;
     }
 

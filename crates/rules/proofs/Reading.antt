@@ -14,7 +14,8 @@ use Rattle.section.specs.Numbers.{largestTrain}
 use Rattle.section.specs.Step.{decoded, numberWellFormed, kindOf, postOf, numberOf}
 use Rattle.section.proofs.Codec.{decoded-track, decoded-kind, decoded-post, decoded-number, decoded-post-below, decoded-number-well-formed}
 use Rattle.rules.proofs.Facts.{within→}
-use Rattle.rules.proofs.View.{start, pass, leave, measures, fault, caution, View, walks, runs, notes, releases, flat, view, flat-view}
+use Rattle.rules.proofs.View.{start, pass, leave, measures, fault, caution, View, walks, runs, notes, releases, flat, post-flat}
+use Rattle.rules.proofs.View.{Seen, on, shown, seen, shown-seen}
 
 -- ## A step whose post is below n, and whose number is in the range of its kind
 
@@ -41,11 +42,17 @@ number-fits p (notes (fault x f)) h = tt
 number-fits p (notes (caution z)) h = within→ 1 largestTrain z h
 number-fits p (releases z) h = leb-true z largestTrain h
 
+-- a step with its track
+abbrev pub SeenFits : ℕ → Seen → Type 0
+SeenFits n (on b p k) = Fits n p k
+
+seen-fits : (n : ℕ) (y : Seen) → postOf (shown y .step) < n → numberWellFormed (kindOf (shown y .step)) (numberOf (shown y .step)) ≡ true → SeenFits n y
+seen-fits n (on b p k) h w = record { below = rw (post-flat p k) at h; number = number-fits p k w }
+
 -- ## Bytes
 
 -- the step x has these fields
-pub record HasFields (n kind post number : ℕ) (x : Step) : Type 0 where
-  pub fits : Fits n (postOf x) (view x)
+pub record HasFields (kind post number : ℕ) (x : Step) : Type 0 where
   pub post-is : postOf x ≡ post
   pub kind-is : kindOf x ≡ kind
   pub number-is : numberOf x ≡ number
@@ -53,17 +60,15 @@ pub record HasFields (n kind post number : ℕ) (x : Step) : Type 0 where
 pub record Says (n : ℕ) (bytes : List ℕ) (x : TrackStep) : Type 0 where
   pub decodes : decoded n bytes ≡ Well x
   pub track-is : x .track ≡ eqb (byte bytes 1) 1
-  pub fields : HasFields n (byte bytes 0) (byte bytes 2) (le16 (byte bytes 4) (byte bytes 5)) (x .step)
+  pub fits : SeenFits n (seen x)
+  pub fields : HasFields (byte bytes 0) (byte bytes 2) (le16 (byte bytes 4) (byte bytes 5)) (x .step)
 
 pub decoded-says : (n : ℕ) (bytes : List ℕ) (x : TrackStep) → decoded n bytes ≡ Well x → Says n bytes x
 decoded-says n bytes x e = record {
   decodes = e;
   track-is = decoded-track n bytes x e;
+  fits = seen-fits n (seen x) (rw (shown-seen x) (decoded-post-below n bytes x e)) (rw (shown-seen x) (decoded-number-well-formed n bytes x e));
   fields = record {
-    fits = record {
-      below = decoded-post-below n bytes x e;
-      number = number-fits (postOf (x .step)) (view (x .step)) (rw (flat-view (x .step)) (decoded-number-well-formed n bytes x e));
-    };
     post-is = decoded-post n bytes x e;
     kind-is = decoded-kind n bytes x e;
     number-is = decoded-number n bytes x e;

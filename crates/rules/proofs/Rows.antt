@@ -15,6 +15,7 @@ use Rattle.section.specs.declared.Said.the-variants.{Nothing}
 use Rattle.section.specs.declared.Verdict.{Verdict}
 use Rattle.section.specs.declared.Verdict.the-variants.{Accepted, Refused}
 use Rattle.section.specs.Step.{encoded}
+use Rattle.rules.specs.Line.{lineIn}
 use Rattle.rules.specs.Table.{Check, checks}
 use Rattle.rules.specs.Judge.{siteOf, occupancyOf, judge}
 use Rattle.rules.proofs.Days.{A, fresh, stepOn, reversal, reversalToCvt, offeredAs, refusals, after}
@@ -48,7 +49,7 @@ unfoldable pub judgedStep : TrackStep → Section → Judged
 unfolding refusals offeredAs failingOf
 judgedStep x s = record {
   verdict = judge s (encoded x) .verdict;
-  failing = failingOf (checks (s .settings) (x .step) (siteOf s x) (occupancyOf s x));
+  failing = failingOf (checks (lineIn s) (x .step) (siteOf s x) (occupancyOf s x));
 }
 
 -- a day of one step or more from that section: its last step, where those before it are accepted

@@ -17,7 +17,6 @@ use Rattle.section.specs.Geometry.{upward, rank, block}
 use Rattle.section.proofs.Laws.{block-lt, block-block}
 use Rattle.rules.specs.Demand3.{AcceptedStep, All, Run, notePass, noteLeave, latest, runsOf, hasEnded, OneAfterAnother, otherEnd}
 use Rattle.rules.specs.Demand3.{placeOf, BetweenThePosts, TrainThere, inTurn, LeftAtTheFarEnd, Fate}
-use Rattle.rules.specs.Site.{trainAt}
 use Rattle.rules.proofs.View.{Motion, start, pass, leave}
 use Rattle.rules.proofs.Stretches.{TrainEnters, TrainMoves, TrainLeaves}
 
@@ -271,7 +270,7 @@ module _ (c : Settings) (n2 : 2 ≤ c .posts) where
     up = upward b (t .cvt)
 
     abbrev cells : ℕ → ℕ
-    cells = trainAt c b (t .cvt) (t .trains)
+    cells j = getD (t .trains) (block (c .posts) (upward b (t .cvt)) j) 0
 
     open-place : (m : ℕ) → placeOf c (rank (c .posts) up 0) (length (inTurn c (rank (c .posts) up 0) m)) ≡ block (c .posts) up m
     open-place m = ap (placeOf c (rank (c .posts) up 0)) (length-turns (rank (c .posts) up 0) m) ∙ place-is up m

@@ -3,7 +3,7 @@
 -- the track is empty, and they are performed.
 use Prim.Native.Nat.{ℕ, _≤_, _<_}
 use mathlib.Core.Bool.{Bool, true, false, cond, not, _&&_, _||_, Bool·beq, or-false, false≢true, true≢false}
-use mathlib.Core.Path.{_≡_, refl, sym, ap, ap₂, _∙_, subst}
+use mathlib.Core.Path.{_≡_, refl, sym, ap, _∙_, subst}
 use mathlib.Core.Logic.{_≢_, _⊎_, inl, inr}
 use mathlib.Core.List.{List, [], _∷_, _++_, append-assoc}
 use native.Mathlib.Omega.{arith}
@@ -18,25 +18,27 @@ use Rattle.section.specs.declared.Walk.the-variants.{Settled, Turn}
 use Rattle.section.specs.declared.Track.{Track}
 use Rattle.section.specs.declared.Section.{Section}
 use Rattle.section.specs.Fresh.{freshSection}
-use Rattle.section.specs.Geometry.{upward}
+use Rattle.section.specs.Geometry.{upward, rank}
 use Rattle.section.specs.Store.{trackOf}
 use Rattle.section.proofs.Laws.{and-left, and-right}
+use Rattle.rules.specs.declared.Line.{Line}
 use Rattle.rules.specs.Site.{isSettled, isTurn, siteOn, otherSettledOnVns, atSendingEnd, atReceivingEnd, nextPost, occupancyAt}
 use Rattle.rules.specs.Table.{checks, effect, trackAfter}
 use Rattle.rules.specs.Demand3.{AcceptedStep, All, keep, isOfPost, isStepOfTrain, isSpoken}
-use Rattle.rules.proofs.Facts.{by-track, next-rank}
+use Rattle.rules.proofs.Facts.{by-track}
 use Rattle.rules.proofs.View.{Reversal, order, setDevice, announce, acknowledge, key, Motion, start, pass, leave, Condition, View, walks, runs}
-use Rattle.rules.proofs.View.{notes, releases, flat, post-flat, on}
+use Rattle.rules.proofs.View.{notes, releases, flat, on}
 use Rattle.rules.proofs.Frame.{is-turn, is-settled, movesNoTrain, keepsRunning, onward}
-use Rattle.rules.proofs.Accept.{AcceptedOn, trackAfterStep, AcceptedIn, saidIn, sectionAfterStep}
-use Rattle.rules.proofs.Held.{order-held, set-held, key-held, announce-held, acknowledge-held, start-held, release-held}
+use Rattle.rules.proofs.Accept.{AcceptedOn, trackAfterStep, line, AcceptedIn, saidIn, sectionAfterStep}
+use Rattle.rules.proofs.Held.{order-held, set-held, key-held, announce-held, acknowledge-held, start-held, release-held, NoTrain}
+use Rattle.rules.proofs.NextPost.{next-post}
 use Rattle.rules.proofs.Ranges.{rankOn, announce-next}
-use Rattle.rules.proofs.Invariant.{Sound, past-turn, NoTrain, last-free}
+use Rattle.rules.proofs.Invariant.{Sound, past-turn, last-free}
 use Rattle.rules.proofs.Swap.{onward-facts}
 use Rattle.rules.proofs.Exchange.{here-after, there-after, walk-kept, cvt-kept, walks-kept, cvts-kept, says-nothing, Exchanged, exchange-note}
 use Rattle.rules.proofs.Exchange.{exchange-onward, exchange-other}
 use Rattle.rules.proofs.Reached.{Reached, fresh-settled}
-use Rattle.rules.proofs.TrainSteps.{ofTrain, own-test}
+use Rattle.rules.proofs.TrainSteps.{ofTrain, own-test, post-test}
 use Rattle.rules.proofs.Lists.{all-last, all-map, keep-none, Owner, aPost, aTrain, announcers, owns, Reordered, reordered-nil, reordered-last}
 use Rattle.rules.proofs.Lists.{reordered-insert}
 use Rattle.rules.proofs.Perform.{DecodedStep, stepOf, allAccepted, accepted-last, accepted-all, Performed, done, performed-append, performed-one}
@@ -45,7 +47,7 @@ use Rattle.rules.proofs.Perform.{LateStep, Late, late-last, late-unmove
 pub turn-post : (w : Walk) (p q : ℕ) (a a′ : Act) → w ≡ Turn p a → w ≡ Turn q a′ → q ≡ p
 turn-post w p q a a′ e f = cc
 
-module _ (c : Settings) where
+module _ (c : Line) where
   -- ## What an accepted step can be
 
   -- on a settled track: one that leaves walk and direction, or an order
@@ -67,7 +69,7 @@ module _ (c : Settings) where
     notesCondition : (n : Condition) → k ≡ notes n → Does v b t p q k
     actsInTurn : movesNoTrain k ≡ true → q ≡ p → (p′ : ℕ) (a′ : Act) → trackAfterStep c b q k t .walk ≡ Turn p′ a′ → trackAfterStep c b q k t .cvt ≡ t .cvt
         → rankOn c b (t .cvt) p ≤ rankOn c b (t .cvt) p′ → Does v b t p q k
-    endsReversal : trackAfterStep c b q k t .walk ≡ Settled → NoTrain c t → Does v b t p q k
+    endsReversal : trackAfterStep c b q k t .walk ≡ Settled → NoTrain (c .posts) t → Does v b t p q k
 
   module _ (v b : Bool) (n2 : 2 ≤ c .posts) (t : Track) (p : ℕ) (a : Act) (e : t .walk ≡ Turn p a) (so : Sound c b t) where
     does-set : (q : ℕ) (k : Reversal) (last : Bool) → atReceivingEnd c (siteOn b q t) ≡ last → isTurn (t .walk) q act.Set ≡ true
@@ -97,8 +99,8 @@ module _ (c : Settings) where
     does (walks setDevice) q h = does-set q setDevice (atReceivingEnd c (siteOn b q t)) refl (set-held h .in-turn) refl refl
     does (walks announce) q h =
         let eq : q ≡ p = turn-post (t .walk) p q a act.Announce e (is-turn (t .walk) q act.Announce (announce-held h .in-turn)) in
-        let n = next-rank (c .posts) (upward b (t .cvt)) q (h .fits .below) (announce-next c b v t q (announce-held h .in-turn) (so .ranges .turn)) in
-        actsInTurn refl eq (nextPost c (siteOn b q t)) act.Acknowledge refl refl (omega (arith, n, ap (rankOn c b (t .cvt)) eq))
+        let n = next-post c (siteOn b q t) (announce-next c b v t q (announce-held h .in-turn) (so .ranges .turn)) in
+        actsInTurn refl eq (nextPost c (siteOn b q t)) act.Acknowledge refl refl (omega (arith, n .after, ap (rankOn c b (t .cvt)) eq))
     does (walks acknowledge) q h =
         let eq : q ≡ p = turn-post (t .walk) p q a act.Acknowledge e (is-turn (t .walk) q act.Acknowledge (acknowledge-held h .in-turn)) in
         actsInTurn refl eq q act.Set refl refl (omega (arith, ap (rankOn c b (t .cvt)) eq))
@@ -108,6 +110,18 @@ module _ (c : Settings) where
     does (runs leave z) q h = does-onward q leave z refl h
     does (notes k) q h = notesCondition k refl
     does (releases z) q h = actsInTurn refl (release-turn q (release-held h .in-turn)) p a e refl (omega arith)
+
+  -- ## An order
+
+  pub order-moves : (b : Bool) (p : ℕ) (t : Track)
+      → (trackAfterStep c b p (walks order) t .walk ≡ Turn p act.Set) × (trackAfterStep c b p (walks order) t .cvt ≡ t .cvt)
+  unfolding trackAfter effect flat
+  order-moves b p t = (refl, refl)
+
+module _ (c : Settings) where
+  -- a post's rank on track b
+  abbrev rankOf : Bool → Bool → ℕ → ℕ
+  rankOf b cvt p = rank (c .posts) (upward b cvt) p
 
   -- ## The order so far
 
@@ -123,7 +137,7 @@ module _ (c : Settings) where
     pub settled-before : (b : Bool) → trackOf base b .walk ≡ Settled
     pub held : Late c track base late s
     pub turns : trackOf s track .walk ≡ Turn post act
-    pub under : All (λ (i : DecodedStep c track). rankOn c track (trackOf s track .cvt) (i .post) ≤ rankOn c track (trackOf s track .cvt) post) late
+    pub under : All (λ (i : DecodedStep c track). rankOf track (trackOf s track .cvt) (i .post) ≤ rankOf track (trackOf s track .cvt) post) late
     pub kept : Reordered ds (first ++ allAccepted c track late)
 
   pub data Progress (s : Section) (ds : List AcceptedStep) : Type 0 where
@@ -137,12 +151,11 @@ module _ (c : Settings) where
 
   -- ## No owner in common
 
-  post-test : (b : Bool) (i : DecodedStep c b) (b′ : Bool) (p′ : ℕ) → isOfPost b′ p′ (i .as-accepted) ≡ (Bool·beq b b′ && eqb (i .post) p′)
-  post-test b i b′ p′ =
-      ap₂ (λ w q. Bool·beq w b′ && eqb q p′) (sym (i .says .track-is)) (sym (i .says .fields .post-is) ∙ post-flat (i .post) (i .kind))
+  post-is : (b : Bool) (i : DecodedStep c b) (b′ : Bool) (p′ : ℕ) → isOfPost b′ p′ (i .as-accepted) ≡ (Bool·beq b b′ && eqb (i .post) p′)
+  post-is b i = post-test (c .posts) (i .as-accepted) b (i .post) (i .kind) (i .says)
 
   still-no-train : (b : Bool) (i : DecodedStep c b) → movesNoTrain (i .kind) ≡ true → (z : ℕ) → isStepOfTrain z (i .as-accepted) ≡ false
-  still-no-train b i j z = rw (own-test (c .posts) (i .as-accepted) (stepOf c b i) (i .says) z) (go (i .kind) j)
+  still-no-train b i j z = rw (own-test (c .posts) (i .as-accepted) b (i .post) (i .kind) (i .says) z) (go (i .kind) j)
     where
       go : (k : View) → movesNoTrain k ≡ true → ofTrain z k ≡ false
       go (walks r) j = refl
@@ -155,14 +168,14 @@ module _ (c : Settings) where
   Apart b x d i = (b′ : Bool) (p′ : ℕ) → isOfPost b′ p′ (x .as-accepted) ≡ true → isOfPost b′ p′ (i .as-accepted) ≡ false
 
   pub apart-post : (b : Bool) (x i : DecodedStep c b) → i .post ≢ x .post → Apart b x b i
-  apart-post b x i ne b′ p′ t = rw (post-test b i b′ p′) (go (Bool·beq b b′) (rw (post-test b x b′ p′) at t))
+  apart-post b x i ne b′ p′ t = rw (post-is b i b′ p′) (go (Bool·beq b b′) (rw (post-is b x b′ p′) at t))
     where
       go : (w : Bool) → (w && eqb (x .post) p′) ≡ true → (w && eqb (i .post) p′) ≡ false
       go true u = ne-eqb (i .post) p′ (λ e. ne (e ∙ sym (eqb-true (x .post) p′ u)))
       go false u = refl
 
   pub apart-track : (b : Bool) (x : DecodedStep c (not b)) (i : DecodedStep c b) → Apart (not b) x b i
-  apart-track b x i b′ p′ t = rw (post-test b i b′ p′) (go b b′ (eqb (x .post) p′) (eqb (i .post) p′) (rw (post-test (not b) x b′ p′) at t))
+  apart-track b x i b′ p′ t = rw (post-is b i b′ p′) (go b b′ (eqb (x .post) p′) (eqb (i .post) p′) (rw (post-is (not b) x b′ p′) at t))
     where
       go : (b b′ u w : Bool) → (Bool·beq (not b) b′ && u) ≡ true → (Bool·beq b b′ && w) ≡ false
       go true true u w t = absurd (false≢true t)
@@ -200,7 +213,8 @@ module _ (c : Settings) where
       late = g .late;
       base = sectionAfterStep c (g .base) (stepOf c b x);
       performed = performed-append c (x .as-accepted ∷ []) (g .performed)
-          (performed-one c (g .base) b x (r .0) (says-nothing c (g .base) b (x .post) (x .kind) j ∙ sym (says-nothing c s b (x .post) (x .kind) j) ∙ said) ws);
+          (performed-one c (g .base) (stepOf c b x) (x .as-accepted) (x .says) (r .0)
+          (says-nothing c (g .base) b (x .post) (x .kind) j ∙ sym (says-nothing c s b (x .post) (x .kind) j) ∙ said) ws);
       settled-before = ws;
       held = r .1;
       turns = walks-kept c s b (x .post) (x .kind) j (g .track) ∙ g .turns;
@@ -213,14 +227,14 @@ module _ (c : Settings) where
 
     -- ranks on the track that reverses
     abbrev rk : ℕ → ℕ
-    rk p = rankOn c (g .track) (trackOf s (g .track) .cvt) p
+    rk p = rankOf (g .track) (trackOf s (g .track) .cvt) p
 
     -- at a post of rank up to that of p
     abbrev UpTo : ℕ → DecodedStep c (g .track) → Type 0
     UpTo p i = rk (i .post) ≤ rk p
 
     abbrev after : DecodedStep c (g .track) → Track
-    after x = trackAfterStep c (g .track) (x .post) (x .kind) (trackOf s (g .track))
+    after x = trackAfterStep (line c s) (g .track) (x .post) (x .kind) (trackOf s (g .track))
 
     held-back : (x : DecodedStep c (g .track)) → movesNoTrain (x .kind) ≡ true → AcceptedIn c s (stepOf c (g .track) x)
         → saidIn c s (stepOf c (g .track) x) ≡ x .as-accepted .said
@@ -276,11 +290,6 @@ module _ (c : Settings) where
 
   -- ## Each accepted step
 
-  pub order-moves : (b : Bool) (p : ℕ) (t : Track)
-      → (trackAfterStep c b p (walks order) t .walk ≡ Turn p act.Set) × (trackAfterStep c b p (walks order) t .cvt ≡ t .cvt)
-  unfolding trackAfter effect flat
-  order-moves b p t = (refl, refl)
-
   module _ (n2 : 2 ≤ c .posts) (s : Section) (ds : List AcceptedStep) (r : Reached c s) where
     module _ (g : Reversing s ds) where
       abbrev Under : DecodedStep c (g .track) → Type 0
@@ -288,11 +297,11 @@ module _ (c : Settings) where
 
       -- the last set or key joins first and late
       closes : (x : DecodedStep c (g .track)) → AcceptedIn c s (stepOf c (g .track) x) → saidIn c s (stepOf c (g .track) x) ≡ x .as-accepted .said
-          → after s ds g x .walk ≡ Settled → NoTrain c (trackOf s (g .track)) → Onward s ds (g .track) x
+          → after s ds g x .walk ≡ Settled → NoTrain (c .posts) (trackOf s (g .track)) → Onward s ds (g .track) x
       closes x h said ew free =
           settled ((g .first ++ allAccepted c (g .track) (g .late)) ++ x .as-accepted ∷ [])
           (performed-append c (x .as-accepted ∷ []) (performed-append c (allAccepted c (g .track) (g .late)) (g .performed) late)
-          (performed-one c s (g .track) x h said ws))
+          (performed-one c s (stepOf c (g .track) x) (x .as-accepted) (x .says) h said ws))
           (reordered-last ds (g .first ++ allAccepted c (g .track) (g .late)) (x .as-accepted) (g .kept)) ws
         where
           late : Performed c (g .base) (allAccepted c (g .track) (g .late)) s
@@ -309,7 +318,7 @@ module _ (c : Settings) where
           → Onward s ds (g .track) x
       unfolding AcceptedIn
       same-track x h said =
-          go (does (otherSettledOnVns s (g .track)) (g .track) n2 (trackOf s (g .track)) (g .post) (g .act) (g .turns) (r .sound (g .track))
+          go (does (line c s) (otherSettledOnVns s (g .track)) (g .track) n2 (trackOf s (g .track)) (g .post) (g .act) (g .turns) (r .sound (g .track))
           (x .kind) (x .post) h)
         where
           q : ℕ
@@ -328,10 +337,10 @@ module _ (c : Settings) where
           before k e j lt f =
               goes-before s ds g (g .track) x (rw e j) said
               (all-map Under (Apart (g .track) x (g .track)) (g .late) (λ i u. apart-post (g .track) x i (differ lt i u)) (g .under))
-              (goes-first c (g .track) (stepOf c (g .track) x) Under (rw e j) (λ s₀ i u st. subst (λ l. May l s₀ i) (sym e) (f s₀ i u st))
+              (goes-first c (g .track) (g .track) (x .post) (x .kind) Under (rw e j) (λ s₀ i u st. subst (λ l. May l s₀ i) (sym e) (f s₀ i u st))
               (g .late) (g .base) s (g .under) (g .held) h)
 
-          go : Does (otherSettledOnVns s (g .track)) (g .track) (trackOf s (g .track)) (g .post) q (x .kind) → Onward s ds (g .track) x
+          go : Does (line c s) (otherSettledOnVns s (g .track)) (g .track) (trackOf s (g .track)) (g .post) q (x .kind) → Onward s ds (g .track) x
           go (movesOn m z e o lt) =
               before (runs m z) e refl lt
               (λ s₀ i u st. exchange-onward c n2 (g .track) s₀ (i .post) (i .kind) q m z o (st .moves-none) (differ lt i u) (st .cvt-kept) (st .ok))
@@ -340,8 +349,8 @@ module _ (c : Settings) where
               decide : Dec (rk s ds g q ≤ rk s ds g (g .post)) → Onward s ds (g .track) x
               decide (yes le) =
                   held-back s ds g x (rw e refl) h said (g .post) (g .act)
-                  (walk-kept c (g .track) q (x .kind) (trackOf s (g .track)) (rw e refl) ∙ g .turns)
-                  (cvt-kept c (g .track) q (x .kind) (trackOf s (g .track)) (rw e refl)) (omega arith) le
+                  (walk-kept (line c s) (g .track) q (x .kind) (trackOf s (g .track)) (rw e refl) ∙ g .turns)
+                  (cvt-kept (line c s) (g .track) q (x .kind) (trackOf s (g .track)) (rw e refl)) (omega arith) le
               decide (no nle) =
                   before (notes n) e refl (omega arith)
                   (λ s₀ i u st. exchange-note c (g .track) s₀ (i .post) (i .kind) q n (differ (omega arith) i u) (st .cvt-kept) (st .ok))
@@ -354,7 +363,7 @@ module _ (c : Settings) where
           → Onward s ds (not (g .track)) x
       unfolding AcceptedIn
       other-track x h said =
-          go (settled-kind (otherSettledOnVns s (not (g .track))) (not (g .track)) (x .post) (x .kind) (trackOf s (not (g .track))) h
+          go (settled-kind (line c s) (otherSettledOnVns s (not (g .track))) (not (g .track)) (x .post) (x .kind) (trackOf s (not (g .track))) h
           (other-settled s (g .track) vns))
         where
           vns : otherSettledOnVns s (g .track) ≡ true
@@ -364,7 +373,7 @@ module _ (c : Settings) where
           go (inl j) =
               goes-before s ds g (not (g .track)) x j said
               (all-map Under (Apart (not (g .track)) x (g .track)) (g .late) (λ i u. apart-track (g .track) x i) (g .under))
-              (goes-first c (g .track) (stepOf c (not (g .track)) x) Under j
+              (goes-first c (g .track) (not (g .track)) (x .post) (x .kind) Under j
               (λ s₀ i u st hx. exchange-other c (g .track) s₀ (i .post) (i .kind) (x .post) (x .kind) j (st .ok) hx)
               (g .late) (g .base) s (g .under) (g .held) h)
           go (inr e) = absurd (no-second s (g .track) (g .post) (g .act) (x .post) (x .kind) e (g .turns) vns h)
@@ -383,26 +392,27 @@ module _ (c : Settings) where
       performed = pf;
       settled-before = ws;
       held = (record { ok = h; said = said; moves-none = rw e refl; cvt-kept = cvt-same }, refl);
-      turns = ap (λ t. t .walk) (here-after c s b (x .post) (x .kind)) ∙ rw e (order-moves b (x .post) (trackOf s b) .0);
+      turns = ap (λ t. t .walk) (here-after c s b (x .post) (x .kind)) ∙ rw e (order-moves (line c s) b (x .post) (trackOf s b) .0);
       under = (omega arith, tt);
       kept = reordered-last ds first (x .as-accepted) kp;
     })
       where
         cvt-same : trackOf (sectionAfterStep c s (stepOf c b x)) b .cvt ≡ trackOf s b .cvt
-        cvt-same = ap (λ t. t .cvt) (here-after c s b (x .post) (x .kind)) ∙ rw e (order-moves b (x .post) (trackOf s b) .1)
+        cvt-same = ap (λ t. t .cvt) (here-after c s b (x .post) (x .kind)) ∙ rw e (order-moves (line c s) b (x .post) (trackOf s b) .1)
 
     unfoldable pub progress : (b : Bool) (x : DecodedStep c b) → AcceptedIn c s (stepOf c b x) → saidIn c s (stepOf c b x) ≡ x .as-accepted .said
         → Progress s ds →
         Onward s ds b x
     unfolding AcceptedIn by-track settled-kind begins same-track other-track does does-set does-onward goes-before held-back closes
-    progress b x h said (settled first pf kp ws) = go (settled-kind (otherSettledOnVns s b) b (x .post) (x .kind) (trackOf s b) h (ws b))
+    progress b x h said (settled first pf kp ws) = go (settled-kind (line c s) (otherSettledOnVns s b) b (x .post) (x .kind) (trackOf s b) h (ws b))
       where
         still-settled : keepsRunning (x .kind) ≡ true → (d : Bool) → trackOf (sectionAfterStep c s (stepOf c b x)) d .walk ≡ Settled
         still-settled j d = walks-kept c s b (x .post) (x .kind) j d ∙ ws d
 
         go : (keepsRunning (x .kind) ≡ true) ⊎ (x .kind ≡ walks order) → Onward s ds b x
         go (inl j) =
-            settled (first ++ x .as-accepted ∷ []) (performed-append c (x .as-accepted ∷ []) pf (performed-one c s b x h said (still-settled j)))
+            settled (first ++ x .as-accepted ∷ [])
+            (performed-append c (x .as-accepted ∷ []) pf (performed-one c s (stepOf c b x) (x .as-accepted) (x .says) h said (still-settled j)))
             (reordered-last ds first (x .as-accepted) kp) (still-settled j)
         go (inr e) = begins first pf kp ws b x e h said
     progress b x h said (reversing g) =

@@ -18,22 +18,23 @@ use Rattle.section.specs.Settings.{settingsInRange}
 use Rattle.section.specs.Step.{kindOf}
 use Rattle.section.specs.Store.{trackOf}
 use Rattle.section.proofs.Laws.{rank-rank, rank-inj}
+use Rattle.rules.specs.declared.Line.{Line}
 use Rattle.rules.specs.Site.{isSettled, otherSettledOnVns}
 use Rattle.rules.specs.Table.{checks}
 use Rattle.rules.specs.Judge.{judge}
 use Rattle.rules.specs.Demand3.{AcceptedStep, track, post, kind, sendingEnd, MayStart, permission, start}
 use Rattle.rules.proofs.Facts.{first-rank}
 use Rattle.rules.proofs.View.{order, setDevice, announce, acknowledge, key, pass, leave, measures, fault, caution, View, walks, runs, notes, releases}
-use Rattle.rules.proofs.View.{flat, post-flat, Seen, shown}
+use Rattle.rules.proofs.View.{flat, post-flat, Seen, on, shown}
 use Rattle.rules.proofs.View as view
 use Rattle.rules.proofs.Reading.{Says, decoded-says}
-use Rattle.rules.proofs.Accept.{AcceptedOn, AcceptedIn, Judged, refused, accepted, judged}
+use Rattle.rules.proofs.Accept.{AcceptedOn, line, AcceptedIn, Judged, refused, accepted, judged}
 use Rattle.rules.proofs.Held.{start-held}
 use Rattle.rules.proofs.Ranges.{rankOn}
 use Rattle.rules.proofs.Invariant.{MayHold}
 use Rattle.rules.proofs.Reached.{Reached, reached-in-range}
 
-module _ (c : Settings) where
+module _ (c : Line) where
   -- a step of kind 5 is a start
   start-first : (v b : Bool) (p : ℕ) (k : View) (t : Track) → kindOf (flat p k) ≡ startKind → AcceptedOn c v b p k t
       → (rankOn c b (t .cvt) p ≡ 0) × (isSettled (t .walk) ≡ true)
@@ -53,8 +54,9 @@ module _ (c : Settings) where
   start-first v b p (notes (caution z)) t e h = absurd (omega arith)
   start-first v b p (releases z) t e h = absurd (omega arith)
 
+module _ (c : Settings) where
   abbrev Sends : Section → Bool → ℕ → Type 0
-  Sends s b p = (p < c .posts) × ((rankOn c b (trackOf s b .cvt) p ≡ 0) × (isSettled (trackOf s b .walk) ≡ true))
+  Sends s b p = (p < c .posts) × ((rank (c .posts) (upward b (trackOf s b .cvt)) p ≡ 0) × (isSettled (trackOf s b .walk) ≡ true))
 
   not-refused : (v : Verdict) (w : Said) (k : ℕ) → v ≡ Accepted w → v ≡ Refused k → ⊥
   not-refused v w k e f = let z : _≡_ {A = ℕ} 0 1 = cc in omega arith
@@ -62,14 +64,17 @@ module _ (c : Settings) where
   start-sends : (s : Section) (d : AcceptedStep) (x : Seen) → kind d ≡ startKind → Says (c .posts) (d .bytes) (shown x) → AcceptedIn c s x
       → Sends s (track d) (post d)
   unfolding AcceptedIn
-  start-sends s d x e h ok =
-      subst (λ b. Sends s b (post d)) (h .track-is) (subst (Sends s (x .track)) (sym (post-flat (x .post) (x .kind)) ∙ h .fields .post-is)
-      (ok .fits .below, start-first (otherSettledOnVns s (x .track)) (x .track) (x .post) (x .kind) (trackOf s (x .track)) (h .fields .kind-is ∙ e) ok))
+  start-sends s d (on b p k) e h ok =
+      subst (λ t. Sends s t (post d)) (h .track-is) (subst (Sends s b) (sym (post-flat p k) ∙ h .fields .post-is)
+      (ok .fits .below, start-first (line c s) (otherSettledOnVns s b) b p k (trackOf s b) (h .fields .kind-is ∙ e) ok))
 
   may-start-sends : settingsInRange c ≡ true → (s : Section) (b : Bool) (p : ℕ) → Reached c s → MayStart c s b p → Sends s b p
   may-start-sends right s b p r (permission p<n h) = (p<n, go (trackOf s b .walk) (r .sound b .permits p p<n h))
     where
-      go : (w : Walk) → MayHold c b w (rankOn c b (trackOf s b .cvt) p) → (rankOn c b (trackOf s b .cvt) p ≡ 0) × (isSettled w ≡ true)
+      at : ℕ
+      at = rank (c .posts) (upward b (trackOf s b .cvt)) p
+
+      go : (w : Walk) → MayHold (line c s) b w at → (at ≡ 0) × (isSettled w ≡ true)
       go Settled e = (e, refl)
       go (Turn q a) e = absurd e
   may-start-sends right s b p r (start d ek et ep ev) =

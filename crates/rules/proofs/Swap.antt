@@ -9,17 +9,17 @@ use mathlib.Core.List.{List}
 use native.Mathlib.Omega.{arith}
 use lib.ListN.{getD, set}
 use lib.Seq.{getD-set-other, set-comm}
-use Rattle.section.specs.declared.Settings.{Settings}
 use Rattle.section.specs.declared.Post.{Post}
 use Rattle.section.specs.declared.Track.{Track}
 use Rattle.section.specs.Geometry.{upward, block, isLast}
 use Rattle.section.specs.Post.{blank}
-use Rattle.section.specs.Settings.{isMaterialised}
 use Rattle.section.specs.Store.{postOn, withPost}
 use Rattle.section.proofs.Laws.{rank-lt, rank-inj, block-inj, block-lt}
+use Rattle.rules.specs.declared.Line.{Line}
 use Rattle.rules.specs.declared.Site.{Site}
+use Rattle.rules.specs.Line.{isMaterialised}
 use Rattle.rules.specs.Site.{siteOn, Occupancy, isTrain, anyOf, occupancyAt, watchedOccupied, atReceivingEnd, blockAhead, blockBefore}
-use Rattle.rules.specs.Site.{trainAt, crossingAhead, zonesLackAhead, partEnds, trainBefore}
+use Rattle.rules.specs.Site.{trainAt, liesAhead, crossingAhead, zonesLackAhead, partEnds, trainBefore}
 use Rattle.rules.specs.Table.{checks, effect, cellsAfter, trackAfter}
 use Rattle.rules.proofs.Facts.{not-first-rank, not-last-rank, entered-is, set-zero, any-zero}
 use Rattle.rules.proofs.View.{order, setDevice, announce, acknowledge, key, Motion, start, pass, leave, Condition, measures, fault, caution, View}
@@ -37,7 +37,7 @@ use Rattle.rules.proofs.Ranges.{rankOn}
 abbrev pub withTrains : Track → List ℕ → List ℕ → Track
 withTrains t trains last = record { posts = t .posts; trains = trains; last = last; cvt = t .cvt; walk = t .walk }
 
-module _ (c : Settings) (v b : Bool) where
+module _ (c : Line) (v b : Bool) where
   -- the step l at q, then x at p: they may change places
   pub record Swapped (q : ℕ) (l : View) (p : ℕ) (x : View) (t : Track) : Type 0 where
     pub x-first : AcceptedOn c v b p x t
@@ -69,7 +69,7 @@ module _ (c : Settings) (v b : Bool) where
 
   note-checks : (k : Condition) (p : ℕ) (t t′ : Track) (g g′ : Occupancy) → t .cvt ≡ t′ .cvt → postOn t p ≡ postOn t′ p
       → AllHold (checks c (flat p (notes k)) (siteOn b p t) g) → AllHold (checks c (flat p (notes k)) (siteOn b p t′) g′)
-  unfolding checks crossingAhead flat
+  unfolding checks liesAhead crossingAhead flat
   note-checks (measures true) p t t′ g g′ ec eo h = rw eo at h
   note-checks (measures false) p t t′ g g′ ec eo h = rw eo at h
   note-checks (fault true f) p t t′ g g′ ec eo h = rw eo at h
@@ -109,7 +109,7 @@ module _ (c : Settings) (v b : Bool) where
 
   onward-checks : (m : Motion) (z p : ℕ) (t t′ : Track) → onward m ≡ true → t .cvt ≡ t′ .cvt → t .trains ≡ t′ .trains → postOn t p ≡ postOn t′ p
       → AcceptedOn c v b p (runs m z) t → AcceptedOn c v b p (runs m z) t′
-  unfolding checks occupancyAt crossingAhead zonesLackAhead trainBefore flat
+  unfolding checks occupancyAt liesAhead crossingAhead zonesLackAhead trainBefore flat
   onward-checks start z p t t′ i ec et eo h = absurd (false≢true i)
   onward-checks pass z p t t′ i ec et eo h = record { fits = h .fits; held = rw (ec, et, eo) at (h .held) }
   onward-checks leave z p t t′ i ec et eo h = record { fits = h .fits; held = rw (ec, et) at (h .held) }

@@ -7,9 +7,9 @@ use mathlib.Core.List.{List}
 use lib.Dec.{eqb}
 use Rattle.section.specs.Bytes.{within}
 use Rattle.section.specs.Step.{isTrainKind, kindOf, numberOf}
-use Rattle.rules.specs.Demand3.{AcceptedStep, kind, post, number, isStepOfTrain, isOfTrain, Run, noteStep}
+use Rattle.rules.specs.Demand3.{AcceptedStep, kind, post, number, isOnTrack, isStepOfTrain, isOfTrain, isOfPost, Run, noteStep}
 use Rattle.rules.proofs.View.{order, setDevice, announce, acknowledge, key, Motion, start, pass, leave, measures, fault, caution}
-use Rattle.rules.proofs.View.{View, walks, runs, notes, releases, flat, post-flat, Seen, shown}
+use Rattle.rules.proofs.View.{View, walks, runs, notes, releases, flat, post-flat, on, shown}
 use Rattle.rules.proofs.Reading.{Says}
 use Rattle.rules.proofs.Runs.{noteMotion}
 
@@ -51,26 +51,32 @@ train-kind p z number (notes (fault false f)) e = refl
 train-kind p z number (notes (caution y)) e = refl
 train-kind p z number (releases y) e = refl
 
-module _ (n : ℕ) (d : AcceptedStep) (x : Seen) (h : Says n (d .bytes) (shown x)) where
-  post-said : post d ≡ x .post
-  post-said = sym (h .fields .post-is) ∙ post-flat (x .post) (x .kind)
+module _ (n : ℕ) (d : AcceptedStep) (t : Bool) (q : ℕ) (v : View) (h : Says n (d .bytes) (shown (on t q v))) where
+  post-said : post d ≡ q
+  post-said = sym (h .fields .post-is) ∙ post-flat q v
 
-  pub own-test : (z : ℕ) → isStepOfTrain z d ≡ ofTrain z (x .kind)
-  own-test z = rw (← h .fields .kind-is) (train-kind (x .post) z (number d) (x .kind) (h .fields .number-is))
+  pub own-test : (z : ℕ) → isStepOfTrain z d ≡ ofTrain z v
+  own-test z = rw (← h .fields .kind-is) (train-kind q z (number d) v (h .fields .number-is))
 
-  pub train-test : (b : Bool) (z : ℕ) → isOfTrain b z d ≡ (Bool·beq (x .track) b && ofTrain z (x .kind))
-  train-test b z = rw (← h .track-is) (ap (λ w. Bool·beq (x .track) b && w) (own-test z))
+  -- on its track alone
+  pub track-test : (b : Bool) → isOnTrack b d ≡ Bool·beq t b
+  track-test b = rw (← h .track-is) refl
+
+  pub post-test : (b : Bool) (p : ℕ) → isOfPost b p d ≡ (Bool·beq t b && eqb q p)
+  post-test b p = rw (track-test b, post-said) refl
+
+  train-test : (b : Bool) (z : ℕ) → isOfTrain b z d ≡ (Bool·beq t b && ofTrain z v)
+  train-test b z = rw (track-test b, own-test z) refl
 
   -- one that is of no train counts for nothing
   pub note-test : (b : Bool) (z : ℕ) (rs : List Run)
-      → cond (isOfTrain b z d) (noteStep (kind d) (post d) rs) rs ≡ cond (Bool·beq (x .track) b && ofTrain z (x .kind)) (noteView (x .kind) (x .post) rs) rs
-  note-test b z rs = rw (train-test b z, post-said, ← h .fields .kind-is) (go (x .kind) (Bool·beq (x .track) b))
+      → cond (isOfTrain b z d) (noteStep (kind d) (post d) rs) rs ≡ cond (Bool·beq t b && ofTrain z v) (noteView v q rs) rs
+  note-test b z rs = rw (train-test b z, post-said, ← h .fields .kind-is) (go v (Bool·beq t b))
     where
-      go : (k : View) (w : Bool)
-          → cond (w && ofTrain z k) (noteStep (kindOf (flat (x .post) k)) (x .post) rs) rs ≡ cond (w && ofTrain z k) (noteView k (x .post) rs) rs
+      go : (k : View) (w : Bool) → cond (w && ofTrain z k) (noteStep (kindOf (flat q k)) q rs) rs ≡ cond (w && ofTrain z k) (noteView k q rs) rs
       go (walks r) false = refl
       go (walks r) true = refl
-      go (runs m y) w = ap (λ l. cond (w && eqb y z) l rs) (note-kind (x .post) m y rs)
+      go (runs m y) w = ap (λ l. cond (w && eqb y z) l rs) (note-kind q m y rs)
       go (notes k) false = refl
       go (notes k) true = refl
       go (releases y) false = refl

@@ -12,10 +12,12 @@ use borrow.Author.Tests.{ne-eqb}
 use Rattle.section.specs.declared.Settings.{Settings}
 use Rattle.section.specs.declared.Act.the-variants as act
 use Rattle.section.specs.declared.Track.{Track}
+use Rattle.section.specs.declared.Section.{Section}
 use Rattle.section.specs.Geometry.{upward, rank, block}
 use Rattle.section.specs.Numbers.{mostPosts, mostBlocks}
 use Rattle.section.specs.Step.{numberOf}
 use Rattle.section.proofs.Laws.{rank-rank, block-inj, block-lt}
+use Rattle.rules.specs.declared.Line.{Line}
 use Rattle.rules.specs.declared.Site.{Site}
 use Rattle.rules.specs.Site.{siteOn, isTurn, atReceivingEnd, stretchEnds, stretchHolds, trainAt, occupancyAt}
 use Rattle.rules.specs.Table.{checks, effect, cellsAfter, trackAfter}
@@ -24,15 +26,19 @@ use Rattle.rules.proofs.Facts.{nand-r, first-rank, not-first-rank, last
 use Rattle.rules.proofs.View.{Reversal, order, setDevice, announce, acknowledge, key, start, pass, leave, View, walks, runs, notes, releases}
 use Rattle.rules.proofs.View.{flat}
 use Rattle.rules.proofs.Frame.{movesNoTrain, running-kept, no-movement}
-use Rattle.rules.proofs.Accept.{AcceptedOn, trackAfterStep}
-use Rattle.rules.proofs.Held.{set-held, key-held, start-held, pass-held, leave-held, pass-before, leave-before}
-use Rattle.rules.proofs.Invariant.{ClearedFree, NoTrain, last-free}
+use Rattle.rules.proofs.Accept.{AcceptedOn, trackAfterStep, line}
+use Rattle.rules.proofs.Held.{set-held, key-held, start-held, pass-held, leave-held, pass-before, leave-before, NoTrain}
+use Rattle.rules.proofs.Invariant.{ClearedFree, last-free}
 use Rattle.rules.proofs.Stretches.{TrainEnters, TrainMoves, TrainLeaves, Spaced, FreeFrom, free-from, free-ahead, free-first, enters-spaced}
 use Rattle.rules.proofs.Stretches.{moves-spaced, leaves-spaced, empty-spaced}
 use Rattle.rules.proofs.Runs.{Follows, empty-follows, enters-follows, moves-follows, leaves-follows}
 use Rattle.rules.proofs.TrainSteps.{ofTrain, noteView}
 
-module _ (c : Settings) (n2 : 2 ≤ c .posts) (n16 : c .posts ≤ mostPosts) where
+module _ (given : Settings) (n2 : 2 ≤ given .posts) (n16 : given .posts ≤ mostPosts) (s : Section) where
+  -- the line as it stands
+  abbrev c : Line
+  c = line given s
+
   -- ## Cells by rank
 
   cell-same : (up : Bool) (l : List ℕ) (m v : ℕ) → length l ≡ mostBlocks → suc m < c .posts
@@ -51,7 +57,7 @@ module _ (c : Settings) (n2 : 2 ≤ c .posts) (n16 : c .posts ≤ mostPosts) whe
     SpacedOn cvt l = Spaced (c .posts) (stretchEnds c b cvt) (trainAt c b cvt l)
 
     abbrev pub FollowsOn : Bool → List ℕ → ℕ → List Run → Type 0
-    FollowsOn cvt l z rs = Follows c n2 (upward b cvt) (trainAt c b cvt l) z rs
+    FollowsOn cvt l z rs = Follows given n2 (upward b cvt) (trainAt c b cvt l) z rs
 
     -- what a step of the view k at post p does with them
     pub record TrainsKept (cvt : Bool) (l : List ℕ) (cvt′ : Bool) (l′ : List ℕ) (k : View) (p : ℕ) : Type 0 where
@@ -88,7 +94,7 @@ module _ (c : Settings) (n2 : 2 ≤ c .posts) (n16 : c .posts ≤ mostPosts) whe
       unfolding checks occupancyAt trackAfter effect cellsAfter flat numberOf
       start-kept y h = record {
         spaced = enters-spaced (c .posts) ends f g y enters free;
-        follows = λ z rs nz sp. enters-follows c n2 up f g y z rs nz p at-first enters;
+        follows = λ z rs nz sp. enters-follows given n2 up f g y z rs nz p at-first enters;
       }
         where
           g : ℕ → ℕ
@@ -118,7 +124,7 @@ module _ (c : Settings) (n2 : 2 ≤ c .posts) (n16 : c .posts ≤ mostPosts) whe
       unfolding checks occupancyAt trackAfter effect cellsAfter flat
       pass-kept y h = record {
         spaced = λ sp. moves-spaced (c .posts) ends f g y q (moves sp) ny (free sp) sp;
-        follows = λ z rs nz sp. moves-follows c n2 up f g y z rs nz p q ny (post-past q (h .fits .below) past) (moves sp);
+        follows = λ z rs nz sp. moves-follows given n2 up f g y z rs nz p q ny (post-past q (h .fits .below) past) (moves sp);
       }
         where
           q : ℕ
@@ -169,7 +175,7 @@ module _ (c : Settings) (n2 : 2 ≤ c .posts) (n16 : c .posts ≤ mostPosts) whe
       unfolding checks occupancyAt trackAfter effect cellsAfter flat
       leave-kept y h = record {
         spaced = leaves-spaced (c .posts) ends f g y q leaves;
-        follows = λ z rs nz sp. leaves-follows c n2 up f g y z rs nz p q ny (post-past q (h .fits .below) past) leaves;
+        follows = λ z rs nz sp. leaves-follows given n2 up f g y z rs nz p q ny (post-past q (h .fits .below) past) leaves;
       }
         where
           q : ℕ
@@ -197,7 +203,7 @@ module _ (c : Settings) (n2 : 2 ≤ c .posts) (n16 : c .posts ≤ mostPosts) whe
 
       -- ## The last set or key finds the track empty; every other step leaves direction and trains alone
 
-      empty-cells : NoTrain c t → (cvt : Bool) (j : ℕ) → suc j < c .posts → trainAt c b cvt (t .trains) j ≡ 0
+      empty-cells : NoTrain (c .posts) t → (cvt : Bool) (j : ℕ) → suc j < c .posts → trainAt c b cvt (t .trains) j ≡ 0
       empty-cells h cvt j k = h (block (c .posts) (upward b cvt) j) (block-lt (c .posts) (upward b cvt) j k)
 
       set-kept : (w : Reversal) (last : Bool) → atReceivingEnd c e ≡ last → isTurn (t .walk) p act.Set ≡ true → ClearedFree c b (t .cvt) (t .walk) (t .trains)
@@ -205,7 +211,7 @@ module _ (c : Settings) (n2 : 2 ≤ c .posts) (n16 : c .posts ≤ mostPosts) whe
       set-kept w true q hw clear = record {
         spaced = λ sp. empty-spaced (c .posts) (stretchEnds c b (not (t .cvt))) (trainAt c b (not (t .cvt)) (t .trains)) (empty (not (t .cvt)));
         follows = λ z rs nz sp h.
-            empty-follows c n2 up (upward b (not (t .cvt))) f (trainAt c b (not (t .cvt)) (t .trains)) z rs nz (empty (t .cvt)) (empty (not (t .cvt))) h;
+            empty-follows given n2 up (upward b (not (t .cvt))) f (trainAt c b (not (t .cvt)) (t .trains)) z rs nz (empty (t .cvt)) (empty (not (t .cvt))) h;
       }
         where
           empty : (cvt : Bool) (j : ℕ) → suc j < c .posts → trainAt c b cvt (t .trains) j ≡ 0

@@ -21,17 +21,19 @@ use Rattle.section.specs.Geometry.{upward, rank, isLast}
 use Rattle.section.specs.Step.{kindOf}
 use Rattle.section.specs.Store.{trackOf}
 use Rattle.section.proofs.Laws.{rank-rank}
+use Rattle.rules.specs.declared.Line.{Line}
 use Rattle.rules.specs.Site.{isSettled, isTurn, siteOn, otherSettledOnVns, atReceivingEnd}
 use Rattle.rules.specs.Table.{checks, effect, trackAfter}
-use Rattle.rules.specs.Demand3.{AcceptedStep, track, post, kind, isOnTrack, keep, otherEnd, endsAt, noteReversal, reversalFrom, runs?, underWay}
+use Rattle.rules.specs.Demand3.{AcceptedStep, isOnTrack, keep, otherEnd, endsAt, noteReversal, reversalFrom, runs?, underWay}
 use Rattle.rules.proofs.Facts.{by-track, beq-same, beq-other, first-rank, last-rank, not-last-rank}
 use Rattle.rules.proofs.View.{order, setDevice, announce, acknowledge, key, start, pass, leave, measures, fault, caution, View, walks, runs, notes}
-use Rattle.rules.proofs.View.{releases, flat, post-flat, Seen, shown}
+use Rattle.rules.proofs.View.{releases, flat, post-flat, Seen, on, shown}
 use Rattle.rules.proofs.Reading.{Says}
 use Rattle.rules.proofs.Frame.{is-turn, keepsRunning}
-use Rattle.rules.proofs.Accept.{AcceptedOn, trackAfterStep, AcceptedIn, sectionAfterStep}
+use Rattle.rules.proofs.Accept.{AcceptedOn, trackAfterStep, line, AcceptedIn, sectionAfterStep}
 use Rattle.rules.proofs.Held.{order-held, set-held, key-held, announce-held, acknowledge-held}
 use Rattle.rules.proofs.Exchange.{here-after, there-after, walk-kept, cvt-kept}
+use Rattle.rules.proofs.TrainSteps.{track-test}
 use Rattle.rules.proofs.Lists.{keep-append}
 
 -- ## The ends
@@ -77,7 +79,10 @@ module _ (c : Settings) where
 
   -- ## An accepted step on its own track
 
-  module _ (n2 : 2 ≤ c .posts) (v b : Bool) (p : ℕ) (t : Track) where
+  module _ (n2 : 2 ≤ c .posts) (s : Section) (v b : Bool) (p : ℕ) (t : Track) where
+    abbrev ln : Line
+    ln = line c s
+
     abbrev far : ℕ
     far = rank (c .posts) (upward b (t .cvt)) (c .posts - 1)
 
@@ -103,19 +108,21 @@ module _ (c : Settings) where
     running-noted (releases z) i = refl
 
     running-agrees : (k : View) → keepsRunning k ≡ true
-        → noteAt (c .posts) (kindOf (flat p k)) p (lastPost b (t .cvt) (t .walk)) ≡ lastPost b (trackAfterStep c b p k t .cvt) (trackAfterStep c b p k t .walk)
-    running-agrees k i = rw (cvt-kept c b p k t i, walk-kept c b p k t i) (running-noted k i)
+        → noteAt (c .posts) (kindOf (flat p k)) p (lastPost b (t .cvt) (t .walk))
+        ≡ lastPost b (trackAfterStep ln b p k t .cvt) (trackAfterStep ln b p k t .walk)
+    running-agrees k i = rw (cvt-kept ln b p k t i, walk-kept ln b p k t i) (running-noted k i)
 
-    noted : (k : View) → AcceptedOn c v b p k t
-        → noteAt (c .posts) (kindOf (flat p k)) p (lastPost b (t .cvt) (t .walk)) ≡ lastPost b (trackAfterStep c b p k t .cvt) (trackAfterStep c b p k t .walk)
+    noted : (k : View) → AcceptedOn ln v b p k t
+        → noteAt (c .posts) (kindOf (flat p k)) p (lastPost b (t .cvt) (t .walk))
+        ≡ lastPost b (trackAfterStep ln b p k t .cvt) (trackAfterStep ln b p k t .walk)
     unfolding checks trackAfter effect flat kindOf
     noted (walks order) h =
         ap some (far-post (c .posts) (upward b (t .cvt)) p n2 (h .fits .below) (first-rank (c .posts) (upward b (t .cvt)) p (order-held h .first)))
     noted (walks setDevice) h =
-        ap (endsAt p) (turn-last act.Set (t .walk) (set-held h .in-turn)) ∙ set-noted (atReceivingEnd c (siteOn b p t)) refl (h .fits .below)
+        ap (endsAt p) (turn-last act.Set (t .walk) (set-held h .in-turn)) ∙ set-noted (atReceivingEnd ln (siteOn b p t)) refl (h .fits .below)
     noted (walks announce) h = turn-last act.Announce (t .walk) (announce-held h .in-turn)
     noted (walks acknowledge) h = turn-last act.Acknowledge (t .walk) (acknowledge-held h .in-turn)
-    noted (walks key) h = ap (endsAt p) (turn-last act.Set (t .walk) (key-held h .in-turn)) ∙ set-noted (atReceivingEnd c (siteOn b p t)) refl (h .fits .below)
+    noted (walks key) h = ap (endsAt p) (turn-last act.Set (t .walk) (key-held h .in-turn)) ∙ set-noted (atReceivingEnd ln (siteOn b p t)) refl (h .fits .below)
     noted (runs m z) h = running-agrees (runs m z) refl
     noted (notes k) h = running-agrees (notes k) refl
     noted (releases z) h = running-agrees (releases z) refl
@@ -127,31 +134,38 @@ module _ (c : Settings) where
   reversal-one false d r = refl
 
   reversal-last : (b : Bool) (ds : List AcceptedStep) (d : AcceptedStep)
-      → reversalOn b (ds ++ d ∷ []) ≡ cond (Bool·beq (track d) b) (noteReversal (c .posts) d (reversalOn b ds)) (reversalOn b ds)
+      → reversalOn b (ds ++ d ∷ []) ≡ cond (isOnTrack b d) (noteReversal (c .posts) d (reversalOn b ds)) (reversalOn b ds)
   reversal-last b ds d =
       ap (reversalFrom (c .posts) none) (keep-append (isOnTrack b) ds (d ∷ []))
       ∙ reversal-append (c .posts) none (keep (isOnTrack b) ds) (keep (isOnTrack b) (d ∷ []))
-      ∙ reversal-one (Bool·beq (track d) b) d (reversalOn b ds)
+      ∙ reversal-one (isOnTrack b d) d (reversalOn b ds)
 
-  pub agrees-kept : 2 ≤ c .posts → (s : Section) (ds : List AcceptedStep) (d : AcceptedStep) (x : Seen) → Says (c .posts) (d .bytes) (shown x)
-      → AcceptedIn c s x
-      → Agrees s ds → Agrees (sectionAfterStep c s x) (ds ++ d ∷ [])
-  unfolding AcceptedIn
-  agrees-kept n2 s ds d x h ok a =
-      by-track (λ b. reversalOn b (ds ++ d ∷ []) ≡ lastPost b (trackOf (sectionAfterStep c s x) b .cvt) (trackOf (sectionAfterStep c s x) b .walk)) (x .track)
-      (reversal-last (x .track) ds d ∙ whether (x .track) (beq-same (x .track)) ∙ ap (λ r. noteReversal (c .posts) d r) (a (x .track))
-      ∙ ap₂ (λ k p. noteAt (c .posts) k p (lastPost (x .track) (trackOf s (x .track) .cvt) (trackOf s (x .track) .walk))) (sym (h .fields .kind-is))
-      (sym (h .fields .post-is) ∙ post-flat (x .post) (x .kind))
-      ∙ noted n2 (otherSettledOnVns s (x .track)) (x .track) (x .post) (trackOf s (x .track)) (x .kind) ok
-      ∙ sym (ap (λ t. lastPost (x .track) (t .cvt) (t .walk)) (here-after c s (x .track) (x .post) (x .kind))))
-      (reversal-last (not (x .track)) ds d ∙ whether (not (x .track)) (beq-other (x .track)) ∙ a (not (x .track))
-      ∙ sym (ap (λ t. lastPost (not (x .track)) (t .cvt) (t .walk)) (there-after c s (x .track) (x .post) (x .kind))))
-    where
-      -- whether the step is of track b
-      whether : (b : Bool) {w : Bool} → Bool·beq (x .track) b ≡ w
-          → cond (Bool·beq (track d) b) (noteReversal (c .posts) d (reversalOn b ds)) (reversalOn b ds)
-          ≡ cond w (noteReversal (c .posts) d (reversalOn b ds)) (reversalOn b ds)
-      whether b e = ap (λ w. cond w (noteReversal (c .posts) d (reversalOn b ds)) (reversalOn b ds)) (ap (λ y. Bool·beq y b) (sym (h .track-is)) ∙ e)
+  module _ (n2 : 2 ≤ c .posts) (s : Section) (ds : List AcceptedStep) (d : AcceptedStep) where
+    one-kept : (t : Bool) (q : ℕ) (k : View) → Says (c .posts) (d .bytes) (shown (on t q k)) → AcceptedIn c s (on t q k)
+        → Agrees s ds → Agrees (sectionAfterStep c s (on t q k)) (ds ++ d ∷ [])
+    unfolding AcceptedIn
+    one-kept t q k h ok a =
+        by-track (λ b. reversalOn b (ds ++ d ∷ []) ≡ lastPost b (trackOf after b .cvt) (trackOf after b .walk)) t
+        (reversal-last t ds d ∙ whether t (beq-same t) ∙ ap (λ r. noteReversal (c .posts) d r) (a t)
+        ∙ ap₂ (λ k p. noteAt (c .posts) k p (lastPost t (trackOf s t .cvt) (trackOf s t .walk))) (sym (h .fields .kind-is))
+        (sym (h .fields .post-is) ∙ post-flat q k)
+        ∙ noted n2 s (otherSettledOnVns s t) t q (trackOf s t) k ok
+        ∙ sym (ap (λ u. lastPost t (u .cvt) (u .walk)) (here-after c s t q k)))
+        (reversal-last (not t) ds d ∙ whether (not t) (beq-other t) ∙ a (not t)
+        ∙ sym (ap (λ u. lastPost (not t) (u .cvt) (u .walk)) (there-after c s t q k)))
+      where
+        after : Section
+        after = sectionAfterStep c s (on t q k)
+
+        -- whether the step is of track b
+        whether : (b : Bool) {w : Bool} → Bool·beq t b ≡ w
+            → cond (isOnTrack b d) (noteReversal (c .posts) d (reversalOn b ds)) (reversalOn b ds)
+            ≡ cond w (noteReversal (c .posts) d (reversalOn b ds)) (reversalOn b ds)
+        whether b e = ap (λ w. cond w (noteReversal (c .posts) d (reversalOn b ds)) (reversalOn b ds)) (track-test (c .posts) d t q k h b ∙ e)
+
+    pub agrees-kept : (x : Seen) → Says (c .posts) (d .bytes) (shown x) → AcceptedIn c s x → Agrees s ds
+        → Agrees (sectionAfterStep c s x) (ds ++ d ∷ [])
+    agrees-kept (on t q k) h ok a = one-kept t q k h ok a
 
   pub fresh-agrees : Agrees (freshSection c) []
   unfolding freshSection freshTrack

@@ -46,43 +46,6 @@ flat p (notes (fault false f)) = step.FaultOff p f
 flat p (notes (caution z)) = step.Caution p z
 flat p (releases z) = step.Release p z
 
-unfoldable pub view : Step → View
-view (step.Order p) = walks order
-view (step.Set p) = walks setDevice
-view (step.Announce p) = walks announce
-view (step.Acknowledge p) = walks acknowledge
-view (step.Start p z) = runs start z
-view (step.Pass p z) = runs pass z
-view (step.Leave p z) = runs leave z
-view (step.MeasuresOn p) = notes (measures true)
-view (step.MeasuresOff p) = notes (measures false)
-view (step.FaultOn p f) = notes (fault true f)
-view (step.FaultOff p f) = notes (fault false f)
-view (step.Release p z) = releases z
-view (step.Key p) = walks key
-view (step.Caution p z) = notes (caution z)
-
-pub flat-view : (x : Step) → flat (postOf x) (view x) ≡ x
-unfolding flat view postOf
-flat-view (step.Order p) = refl
-flat-view (step.Set p) = refl
-flat-view (step.Announce p) = refl
-flat-view (step.Acknowledge p) = refl
-flat-view (step.Start p z) = refl
-flat-view (step.Pass p z) = refl
-flat-view (step.Leave p z) = refl
-flat-view (step.MeasuresOn p) = refl
-flat-view (step.MeasuresOff p) = refl
-flat-view (step.FaultOn p f) = refl
-flat-view (step.FaultOff p f) = refl
-flat-view (step.Release p z) = refl
-flat-view (step.Key p) = refl
-flat-view (step.Caution p z) = refl
-
--- what is proved of a view at a post holds of every step there
-pub by-view {κ} : (P : ℕ → Step → Type κ) → ((p : ℕ) (k : View) → P p (flat p k)) → (x : Step) → P (postOf x) x
-by-view P f x = rw (flat-view x) at (f (postOf x) (view x))
-
 pub post-flat : (p : ℕ) (k : View) → postOf (flat p k) ≡ p
 unfolding flat postOf
 post-flat p (walks order) = refl
@@ -102,19 +65,48 @@ post-flat p (releases z) = refl
 
 -- ## A step with its track
 
-pub record Seen : Type 0 where
-  pub track : Bool
-  pub post : ℕ
-  pub kind : View
-
-abbrev pub on : Bool → ℕ → View → Seen
-on b p k = record { track = b; post = p; kind = k }
+-- a step on one track at a post
+pub data Seen : Type 0 where
+  on : Bool → ℕ → View → Seen
 
 abbrev pub shown : Seen → TrackStep
-shown x = record { track = x .track; step = flat (x .post) (x .kind) }
+shown (on b p k) = record { track = b; step = flat p k }
+
+unfoldable pub seenAt : Bool → Step → Seen
+seenAt b (step.Order p) = on b p (walks order)
+seenAt b (step.Set p) = on b p (walks setDevice)
+seenAt b (step.Announce p) = on b p (walks announce)
+seenAt b (step.Acknowledge p) = on b p (walks acknowledge)
+seenAt b (step.Start p z) = on b p (runs start z)
+seenAt b (step.Pass p z) = on b p (runs pass z)
+seenAt b (step.Leave p z) = on b p (runs leave z)
+seenAt b (step.MeasuresOn p) = on b p (notes (measures true))
+seenAt b (step.MeasuresOff p) = on b p (notes (measures false))
+seenAt b (step.FaultOn p f) = on b p (notes (fault true f))
+seenAt b (step.FaultOff p f) = on b p (notes (fault false f))
+seenAt b (step.Release p z) = on b p (releases z)
+seenAt b (step.Key p) = on b p (walks key)
+seenAt b (step.Caution p z) = on b p (notes (caution z))
 
 abbrev pub seen : TrackStep → Seen
-seen x = record { track = x .track; post = postOf (x .step); kind = view (x .step) }
+seen x = seenAt (x .track) (x .step)
+
+shown-at : (b : Bool) (x : Step) → shown (seenAt b x) ≡ record { track = b; step = x }
+unfolding seenAt flat
+shown-at b (step.Order p) = refl
+shown-at b (step.Set p) = refl
+shown-at b (step.Announce p) = refl
+shown-at b (step.Acknowledge p) = refl
+shown-at b (step.Start p z) = refl
+shown-at b (step.Pass p z) = refl
+shown-at b (step.Leave p z) = refl
+shown-at b (step.MeasuresOn p) = refl
+shown-at b (step.MeasuresOff p) = refl
+shown-at b (step.FaultOn p f) = refl
+shown-at b (step.FaultOff p f) = refl
+shown-at b (step.Release p z) = refl
+shown-at b (step.Key p) = refl
+shown-at b (step.Caution p z) = refl
 
 pub shown-seen : (x : TrackStep) → shown (seen x) ≡ x
-shown-seen x = rw (flat-view (x .step)) refl
+shown-seen x = shown-at (x .track) (x .step)

@@ -3,7 +3,7 @@
 -- has seen it free.
 use Prim.Native.Nat.{ℕ, zero, suc, _-_, _≤_, _<_}
 use mathlib.Core.Bool.{Bool, true, false}
-use mathlib.Core.Path.{_≡_, refl, subst}
+use mathlib.Core.Path.{_≡_, sym, subst}
 use mathlib.Core.Logic.{_⊎_, inl, inr}
 use mathlib.Core.List.{List}
 use native.Mathlib.Omega.{arith}
@@ -14,21 +14,26 @@ use Rattle.section.specs.declared.Act.the-variants as act
 use Rattle.section.specs.declared.Walk.{Walk}
 use Rattle.section.specs.declared.Walk.the-variants.{Turn}
 use Rattle.section.specs.declared.Track.{Track}
+use Rattle.section.specs.declared.Section.{Section}
 use Rattle.section.specs.Fresh.{freshSection}
 use Rattle.section.specs.Geometry.{upward}
 use Rattle.section.specs.Settings.{settingsInRange}
 use Rattle.section.specs.Store.{trackOf}
 use Rattle.section.proofs.Laws.{rank-lt}
+use Rattle.rules.specs.declared.Line.{Line}
+use Rattle.rules.specs.Line.{lineOf}
 use Rattle.rules.specs.Site.{partEnds}
 use Rattle.rules.specs.Indications.{setCount}
 use Rattle.rules.specs.Demand3.{stateAfter}
 use Rattle.rules.specs.VoieOccupee.{SeenFree, FreeToAnnounce, VoieOccupeeNeverSaid}
 use Rattle.rules.proofs.Facts.{true-or-false}
 use Rattle.rules.proofs.Stretches.{NoEnd}
-use Rattle.rules.proofs.Parts.{part-first}
+use Rattle.rules.proofs.Accept.{line}
+use Rattle.rules.proofs.Parts.{LineRight}
 use Rattle.rules.proofs.Ranges.{rankOn, TurnFits}
 use Rattle.rules.proofs.Cleared.{cleared-turn, cleared-announcer}
 use Rattle.rules.proofs.Invariant.{ClearedFree, Sound}
+use Rattle.rules.proofs.Reached.{Reached, reached-right}
 use Rattle.rules.proofs.Theorem.{reached-throughout}
 
 -- ## Where the part of a rank begins
@@ -58,7 +63,7 @@ begins-at ends (suc r) h = go (true-or-false (ends (suc r))) (begins-at ends r h
 
 -- ## Free to announce
 
-module _ (c : Settings) (right : settingsInRange c ≡ true) (b : Bool) (t : Track) (s : Sound c b t) where
+module _ (c : Line) (right : LineRight c) (b : Bool) (t : Track) (s : Sound c b t) where
   abbrev ends : ℕ → Bool
   ends = partEnds c b (t .cvt)
 
@@ -72,7 +77,7 @@ module _ (c : Settings) (right : settingsInRange c ≡ true) (b : Bool) (t : Tra
   seen-free : (p : ℕ) → t .walk ≡ Turn p act.Announce → SeenFree c b t (rankOn c b (t .cvt) p)
   unfolding setCount
   seen-free p e =
-      let w = begins-at ends (rankOn c b (t .cvt) p) (part-first c right b (t .cvt)) in
+      let w = begins-at ends (rankOn c b (t .cvt) p) (right .part-first b (t .cvt)) in
       record {
         watcher = w .rank;
         not-after = w .not-after;
@@ -99,4 +104,11 @@ module _ (c : Settings) (right : settingsInRange c ≡ true) (b : Bool) (t : Tra
 
 pub voie-occupee-never-said : (c : Settings) → settingsInRange c ≡ true → (offered : List (List ℕ)) → VoieOccupeeNeverSaid c offered
 voie-occupee-never-said c right offered b =
-    free-to-announce c right b (trackOf (stateAfter (freshSection c) offered) b) (reached-throughout c right offered .sound b)
+    subst (λ (k : Settings). FreeToAnnounce (lineOf k) b (trackOf end b)) (sym (reached .settings))
+    (free-to-announce (line c end) (reached-right c right end reached) b (trackOf end b) (reached .sound b))
+  where
+    end : Section
+    end = stateAfter (freshSection c) offered
+
+    reached : Reached c end
+    reached = reached-throughout c right offered

@@ -26,9 +26,11 @@ pub record SameCells (At : ℕ → Type 0) (t u : Track) : Type 0 where
 abbrev pub SamePast : ℕ → Track → Track → Type 0
 SamePast n = SameCells (λ p. n ≤ p)
 
+pub record KeptPast (n : ℕ) (s u : Section) : Type 0 where
+  pub tracks : (b : Bool) → SamePast n (trackOf s b) (trackOf u b)
+
 abbrev pub CellsPastKept : Type 0
-CellsPastKept =
-    (s : Section) (bytes : List ℕ) (b : Bool) → SamePast (s .settings .posts) (trackOf (judge s bytes .section) b) (trackOf s b)
+CellsPastKept = (s : Section) (bytes : List ℕ) → KeptPast (s .settings .posts) (judge s bytes .section) s
 
 -- ## Not tested
 

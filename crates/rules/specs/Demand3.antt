@@ -1,7 +1,7 @@
 -- Demand 3, in the words of document 01's section "The words of demand 3". `demand3` (proofs/Theorem.antt) proves `Demand3 c offered` for all
 -- well-formed settings c and all lists of offered byte strings.
 use Prim.Native.Nat.{ℕ, zero, suc, _-_, _<_}
-use mathlib.Core.Bool.{Bool, true, false, cond, not, _&&_, _||_, Bool·beq}
+use mathlib.Core.Bool.{Bool, true, false, cond, not, _&&_, _||_}
 use mathlib.Core.Path.{_≡_}
 use mathlib.Core.Logic.{_⊎_}
 use mathlib.Core.List.{List, [], _∷_, _++_}
@@ -19,7 +19,7 @@ use Rattle.section.specs.Bytes.{byte, le16}
 use Rattle.section.specs.Fresh.{freshSection}
 use Rattle.section.specs.Geometry.{upward, rank}
 use Rattle.section.specs.Numbers.{orderKind, setKind, startKind, passKind, keyKind}
-use Rattle.section.specs.Step.{isTrainKind}
+use Rattle.section.specs.Step.{isTrainKind, standsOn}
 use Rattle.section.specs.Store.{trackOf, postOn}
 use Rattle.rules.specs.Judge.{judge}
 use Rattle.rules.specs.Site.{isSettled}
@@ -61,7 +61,7 @@ number d = le16 (byte (d .bytes) 4) (byte (d .bytes) 5)
 
 -- on one track
 abbrev pub isOnTrack : Bool → AcceptedStep → Bool
-isOnTrack b d = Bool·beq (track d) b
+isOnTrack b d = standsOn (kind d) (track d) b
 
 -- "A train's own steps are its starts, passes and leaves"
 abbrev pub isStepOfTrain : ℕ → AcceptedStep → Bool

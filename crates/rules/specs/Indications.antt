@@ -4,7 +4,6 @@ use mathlib.Core.Bool.{Bool, false, cond, not, _&&_, _||_}
 use mathlib.Core.List.{List}
 use lib.Dec.{eqb, ltb}
 use Rattle.section.specs.Bytes.{truthNumber}
-use Rattle.section.specs.declared.Settings.{Settings}
 use Rattle.section.specs.declared.Act.the-variants.{Set, Announce, Acknowledge}
 use Rattle.section.specs.declared.Walk.{Walk}
 use Rattle.section.specs.declared.Walk.the-variants.{Settled, Turn}
@@ -14,10 +13,11 @@ use Rattle.section.specs.Geometry.{rank}
 use Rattle.section.specs.Items.{items}
 use Rattle.section.specs.Numbers.{mostPosts}
 use Rattle.section.specs.Range.{inRange}
-use Rattle.section.specs.Settings.{isMaterialised}
 use Rattle.section.specs.Store.{trackOf}
+use Rattle.rules.specs.declared.Line.{Line}
 use Rattle.rules.specs.declared.Site.{Site}
-use Rattle.rules.specs.Site.{siteOn, rankAt, upAt, commands, watchedOccupied}
+use Rattle.rules.specs.Line.{lineIn, isMaterialised}
+use Rattle.rules.specs.Site.{lastBefore, siteOn, rankAt, upAt, openAt, commands, watchedOccupied}
 
 -- how many posts, from the sending end on, have set in this reversal: "the posts before the turn's post have set, and that post too when
 -- its act is announce"
@@ -27,10 +27,10 @@ setCount n up (Turn p Set) = rank n up p
 setCount n up (Turn p Announce) = suc (rank n up p)
 setCount n up (Turn p Acknowledge) = rank n up p
 
--- "the post before has set in this reversal and this one hasn't", of the post of rank j
-unfoldable pub isNextToSet : ℕ → ℕ → Bool
-isNextToSet count zero = false
-isNextToSet count (suc j) = ltb j count && not (ltb (suc j) count)
+-- "the post before has set in this reversal and this one hasn't", of the post of rank j; `inService` tells which posts are in service
+unfoldable pub isNextToSet : (ℕ → Bool) → ℕ → ℕ → Bool
+isNextToSet inService count zero = false
+isNextToSet inService count (suc j) = ltb (lastBefore inService (suc j)) count && not (ltb (suc j) count)
 
 pub record Lamps : Type 0 where
   pub materialised : Bool
@@ -55,11 +55,11 @@ unfoldable pub shown : Lamps → Indications
 shown l = record { circulation = circulation l; troncon = troncon l; permission = truthNumber (l .permission) }
 
 -- at a site, with the trains of its track
-unfoldable pub lampsAt : Settings → Site → List ℕ → Lamps
+unfoldable pub lampsAt : Line → Site → List ℕ → Lamps
 lampsAt c e trains = record {
   materialised = isMaterialised c;
   cvt = e .own .device;
-  nextToSet = isNextToSet (setCount (c .posts) (upAt c e) (e .walk)) (rankAt c e);
+  nextToSet = isNextToSet (openAt c (e .track) (e .cvt)) (setCount (c .posts) (upAt c e) (e .walk)) (rankAt c e);
   fault1 = e .own .faults .one;
   fault3 = e .own .faults .three;
   occupied = watchedOccupied c e trains;
@@ -72,7 +72,7 @@ dark = record { circulation = 0; troncon = 0; permission = 0 }
 
 unfoldable pub indicationsOn : Section → Bool → ℕ → Indications
 indicationsOn s track p =
-    shown (lampsAt (s .settings) (siteOn track p (trackOf s track)) (trackOf s track .trains))
+    shown (lampsAt (lineIn s) (siteOn track p (trackOf s track)) (trackOf s track .trains))
 
 -- all 0 for a state that gives 6, and for a track or a post that the section has not
 unfoldable pub indications : Section → ℕ → ℕ → Indications

@@ -1,8 +1,10 @@
+pub mod Line
 pub mod Site
 pub mod Table
 pub mod Judge
-pub mod Parts
 pub mod Indications
+pub mod AllOpen
+pub mod Parts
 pub mod Demand3
 pub mod VoieOccupee
 pub mod RangesKept

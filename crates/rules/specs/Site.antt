@@ -5,19 +5,20 @@ use mathlib.Core.Bool.{Bool, true, false, cond, not, _&&_, _||_}
 use mathlib.Core.List.{List}
 use lib.ListN.{getD}
 use lib.Dec.{eqb}
-use Rattle.section.specs.declared.Settings.{Settings}
 use Rattle.section.specs.declared.Act.{Act}
 use Rattle.section.specs.declared.Act.the-variants.{Set, Announce, Acknowledge}
 use Rattle.section.specs.declared.Walk.{Walk}
 use Rattle.section.specs.declared.Walk.the-variants.{Settled, Turn}
 use Rattle.section.specs.declared.Track.{Track}
 use Rattle.section.specs.declared.Section.{Section}
+use Rattle.rules.specs.declared.Line.{Line}
 use Rattle.rules.specs.declared.Site.{Site}
 use Rattle.section.specs.Geometry.{upward, rank, block, isFirst, isLast}
 use Rattle.section.specs.Crossings.{liesIn, lacksZones}
 use Rattle.section.specs.Numbers.{mostCrossings}
-use Rattle.section.specs.Settings.{isMaterialised, isSignalled}
+use Rattle.section.specs.Settings.{isSignalled}
 use Rattle.section.specs.Store.{trackOf, postOn}
+use Rattle.rules.specs.Line.{isMaterialised, isOpen}
 
 -- ## The walk of a reversal
 
@@ -81,7 +82,24 @@ reach ends test (suc f) j = test j || (not (ends (suc j)) && reach ends test f (
 abbrev pub stretchHolds : (ℕ → Bool) → (ℕ → ℕ) → ℕ → ℕ → Bool
 stretchHolds ends train f j = reach ends (λ (i : ℕ). isTrain (train i)) f j
 
+-- the first rank from j on that passes the test; the one f further where none before that does
+unfoldable pub firstFrom : (ℕ → Bool) → ℕ → ℕ → ℕ
+firstFrom test zero j = j
+firstFrom test (suc f) j = cond (test j) j (firstFrom test f (suc j))
+
+-- the last rank before j that passes the test; 0 where none does
+unfoldable pub lastBefore : (ℕ → Bool) → ℕ → ℕ
+lastBefore test zero = zero
+lastBefore test (suc j) = cond (test j) j (lastBefore test j)
+
 -- ## The occupancy
+
+-- what a check asks of the other track
+pub record Other : Type 0 where
+  pub onVns : Bool  -- it is settled on VNS
+
+abbrev pub otherOn : Track → Other
+otherOn t = record { onVns = settledOnVns t }
 
 pub record Occupancy : Type 0 where
   pub watched : Bool  -- a train in the part that the post commands
@@ -90,9 +108,9 @@ pub record Occupancy : Type 0 where
   pub anywhere : Bool  -- a train anywhere on the track
   pub stretchOccupied : Bool  -- a train in the stretch that begins at the post
   pub numberOnTrack : Bool  -- the step's number is on the track
-  pub otherOnVns : Bool  -- the other track is settled on VNS
+  pub other : Other  -- the other track
 
-module _ (c : Settings) where
+module _ (c : Line) where
   abbrev pub upAt : Site → Bool
   upAt e = upward (e .track) (e .cvt)
 
@@ -112,9 +130,13 @@ module _ (c : Settings) where
   abbrev pub blockBefore : Site → ℕ
   blockBefore e = block (c .posts) (upAt e) (rankAt e - 1)
 
-  -- the next post of the walk
-  abbrev pub nextPost : Site → ℕ
-  nextPost e = cond (upAt e) (suc (e .post)) (e .post - 1)
+  -- the post of rank j is open
+  unfoldable pub openAt : Bool → Bool → ℕ → Bool
+  openAt track cvt j = isOpen c (rank (c .posts) (upward track cvt) j)
+
+  -- the next post of the walk, at the latest the receiving end
+  unfoldable pub nextPost : Site → ℕ
+  nextPost e = rank (c .posts) (upAt e) (firstFrom (openAt (e .track) (e .cvt)) (c .posts - suc (suc (rankAt e))) (suc (rankAt e)))
 
   -- a stretch ends, and the next begins, at the post of rank j: "for VNS, one block section. For CVT it reaches from one signalled post
   -- to the next (art. 903)."
@@ -125,13 +147,18 @@ module _ (c : Settings) where
   abbrev pub trainAt : Bool → Bool → List ℕ → ℕ → ℕ
   trainAt track cvt trains j = getD trains (block (c .posts) (upward track cvt) j) 0
 
-  -- a crossing lies in the block section ahead; the receiving end has none ahead
+  -- a block section ahead of the post, up to the next open post, passes the test; the receiving end has none ahead
+  unfoldable pub liesAhead : (ℕ → Bool) → Site → Bool
+  liesAhead test e =
+      reach (openAt (e .track) (e .cvt)) (λ (j : ℕ). test (block (c .posts) (upAt e) j)) (c .posts - suc (rankAt e)) (rankAt e)
+
+  -- a crossing lies ahead
   unfoldable pub crossingAhead : Site → Bool
-  crossingAhead e = not (atReceivingEnd e) && anyOf (liesIn (blockAhead e)) mostCrossings (c .crossings)
+  crossingAhead e = liesAhead (λ (i : ℕ). anyOf (liesIn i) mostCrossings (c .crossings)) e
 
   -- one "without zones" does
   unfoldable pub zonesLackAhead : Site → Bool
-  zonesLackAhead e = not (atReceivingEnd e) && anyOf (λ (b : ℕ). liesIn (blockAhead e) b && lacksZones b) mostCrossings (c .crossings)
+  zonesLackAhead e = liesAhead (λ (i : ℕ). anyOf (λ (b : ℕ). liesIn i b && lacksZones b) mostCrossings (c .crossings)) e
 
   -- a part ends, and the next begins, at the post of rank j: "On materialised lines, art. 910 gives the control of a part to the posts with
   -- counter-track signals", in both directions; "Telephone lines keep the earlier rule": every post ends one
@@ -155,8 +182,8 @@ module _ (c : Settings) where
   unfoldable pub lastEntered : Site → List ℕ → ℕ
   lastEntered e last = cond (atReceivingEnd e) 0 (getD last (blockAhead e) 0)
 
-  unfoldable pub occupancyAt : Bool → Site → ℕ → List ℕ → List ℕ → Occupancy
-  occupancyAt otherOnVns e number trains last = record {
+  unfoldable pub occupancyAt : Other → Site → ℕ → List ℕ → List ℕ → Occupancy
+  occupancyAt other e number trains last = record {
     watched = watchedOccupied e trains;
     trainBefore = trainBefore e trains;
     lastAhead = lastEntered e last;
@@ -164,5 +191,5 @@ module _ (c : Settings) where
     stretchOccupied =
         stretchHolds (stretchEnds (e .track) (e .cvt)) (trainAt (e .track) (e .cvt) trains) (c .posts - suc (rankAt e)) (rankAt e);
     numberOnTrack = anyOf (isNumber number) (c .posts - 1) trains;
-    otherOnVns = otherOnVns;
+    other = other;
   }

@@ -5,7 +5,6 @@ use mathlib.Core.Bool.{Bool, true, false, cond, not, _&&_, _||_}
 use mathlib.Core.List.{List, [], _∷_}
 use lib.ListN.{set}
 use lib.Dec.{eqb}
-use Rattle.section.specs.declared.Settings.{Settings}
 use Rattle.section.specs.declared.Post.{Post}
 use Rattle.section.specs.declared.Fault.{Fault}
 use Rattle.section.specs.declared.Fault.the-variants.{One, Two, Three, Four}
@@ -18,11 +17,12 @@ use Rattle.section.specs.declared.Step.the-variants.{FaultOff, Release, Key, Ca
 use Rattle.section.specs.declared.Said.the-variants.{Nothing, Cvt, Cvtz, Vns, Vnsz}
 use Rattle.section.specs.Numbers.{mostSeals}
 use Rattle.section.specs.Post.{turned, permitted, measured, faulty, marked, sealed, cautioned, hasFault}
-use Rattle.section.specs.Settings.{isMaterialised}
+use Rattle.rules.specs.declared.Line.{Line}
 use Rattle.rules.specs.declared.Site.{Site}
 use Rattle.rules.specs.declared.Movement.{Movement}
 use Rattle.rules.specs.declared.Movement.the-variants.{Stays, Enters, Moves, Leaves}
 use Rattle.rules.specs.declared.Effect.{Effect}
+use Rattle.rules.specs.Line.{isMaterialised}
 use Rattle.rules.specs.Site.{isSettled, isTurn, Occupancy, rankAt, atSendingEnd, atReceivingEnd, blockAhead, blockBefore, nextPost, stretchEnds}
 use Rattle.rules.specs.Site.{crossingAhead, zonesLackAhead, commands}
 
@@ -60,7 +60,7 @@ orderAllowed e otherOnVns = e .cvt || otherOnVns
 abbrev pub measuresSuffice : Site → Bool
 measuresSuffice e = e .cvt || e .own .measures
 
-module _ (c : Settings) where
+module _ (c : Line) where
   -- 13 of order: "telephone form: a train anywhere on the track (art. 907)"; materialised: one in the part
   abbrev pub orderOccupied : Occupancy → Bool
   orderOccupied g = cond (isMaterialised c) (g .watched) (g .anywhere)
@@ -88,7 +88,7 @@ module _ (c : Settings) where
 
   unfoldable pub checks : Step → Site → Occupancy → List Check
   checks (Order p) e g =
-      (isSettled (e .walk) else 11) ∷ (atSendingEnd c e else 12) ∷ (orderAllowed e (g .otherOnVns) else 14) ∷ (not (orderOccupied g) else 13) ∷ []
+      (isSettled (e .walk) else 11) ∷ (atSendingEnd c e else 12) ∷ (orderAllowed e (g .other .onVns) else 14) ∷ (not (orderOccupied g) else 13) ∷ []
   checks (Set p) e g =
       (isTurn (e .walk) (e .post) act.Set else 15) ∷ (not (g .watched) else 13) ∷ (fault1Confirmed e else 18) ∷ (measuresSuffice e else 16)
       ∷ (not (e .own .faults .two) else 19) ∷ []

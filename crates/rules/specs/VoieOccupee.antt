@@ -8,17 +8,20 @@ use mathlib.Core.Path.{_≡_}
 use mathlib.Core.List.{List}
 use lib.ListN.{getD}
 use Rattle.section.specs.declared.Settings.{Settings}
+use Rattle.section.specs.declared.Section.{Section}
 use Rattle.section.specs.declared.Act.the-variants.{Announce, Acknowledge}
 use Rattle.section.specs.declared.Walk.the-variants.{Turn}
 use Rattle.section.specs.declared.Track.{Track}
 use Rattle.section.specs.Fresh.{freshSection}
 use Rattle.section.specs.Geometry.{upward, rank, block}
 use Rattle.section.specs.Store.{trackOf}
+use Rattle.rules.specs.declared.Line.{Line}
+use Rattle.rules.specs.Line.{lineIn}
 use Rattle.rules.specs.Site.{partEnds, trainAt}
 use Rattle.rules.specs.Indications.{setCount}
 use Rattle.rules.specs.Demand3.{stateAfter}
 
-module _ (c : Settings) (b : Bool) (t : Track) where
+module _ (c : Line) (b : Bool) (t : Track) where
   -- no part ends after the post of rank i, up to that of rank j
   abbrev pub SamePart : ℕ → ℕ → Type 0
   SamePart i j = (k : ℕ) → i < k → k ≤ j → partEnds c b (t .cvt) k ≡ false
@@ -43,5 +46,9 @@ module _ (c : Settings) (b : Bool) (t : Track) where
         (p : ℕ) → t .walk ≡ Turn p Acknowledge
         → getD (t .trains) (block (c .posts) (upward b (t .cvt)) (rank (c .posts) (upward b (t .cvt)) p - 1)) 0 ≡ 0
 
+-- on both tracks of a section
+abbrev pub NeverSaidIn : Section → Type 0
+NeverSaidIn s = (b : Bool) → FreeToAnnounce (lineIn s) b (trackOf s b)
+
 abbrev pub VoieOccupeeNeverSaid : Settings → List (List ℕ) → Type 0
-VoieOccupeeNeverSaid c offered = (b : Bool) → FreeToAnnounce c b (trackOf (stateAfter (freshSection c) offered) b)
+VoieOccupeeNeverSaid c offered = NeverSaidIn (stateAfter (freshSection c) offered)

@@ -16,7 +16,7 @@ use Rattle.section.specs.declared.Step.the-variants.{MeasuresOn, Measure
 use Rattle.section.specs.declared.Decoded.the-variants.{Well, Malformed}
 use Rattle.section.specs.Bytes.{byte, le16, within, AllBytes, truthNumber}
 use Rattle.section.specs.Numbers.{largestTrain, stepLength, lastFault, lastKind, releaseKind, cautionKind}
-use Rattle.section.specs.Step.{isKind, isTrainKind, isFaultKind, isFault, isTrain}
+use Rattle.section.specs.Step.{isKind, isTrainKind, isFaultKind, isFault, isTrain, trackWellFormed}
 use Rattle.section.specs.Step.{Fields, fields, fieldsIn, faultWellFormed, numberWellFormed, placeWellFormed, fieldsWellFormed, wellFormed}
 use Rattle.section.specs.Step.{faultOf, stepOf, stepSaid, decoded, faultNumber, fieldsOf}
 use Rattle.section.proofs.Laws.{and-left, and-right}
@@ -45,7 +45,7 @@ module _ (n : ℕ) (s : List ℕ) (e : wellFormed n s ≡ true) where
 -- what the tests of the fields ask
 pub record WellFormed (n track : ℕ) (f : Fields) (zeros : ℕ) : Type 0 where
   pub kind-well-formed : isKind (f .kind) ≡ true
-  pub track-below : track < 2
+  pub track-well-formed : trackWellFormed (f .kind) track ≡ true
   pub post-below : f .post < n
   pub fault-well-formed : faultWellFormed (f .kind) (f .fault) ≡ true
   pub number-well-formed : numberWellFormed (f .kind) (f .number) ≡ true
@@ -55,7 +55,8 @@ pub well-formed-fields : (n track : ℕ) (f : Fields) (zeros : ℕ) → fieldsWe
 unfolding fieldsWellFormed placeWellFormed
 well-formed-fields n track f zeros e =
     let kind = isKind (f .kind) in
-    let spot = ltb track 2 && ltb (f .post) n in
+    let line = trackWellFormed (f .kind) track in
+    let spot = line && ltb (f .post) n in
     let fault = faultWellFormed (f .kind) (f .fault) in
     let number = numberWellFormed (f .kind) (f .number) in
     let place = and-left (kind && spot) (fault && (number && eqb zeros 0)) e in
@@ -63,8 +64,8 @@ well-formed-fields n track f zeros e =
     let last = and-right fault (number && eqb zeros 0) rest in
     record {
       kind-well-formed = and-left kind spot place;
-      track-below = ltb-true track 2 (and-left (ltb track 2) (ltb (f .post) n) (and-right kind spot place));
-      post-below = ltb-true (f .post) n (and-right (ltb track 2) (ltb (f .post) n) (and-right kind spot place));
+      track-well-formed = and-left line (ltb (f .post) n) (and-right kind spot place);
+      post-below = ltb-true (f .post) n (and-right line (ltb (f .post) n) (and-right kind spot place));
       fault-well-formed = and-left fault (number && eqb zeros 0) rest;
       number-well-formed = and-left number (eqb zeros 0) last;
       zeros-none = eqb-true zeros 0 (and-right number (eqb zeros 0) last);
@@ -100,17 +101,17 @@ module _ (p f z : ℕ) where
   plain : {k : ℕ} → eqb f 0 ≡ true → eqb z 0 ≡ true → fields k p 0 0 ≡ fields k p f z
   plain no-fault no-number = rw (eqb-true f 0 no-fault, eqb-true z 0 no-number)
 
-  numbered : {k : ℕ} {number : Bool} → eqb f 0 ≡ true → number ≡ true → fields k p 0 z ≡ fields k p f z
-  numbered no-fault h = rw (eqb-true f 0 no-fault)
+  train : {k : ℕ} {number : Bool} → eqb f 0 ≡ true → number ≡ true → fields k p 0 z ≡ fields k p f z
+  train no-fault h = rw (eqb-true f 0 no-fault)
 
   faulted : {k : ℕ} → isFault f ≡ true → eqb z 0 ≡ true → fields k p (faultNumber (faultOf f)) 0 ≡ fields k p f z
   faulted h no-number = rw (fault-back f h, eqb-true z 0 no-number)
 
   fields-again : (k : ℕ) → isKind k ≡ true → faultWellFormed k f ≡ true → numberWellFormed k z ≡ true → fieldsOf (stepOf (fields k p f z)) ≡ fields k p f z
   unfolding stepOf faultWellFormed numberWellFormed within
-  fields-again k w =
+  fields-again =
       from-one (λ (k : ℕ). faultWellFormed k f ≡ true → numberWellFormed k z ≡ true → fieldsOf (stepOf (fields k p f z)) ≡ fields k p f z) lastKind
-      (plain, (plain, (plain, (plain, (numbered, (numbered, (numbered, (plain, (plain, (faulted, (faulted, (numbered, (plain, (numbered, tt)))))))))))))) k w
+      (plain, (plain, (plain, (plain, (train, (train, (train, (plain, (plain, (faulted, (faulted, (train, (plain, (train, tt))))))))))))))
 
 pub fields-back :
     (f : Fields) → isKind (f .kind) ≡ true → faultWellFormed (f .kind) (f .fault) ≡ true → numberWellFormed (f .kind) (f .number) ≡ true →
@@ -156,10 +157,6 @@ own (Release p z) = record { same = refl; kind-well-formed = refl; fault-well-fo
 own (Key p) = record { same = refl; kind-well-formed = refl; fault-well-formed = refl }
 own (Caution p z) = record { same = refl; kind-well-formed = refl; fault-well-formed = refl }
 
-pub truth-within : (b : Bool) → ltb (truthNumber b) 2 ≡ true
-truth-within true = refl
-truth-within false = refl
-
 pub truth-same : (b : Bool) → eqb (truthNumber b) 1 ≡ b
 truth-same true = refl
 truth-same false = refl
@@ -181,6 +178,10 @@ number-small kind number e = small (isTrainKind kind || eqb kind cautionKind) (e
 pub kind-small : (kind : ℕ) → isKind kind ≡ true → kind ≤ lastKind
 unfolding within
 kind-small kind e = leb-true kind lastKind (and-right (leb 1 kind) (leb kind lastKind) e)
+
+pub track-small : (kind track : ℕ) → trackWellFormed kind track ≡ true → track < 2
+unfolding trackWellFormed
+track-small kind track e = ltb-true track 2 e
 
 pub fault-small : (kind fault : ℕ) → faultWellFormed kind fault ≡ true → fault ≤ lastFault
 unfolding faultWellFormed within

@@ -15,10 +15,6 @@ isSignalled mask p = eqb (mask / 2 ^ p % 2) 1
 unfoldable pub noneFrom : ℕ → ℕ → Bool
 noneFrom mask n = eqb (mask / 2 ^ n) 0
 
--- form 1 of the two forms, 0 telephone and 1 materialised
-unfoldable pub isMaterialised : Settings → Bool
-isMaterialised c = eqb (c .form) 1
-
 -- "byte 0 n; byte 1 form; bytes 2–3 a mask, .. both ends set, none above n−1; bytes 4–5 line number 1 to 999"; then the crossings
 unfoldable pub settingsInRange : Settings → Bool
 settingsInRange c =

@@ -1,6 +1,6 @@
 -- A step in its eight bytes (document 01, "The day file"; document 02, request 1).
 use Prim.Native.Nat.{ℕ, _/_, _%_}
-use mathlib.Core.Bool.{Bool, cond, _&&_, _||_}
+use mathlib.Core.Bool.{Bool, cond, _&&_, _||_, Bool·beq}
 use mathlib.Core.List.{List, [], _∷_}
 use lib.ListN.{length}
 use lib.Dec.{eqb, ltb, leb}
@@ -47,6 +47,10 @@ isTrainKind kind = within startKind leaveKind kind
 abbrev pub isFaultKind : ℕ → Bool
 isFaultKind kind = within faultOnKind faultOffKind kind
 
+-- a step of that kind whose bytes name that track stands on track b: one of any kind on its own track alone
+abbrev pub standsOn : ℕ → Bool → Bool → Bool
+standsOn kind track b = Bool·beq track b
+
 abbrev pub isFault : ℕ → Bool
 isFault fault = within 1 lastFault fault
 
@@ -65,9 +69,13 @@ numberWellFormed kind number =
     cond (isTrainKind kind || eqb kind cautionKind) (isTrain number)
     (cond (eqb kind releaseKind) (leb number largestTrain) (eqb number 0))
 
+-- "byte 1 track, 0 or 1", in every kind
+unfoldable pub trackWellFormed : ℕ → ℕ → Bool
+trackWellFormed kind track = ltb track 2
+
 -- "byte 0 kind, 1 to 13; byte 1 track, 0 or 1; byte 2 post, below n"
 unfoldable pub placeWellFormed : ℕ → ℕ → ℕ → ℕ → Bool
-placeWellFormed n kind track post = isKind kind && (ltb track 2 && ltb post n)
+placeWellFormed n kind track post = isKind kind && (trackWellFormed kind track && ltb post n)
 
 -- all of it, of the track, the fields and bytes 6–7
 unfoldable pub fieldsWellFormed : ℕ → ℕ → Fields → ℕ → Bool
@@ -148,6 +156,8 @@ bytesOf track f = f .kind ∷ track ∷ f .post ∷ f .fault ∷ f .number % 256
 unfoldable pub encoded : TrackStep → List ℕ
 encoded x = bytesOf (truthNumber (x .track)) (fieldsOf (x .step))
 
--- a step whose post and number are in their ranges: one that some bytes say
-unfoldable pub stepInRange : ℕ → Step → Bool
-stepInRange n x = ltb (postOf x) n && numberWellFormed (kindOf x) (numberOf x)
+-- a step whose track, post and number are in their ranges: one that some bytes say
+unfoldable pub stepInRange : ℕ → TrackStep → Bool
+stepInRange n x =
+    trackWellFormed (kindOf (x .step)) (truthNumber (x .track))
+    && (ltb (postOf (x .step)) n && numberWellFormed (kindOf (x .step)) (numberOf (x .step)))
