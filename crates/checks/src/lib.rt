@@ -5,8 +5,8 @@ ghost use Rattle.site.specs.OnTheLine.{OnTheLine};
 ghost use Rattle.site.specs.VerdictAt.{verdictAt};
 use reversal_checks::emergency;
 use reversal_checks::reversal;
+use rules::Line;
 use rules::Site;
-use section::Settings;
 use section::Step;
 use section::Trains;
 use train_checks::trains;
@@ -15,7 +15,7 @@ mod post;
 
 // The verdict of the table on a step at a site, beside a track that is or is not settled on VNS.
 pub fn verdict(
-    c: Settings,
+    c: Line,
     x: Step,
     e: Site,
     other_on_vns: bool,

@@ -4,19 +4,19 @@ ghost use mathlib.Core.Bool.{false};
 ghost use mathlib.Core.List.{[]};
 ghost use mathlib.Core.Path.{_≡_};
 ghost use Prim.Native.Nat.{ℕ};
-ghost use Rattle.section.specs.declared.Settings.{Settings};
+ghost use Rattle.rules.specs.declared.Line.{Line};
 ghost use Rattle.section.specs.declared.Step.the-variants.{MeasuresOn, MeasuresOff, FaultOn, FaultOff, Caution};
 ghost use Rattle.site.specs.OnTheLine.{OnTheLine};
 ghost use Rattle.site.specs.VerdictAt.{verdictAt};
 use crossings::crossing_ahead;
+use rules::Line;
 use rules::Site;
 use section::Fault;
 use section::Said;
-use section::Settings;
 use section::Verdict;
 
 pub fn measures_on(e: Site) -> Verdict
-    ensures { λ r. ⌜ ((c : Settings) → r ≡ verdictAt c false (MeasuresOn (e .post)) e [] []) ⌝ }
+    ensures { λ r. ⌜ ((c : Line) → r ≡ verdictAt c false (MeasuresOn (e .post)) e [] []) ⌝ }
 {
     if e.own.measures {
         return Verdict::Refused(21);
@@ -25,7 +25,7 @@ pub fn measures_on(e: Site) -> Verdict
 }
 
 pub fn measures_off(e: Site) -> Verdict
-    ensures { λ r. ⌜ ((c : Settings) → r ≡ verdictAt c false (MeasuresOff (e .post)) e [] []) ⌝ }
+    ensures { λ r. ⌜ ((c : Line) → r ≡ verdictAt c false (MeasuresOff (e .post)) e [] []) ⌝ }
 {
     if !e.own.measures {
         return Verdict::Refused(21);
@@ -37,7 +37,7 @@ pub fn measures_off(e: Site) -> Verdict
 }
 
 pub fn fault_on(e: Site, fault: Fault) -> Verdict
-    ensures { λ r. ⌜ ((c : Settings) → r ≡ verdictAt c false (FaultOn (e .post) fault) e [] []) ⌝ }
+    ensures { λ r. ⌜ ((c : Line) → r ≡ verdictAt c false (FaultOn (e .post) fault) e [] []) ⌝ }
 {
     if e.own.has_fault(fault) {
         return Verdict::Refused(21);
@@ -46,7 +46,7 @@ pub fn fault_on(e: Site, fault: Fault) -> Verdict
 }
 
 pub fn fault_off(e: Site, fault: Fault) -> Verdict
-    ensures { λ r. ⌜ ((c : Settings) → r ≡ verdictAt c false (FaultOff (e .post) fault) e [] []) ⌝ }
+    ensures { λ r. ⌜ ((c : Line) → r ≡ verdictAt c false (FaultOff (e .post) fault) e [] []) ⌝ }
 {
     if !e.own.has_fault(fault) {
         return Verdict::Refused(21);
@@ -55,7 +55,7 @@ pub fn fault_off(e: Site, fault: Fault) -> Verdict
 }
 
 // For any train.
-pub fn caution(c: Settings, e: Site) -> Verdict
+pub fn caution(c: Line, e: Site) -> Verdict
     requires { ⌜ OnTheLine c e ⌝ }
     ensures { λ r. ⌜ ((number : ℕ) → r ≡ verdictAt c false (Caution (e .post) number) e [] []) ⌝ }
 {

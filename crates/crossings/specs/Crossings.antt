@@ -1,7 +1,7 @@
 -- The level crossings that are looked for: as a test of a byte, and in the block section ahead.
 use Prim.Native.Nat.{ℕ}
 use mathlib.Core.Bool.{Bool, not, _&&_}
-use Rattle.section.specs.declared.Settings.{Settings}
+use Rattle.rules.specs.declared.Line.{Line}
 use Rattle.section.specs.Crossings.{lacksZones, liesIn}
 use Rattle.section.specs.Numbers.{mostCrossings}
 use Rattle.rules.specs.declared.Site.{Site}
@@ -14,5 +14,5 @@ abbrev pub isSought : Sought → ℕ → ℕ → Bool
 isSought AnyCrossing i = liesIn i
 isSought WithoutZones i = λ (b : ℕ). liesIn i b && lacksZones b
 
-unfoldable pub soughtAhead : Settings → Site → Sought → Bool
+unfoldable pub soughtAhead : Line → Site → Sought → Bool
 soughtAhead c e sought = not (atReceivingEnd c e) && anyOf (isSought sought (blockAhead c e)) mostCrossings (c .crossings)

@@ -6,7 +6,7 @@ use mathlib.Core.Path.{_≡_, refl, subst}
 use native.Mathlib.Omega.{arith}
 use lib.Dec.{eqb}
 use borrow.Author.Tests.{eqb-true, eqb-false, not-true}
-use Rattle.section.specs.declared.Settings.{Settings}
+use Rattle.rules.specs.declared.Line.{Line}
 use Rattle.section.specs.declared.Act.the-variants as act
 use Rattle.section.specs.declared.Walk.{Walk}
 use Rattle.section.specs.declared.Walk.the-variants.{Settled, Turn}
@@ -38,7 +38,7 @@ passed false k ks said w h = let z : _≡_ {A = ℕ} 0 1 = cc in absurd (omega a
 
 -- ## The block sections beside the post
 
-module _ (c : Settings) (e : Site) (line : OnTheLine c e) where
+module _ (c : Line) (e : Site) (line : OnTheLine c e) where
   between : not (atSendingEnd c e || atReceivingEnd c e) ≡ true → HasBefore c e × HasAhead c e
   between k =
       let ends = or-false (atSendingEnd c e) (atReceivingEnd c e) (not-true (atSendingEnd c e || atReceivingEnd c e) k) in
@@ -58,7 +58,7 @@ module _ (c : Settings) (e : Site) (line : OnTheLine c e) where
 -- ## Each kind
 
 module _
-    (c : Settings)
+    (c : Line)
     (e : Site)
     (g : Occupancy)
     (line : OnTheLine c e)

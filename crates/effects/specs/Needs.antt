@@ -1,6 +1,6 @@
 -- What the effect of a step needs: an accepted step has it, and the block sections of its movement.
 use Prim.Native.Nat.{_<_}
-use Rattle.section.specs.declared.Settings.{Settings}
+use Rattle.rules.specs.declared.Line.{Line}
 use Rattle.section.specs.declared.Step.{Step}
 use Rattle.section.specs.declared.Step.the-variants.{Order, Set, Announce, Acknowledge, Start, Pass, Leave, MeasuresOn, MeasuresOff, FaultOn}
 use Rattle.section.specs.declared.Step.the-variants.{FaultOff, Release, Key, Caution}
@@ -10,7 +10,7 @@ use Rattle.rules.specs.Table.{effect}
 use Rattle.site.specs.OnTheLine.{HasAhead}
 use Rattle.movements.specs.Needs.{HasBlocks}
 
-module _ (c : Settings) (e : Site) where
+module _ (c : Line) (e : Site) where
   -- "announce (never at the last post)"; key with a "seal count 0 to 999" after it
   unfoldable pub EffectNeeds : Step → Type 0
   EffectNeeds (Order p) = Unit {0}
@@ -29,6 +29,6 @@ module _ (c : Settings) (e : Site) where
   EffectNeeds (Caution p number) = Unit {0}
 
 -- what an accepted step has
-pub record AcceptedHas (c : Settings) (x : Step) (e : Site) : Type 0 where
+pub record AcceptedHas (c : Line) (x : Step) (e : Site) : Type 0 where
   pub effectNeeds : EffectNeeds c e x
   pub blocks : HasBlocks c e (effect c x e .train)

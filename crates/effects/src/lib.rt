@@ -12,16 +12,16 @@ use reversal_effects::next_post;
 use reversal_effects::setting;
 use reversal_effects::walking;
 use rules::Effect;
+use rules::Line;
 use rules::Movement;
 use rules::Site;
 use section::Act;
 use section::Said;
-use section::Settings;
 use section::Step;
 use section::Walk;
 
 // The effect of each kind.
-pub fn effect_of(c: Settings, x: Step, e: Site) -> Effect
+pub fn effect_of(c: Line, x: Step, e: Site) -> Effect
     requires { ⌜ (OnTheLine c e) × (EffectNeeds c e x) ⌝ }
     ensures { λ r. ⌜ r ≡ effect c x e ⌝ }
 {

@@ -7,14 +7,14 @@ use lib.Dec.{eqb, ltb, leb}
 use borrow.Author.Tests.{lt-ltb, le-ltb, le-leb, lt-leb}
 use mathlib.Core.List.{List}
 use mathlib.Core.Path.{_≡_, refl, _∙_, ap}
-use Rattle.section.specs.declared.Settings.{Settings}
+use Rattle.rules.specs.declared.Line.{Line}
 use Rattle.section.specs.declared.Act.{Act}
 use Rattle.section.specs.declared.Walk.{Walk}
 use Rattle.section.specs.declared.Walk.the-variants.{Turn}
 use Rattle.section.specs.declared.Section.{Section}
 use Rattle.section.specs.Bytes.{truthNumber}
 use Rattle.section.specs.Range.{walkInRange, inRange}
-use Rattle.section.specs.Settings.{isMaterialised}
+use Rattle.rules.specs.Line.{isMaterialised}
 use Rattle.section.specs.Store.{trackOf}
 use Rattle.section.proofs.Laws.{turn-right}
 use Rattle.rules.specs.declared.Site.{Site}
@@ -71,7 +71,7 @@ pub flashing-is :
 flashing-is n k j rank r u up w a b d e = cc
 
 pub index-parts :
-    (c : Settings) (e : Site) (trains : List ℕ) (post m n o k : ℕ) {materialised next occupied commanded : Bool}
+    (c : Line) (e : Site) (trains : List ℕ) (post m n o k : ℕ) {materialised next occupied commanded : Bool}
     → post ≡ truthNumber (e .own .device) * 2 + truthNumber (e .own .faults .one) * 8 + truthNumber (e .own .faults .three) * 16
     + truthNumber (e .own .permission) * 128
     → materialised ≡ isMaterialised c → m ≡ truthNumber materialised

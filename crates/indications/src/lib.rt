@@ -11,12 +11,12 @@ ghost use Rattle.rules.specs.Indications.{setCount, isNextToSet, shown, lampsAt
 ghost use Rattle.rules.specs.LampTable.{indexOf, takenApart};
 ghost use Rattle.site.specs.InItsRanges.{InItsRanges};
 use occupancy::part::watched_occupied;
+use rules::Line;
 use rules::Site;
 use section::Act;
 use section::Indications;
 use section::Post;
 use section::Section;
-use section::Settings;
 use section::Track;
 use section::Trains;
 use section::Walk;
@@ -57,7 +57,7 @@ fn is_next_to_set(count: u8, j: u8) -> bool
 }
 
 // The post before has set in this reversal and this one has not.
-fn is_next(c: Settings, e: Site) -> bool
+fn is_next(c: Line, e: Site) -> bool
     requires { ⌜ InItsRanges c e ⌝ }
     ensures { λ r. ⌜ r ≡ isNextToSet (setCount (c .posts) (upAt c e) (e .walk)) (rankAt c e) ⌝ }
 {
@@ -77,7 +77,7 @@ fn index_of_post(own: Post) -> u8
 }
 
 // The index of a site's eight bits in the lamp table.
-fn index_at(c: Settings, e: Site, trains: &Trains) -> u8
+fn index_at(c: Line, e: Site, trains: &Trains) -> u8
     requires { ⌜ InItsRanges c e ⌝ }
     ensures { λ r. ⌜ r ≡ indexOf (lampsAt c e (now (trains .entry))) ⌝ }
 {
@@ -99,7 +99,7 @@ fn taken_apart(entry: u8) -> Indications
 }
 
 // What the post of a site shows, read from the lamp table.
-fn shown_at(c: Settings, e: Site, trains: &Trains) -> Indications
+fn shown_at(c: Line, e: Site, trains: &Trains) -> Indications
     requires { ⌜ InItsRanges c e ⌝ }
     ensures { λ r. ⌜ r ≡ shown (lampsAt c e (now (trains .entry))) ⌝ }
 {
@@ -107,7 +107,7 @@ fn shown_at(c: Settings, e: Site, trains: &Trains) -> Indications
 }
 
 // What a post of a track in its ranges shows.
-pub fn shown_on(c: Settings, track: bool, post: u8, t: Track) -> Indications
+pub fn shown_on(c: Line, track: bool, post: u8, t: Track) -> Indications
     requires { ⌜ (settingsInRange c ≡ true) × (trackInRange (c .posts) track t ≡ true) × (post < c .posts) ⌝ }
     ensures { λ r. ⌜ r ≡ shown (lampsAt c (siteOn track post t) (t .trains)) ⌝ }
 {

@@ -3,7 +3,7 @@ use Prim.Native.Nat.{ℕ}
 use mathlib.Core.Bool.{Bool, true, false}
 use mathlib.Core.List.{List}
 use lib.ListN.{set}
-use Rattle.section.specs.declared.Settings.{Settings}
+use Rattle.rules.specs.declared.Line.{Line}
 use Rattle.section.specs.declared.Step.{Step}
 use Rattle.section.specs.declared.Track.{Track}
 use Rattle.section.specs.declared.Verdict.{Verdict}
@@ -27,7 +27,7 @@ unfoldable pub cellsOf : Verdict → List ℕ → List ℕ → List ℕ
 cellsOf (Accepted said) old new = new
 cellsOf (Refused k) old new = old
 
-module _ (c : Settings) (otherOnVns : Bool) (x : Step) (e : Site) (trains last : List ℕ) where
+module _ (c : Line) (otherOnVns : Bool) (x : Step) (e : Site) (trains last : List ℕ) where
   unfoldable pub judgedAtPost : PostAnswer
   judgedAtPost = judgedOf (verdictAt c otherOnVns x e trains last) (effect c x e) e
 
@@ -38,7 +38,7 @@ module _ (c : Settings) (otherOnVns : Bool) (x : Step) (e : Site) (trains last :
   lastAt = cellsOf (verdictAt c otherOnVns x e trains last) last (cellsAfter c false (effect c x e .train) e last)
 
 -- the track with what a step judged at its site leaves in its places
-unfoldable pub trackAt : Settings → Bool → Step → Site → Track → Track
+unfoldable pub trackAt : Line → Bool → Step → Site → Track → Track
 trackAt c otherOnVns x e t = record {
   posts = set (t .posts) (e .post) (judgedAtPost c otherOnVns x e (t .trains) (t .last) .own);
   trains = trainsAt c otherOnVns x e (t .trains) (t .last);

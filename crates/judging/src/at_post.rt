@@ -4,9 +4,9 @@ ghost use Rattle.section.specs.Step.{postOf};
 ghost use Rattle.site.specs.InItsRanges.{InItsRanges};
 ghost use Rattle.site.specs.Running.{onVns, siteWith};
 ghost use Rattle.judging.specs.AtPost.{asBefore, judgedAtPost, trainsAt, lastAt};
+use rules::Line;
 use rules::Site;
 use section::Post;
-use section::Settings;
 use section::Step;
 use section::TrackStep;
 use section::Trains;
@@ -39,7 +39,7 @@ fn as_before(verdict: Verdict, e: Site) -> PostAnswer
 
 // Judges a step at its site, and moves its train where it is accepted.
 fn judge_at(
-    c: Settings,
+    c: Line,
     x: Step,
     e: Site,
     other_on_vns: bool,
@@ -75,7 +75,7 @@ fn judge_at(
 
 // Judges a step at its post, which keeps that record, on a track that runs so beside the other.
 pub fn judge_at_post(
-    c: Settings,
+    c: Line,
     x: TrackStep,
     own: Post,
     running: Running,

@@ -4,15 +4,15 @@ ghost use mathlib.Core.Path.{_≡_};
 ghost use Rattle.rules.specs.Table.{vacated, cellsAfter};
 ghost use Rattle.site.specs.OnTheLine.{OnTheLine, HasBefore};
 ghost use Rattle.movements.specs.Needs.{HasBlocks};
+use rules::Line;
 use rules::Movement;
 use rules::Site;
-use section::Settings;
 use section::Trains;
 use site::place::block_ahead;
 use site::place::block_before;
 
 // Empties the block section before the post, where cells are cleared.
-fn vacate(c: Settings, clears: bool, e: Site, cells: &mut Trains)
+fn vacate(c: Line, clears: bool, e: Site, cells: &mut Trains)
     requires { ⌜ (OnTheLine c e) × (HasBefore c e) ⌝ }
     ensures { λ _. ⌜ now (cells .exit) ≡ vacated c clears e (now (cells .entry)) ⌝ }
 {
@@ -23,7 +23,7 @@ fn vacate(c: Settings, clears: bool, e: Site, cells: &mut Trains)
 }
 
 // The numbers of the block sections after a movement: of the trains, where what is left is cleared, or of the last trains.
-pub fn move_cells(c: Settings, clears: bool, m: Movement, e: Site, cells: &mut Trains)
+pub fn move_cells(c: Line, clears: bool, m: Movement, e: Site, cells: &mut Trains)
     requires { ⌜ (OnTheLine c e) × (HasBlocks c e m) ⌝ }
     ensures { λ _. ⌜ now (cells .exit) ≡ cellsAfter c clears m e (now (cells .entry)) ⌝ }
 {

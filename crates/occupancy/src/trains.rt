@@ -8,8 +8,8 @@ ghost use Rattle.section.specs.Geometry.{block};
 ghost use Rattle.rules.specs.Site.{anyOf, atSendingEnd, atReceivingEnd, blockAhead, trainBefore};
 ghost use Rattle.site.specs.OnTheLine.{OnTheLine};
 ghost use Rattle.occupancy.specs.Sought.{isSought};
+use rules::Line;
 use rules::Site;
-use section::Settings;
 use section::Trains;
 use section::positions;
 use site::place::block_ahead;
@@ -62,7 +62,7 @@ pub fn any_of(m: u8, sought: Sought, trains: &Trains) -> bool
 }
 
 // The train in the block section before the post.
-pub fn train_before(c: Settings, e: Site, trains: &Trains) -> u16
+pub fn train_before(c: Line, e: Site, trains: &Trains) -> u16
     requires { ⌜ (OnTheLine c e) × (atSendingEnd c e ≡ false) ⌝ }
     ensures { λ r. ⌜ r ≡ trainBefore c e (now (trains .entry)) ⌝ }
 {
@@ -70,7 +70,7 @@ pub fn train_before(c: Settings, e: Site, trains: &Trains) -> u16
 }
 
 // The train, or the last train, of the block section ahead.
-pub fn train_ahead(c: Settings, e: Site, cells: &Trains) -> u16
+pub fn train_ahead(c: Line, e: Site, cells: &Trains) -> u16
     requires { ⌜ (OnTheLine c e) × (atReceivingEnd c e ≡ false) ⌝ }
     ensures { λ r. ⌜ r ≡ getD (now (cells .entry)) (blockAhead c e) 0 ⌝ }
 {

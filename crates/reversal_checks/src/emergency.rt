@@ -7,11 +7,11 @@ ghost use Rattle.site.specs.OnTheLine.{OnTheLine};
 ghost use Rattle.site.specs.VerdictAt.{verdictAt};
 use occupancy::part::watched_occupied;
 use occupancy::trains::train_ahead;
+use rules::Line;
 use rules::Site;
 use section::Act;
 use section::MOST_SEALS;
 use section::Said;
-use section::Settings;
 use section::Trains;
 use section::Verdict;
 use site::conditions::fault1_confirmed;
@@ -20,7 +20,7 @@ use site::conditions::measures_suffice;
 use site::conditions::release_in_turn;
 use site::part::commands;
 
-pub fn release(c: Settings, e: Site, number: u16, trains: &Trains, last: &Trains) -> Verdict
+pub fn release(c: Line, e: Site, number: u16, trains: &Trains, last: &Trains) -> Verdict
     requires { ⌜ OnTheLine c e ⌝ }
     ensures { λ r. ⌜ r ≡ verdictAt c false (Release (e .post) number) e (now (trains .entry)) (now (last .entry)) ⌝ }
 {
@@ -42,7 +42,7 @@ pub fn release(c: Settings, e: Site, number: u16, trains: &Trains, last: &Trains
     Verdict::Accepted(Said::Nothing)
 }
 
-pub fn key(c: Settings, e: Site, trains: &Trains) -> Verdict
+pub fn key(c: Line, e: Site, trains: &Trains) -> Verdict
     requires { ⌜ OnTheLine c e ⌝ }
     ensures { λ r. ⌜ r ≡ verdictAt c false (Key (e .post)) e (now (trains .entry)) [] ⌝ }
 {

@@ -2,16 +2,16 @@
 ghost use mathlib.Core.Bool.{false};
 ghost use mathlib.Core.List.{[]};
 ghost use mathlib.Core.Path.{_≡_};
-ghost use Rattle.section.specs.declared.Settings.{Settings};
+ghost use Rattle.rules.specs.declared.Line.{Line};
 ghost use Rattle.section.specs.declared.Step.the-variants.{Order, Set, Announce, Acknowledge};
 ghost use Rattle.site.specs.OnTheLine.{OnTheLine};
 ghost use Rattle.site.specs.VerdictAt.{verdictAt};
 use occupancy::part::order_occupied;
 use occupancy::part::watched_occupied;
+use rules::Line;
 use rules::Site;
 use section::Act;
 use section::Said;
-use section::Settings;
 use section::Trains;
 use section::Verdict;
 use site::conditions::fault1_confirmed;
@@ -21,7 +21,7 @@ use site::conditions::measures_suffice;
 use site::conditions::order_allowed;
 use site::place::at_sending_end;
 
-pub fn order(c: Settings, e: Site, other_on_vns: bool, trains: &Trains) -> Verdict
+pub fn order(c: Line, e: Site, other_on_vns: bool, trains: &Trains) -> Verdict
     requires { ⌜ OnTheLine c e ⌝ }
     ensures { λ r. ⌜ r ≡ verdictAt c «other_on_vns» (Order (e .post)) e (now (trains .entry)) [] ⌝ }
 {
@@ -41,7 +41,7 @@ pub fn order(c: Settings, e: Site, other_on_vns: bool, trains: &Trains) -> Verdi
     Verdict::Accepted(Said::Nothing) // the reversal begins
 }
 
-pub fn set(c: Settings, e: Site, trains: &Trains) -> Verdict
+pub fn set(c: Line, e: Site, trains: &Trains) -> Verdict
     requires { ⌜ OnTheLine c e ⌝ }
     ensures { λ r. ⌜ r ≡ verdictAt c false (Set (e .post)) e (now (trains .entry)) [] ⌝ }
 {
@@ -66,7 +66,7 @@ pub fn set(c: Settings, e: Site, trains: &Trains) -> Verdict
 
 // Under any settings, as acknowledge.
 pub fn announce(e: Site) -> Verdict
-    ensures { λ r. ⌜ ((c : Settings) → r ≡ verdictAt c false (Announce (e .post)) e [] []) ⌝ }
+    ensures { λ r. ⌜ ((c : Line) → r ≡ verdictAt c false (Announce (e .post)) e [] []) ⌝ }
 {
     let walk = e.walk;
     if !is_turn(walk, e.post, Act::Announce) {
@@ -79,7 +79,7 @@ pub fn announce(e: Site) -> Verdict
 }
 
 pub fn acknowledge(e: Site) -> Verdict
-    ensures { λ r. ⌜ ((c : Settings) → r ≡ verdictAt c false (Acknowledge (e .post)) e [] []) ⌝ }
+    ensures { λ r. ⌜ ((c : Line) → r ≡ verdictAt c false (Acknowledge (e .post)) e [] []) ⌝ }
 {
     let walk = e.walk;
     if !is_turn(walk, e.post, Act::Acknowledge) {

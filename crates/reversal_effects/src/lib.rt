@@ -7,12 +7,12 @@ ghost use Rattle.rules.specs.Table.{setting};
 ghost use Rattle.site.specs.OnTheLine.{OnTheLine, HasAhead};
 ghost use Rattle.reversal_effects.specs.Walking.{walking};
 use rules::Effect;
+use rules::Line;
 use rules::Movement;
 use rules::Site;
 use section::Act;
 use section::Post;
 use section::Said;
-use section::Settings;
 use section::Walk;
 use section::positions;
 use site::place;
@@ -31,7 +31,7 @@ pub fn walking(e: Site, own: Post, walk: Walk, said: Said) -> Effect
 }
 
 // Set, and key after its seal: the last one changes the running direction and gives permission.
-pub fn setting(c: Settings, e: Site, own: Post) -> Effect
+pub fn setting(c: Line, e: Site, own: Post) -> Effect
     requires { ⌜ OnTheLine c e ⌝ }
     ensures { λ r. ⌜ r ≡ setting c e own ⌝ }
 {
@@ -50,7 +50,7 @@ pub fn setting(c: Settings, e: Site, own: Post) -> Effect
 }
 
 // The post at which the walk goes on after an announcement.
-pub fn next_post(c: Settings, e: Site) -> u8
+pub fn next_post(c: Line, e: Site) -> u8
     requires { ⌜ (OnTheLine c e) × (HasAhead c e) ⌝ }
     ensures { λ r. ⌜ r ≡ nextPost c e ⌝ }
 {

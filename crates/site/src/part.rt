@@ -5,15 +5,15 @@ ghost use Rattle.section.specs.Numbers.{mostPosts};
 ghost use Rattle.rules.specs.Site.{commands};
 ghost use Rattle.site.specs.Ends.{endsAt};
 ghost use Rattle.site.specs.OnTheLine.{OnTheLine};
+use crate::line::is_materialised;
 use crate::place::at_receiving_end;
-use crate::place::is_materialised;
 use crate::place::rank_at;
+use rules::Line;
 use rules::Site;
-use section::Settings;
 use section::positions;
 
 // Whether a stretch or a part ends at the post of rank j. The rank of a rank is the post.
-pub fn ends_at(c: Settings, signalled_only: bool, up: bool, j: u8) -> bool
+pub fn ends_at(c: Line, signalled_only: bool, up: bool, j: u8) -> bool
     requires { ⌜ (j < c .posts) × (c .posts ≤ mostPosts) ⌝ }
     ensures { λ r. ⌜ r ≡ endsAt c «signalled_only» up j ⌝ }
 {
@@ -24,7 +24,7 @@ pub fn ends_at(c: Settings, signalled_only: bool, up: bool, j: u8) -> bool
 }
 
 // Whether the post commands a part.
-pub fn commands(c: Settings, e: Site) -> bool
+pub fn commands(c: Line, e: Site) -> bool
     requires { ⌜ OnTheLine c e ⌝ }
     ensures { λ r. ⌜ r ≡ commands c e ⌝ }
 {

@@ -10,17 +10,17 @@ ghost use Rattle.rules.specs.Indications.{dark, trackIndications};
 ghost use Rattle.track_indications.specs.OnTrack.{shownOn};
 use indications::all_dark;
 use indications::shown_on;
+use rules::Line;
 use section::Indications;
 use section::MOST_POSTS;
 use section::Section;
-use section::Settings;
 use section::Track;
 
 // Posts 0 to 15.
 pub type PostsShown = [Indications; MOST_POSTS as usize];
 
 // A post of a track; dark where the track has no such post.
-fn post_shown(c: Settings, track: bool, post: u8, t: Track) -> Indications
+fn post_shown(c: Line, track: bool, post: u8, t: Track) -> Indications
     requires { ⌜ (settingsInRange c ≡ true) × (trackInRange (c .posts) track t ≡ true) ⌝ }
     ensures { λ r. ⌜ r ≡ shownOn c track t post ⌝ }
 {
@@ -30,7 +30,7 @@ fn post_shown(c: Settings, track: bool, post: u8, t: Track) -> Indications
     shown_on(c, track, post, t)
 }
 
-fn posts_shown(c: Settings, track: bool, t: Track) -> PostsShown
+fn posts_shown(c: Line, track: bool, t: Track) -> PostsShown
     requires { ⌜ (settingsInRange c ≡ true) × (trackInRange (c .posts) track t ≡ true) ⌝ }
     ensures { λ r. ⌜ r ≡ items (shownOn c track t) mostPosts ⌝ }
 {

@@ -11,9 +11,9 @@ use occupancy::stretch::stretch_occupied;
 use occupancy::trains::Sought;
 use occupancy::trains::any_of;
 use occupancy::trains::train_before;
+use rules::Line;
 use rules::Site;
 use section::Said;
-use section::Settings;
 use section::Trains;
 use section::Verdict;
 use site::conditions::at_end;
@@ -22,7 +22,7 @@ use site::conditions::is_settled;
 use site::place::at_receiving_end;
 use site::place::at_sending_end;
 
-pub fn start(c: Settings, e: Site, number: u16, trains: &Trains) -> Verdict
+pub fn start(c: Line, e: Site, number: u16, trains: &Trains) -> Verdict
     requires { ⌜ OnTheLine c e ⌝ }
     ensures { λ r. ⌜ r ≡ verdictAt c false (Start (e .post) number) e (now (trains .entry)) [] ⌝ }
 {
@@ -48,7 +48,7 @@ pub fn start(c: Settings, e: Site, number: u16, trains: &Trains) -> Verdict
     Verdict::Accepted(Said::Nothing)
 }
 
-pub fn pass(c: Settings, e: Site, number: u16, trains: &Trains) -> Verdict
+pub fn pass(c: Line, e: Site, number: u16, trains: &Trains) -> Verdict
     requires { ⌜ OnTheLine c e ⌝ }
     ensures { λ r. ⌜ r ≡ verdictAt c false (Pass (e .post) number) e (now (trains .entry)) [] ⌝ }
 {
@@ -67,7 +67,7 @@ pub fn pass(c: Settings, e: Site, number: u16, trains: &Trains) -> Verdict
     Verdict::Accepted(Said::Nothing)
 }
 
-pub fn leave(c: Settings, e: Site, number: u16, trains: &Trains) -> Verdict
+pub fn leave(c: Line, e: Site, number: u16, trains: &Trains) -> Verdict
     requires { ⌜ OnTheLine c e ⌝ }
     ensures { λ r. ⌜ r ≡ verdictAt c false (Leave (e .post) number) e (now (trains .entry)) [] ⌝ }
 {

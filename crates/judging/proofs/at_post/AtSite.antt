@@ -4,7 +4,7 @@ use mathlib.Core.Bool.{Bool, true, false}
 use mathlib.Core.List.{List}
 use mathlib.Core.Path.{_≡_, sym, _∙_, ap}
 use Rattle.section.specs.declared.Said.{Said}
-use Rattle.section.specs.declared.Settings.{Settings}
+use Rattle.rules.specs.declared.Line.{Line}
 use Rattle.section.specs.declared.Step.{Step}
 use Rattle.section.specs.declared.Verdict.{Verdict}
 use Rattle.section.specs.declared.Verdict.the-variants.{Accepted, Refused}
@@ -14,7 +14,7 @@ use Rattle.rules.specs.Table.{effect, cellsAfter}
 use Rattle.site.specs.VerdictAt.{verdictAt}
 use Rattle.judging.specs.AtPost.{asBefore, judgedOf, cellsOf, judgedAtPost, trainsAt, lastAt}
 
-module _ (c : Settings) (otherOnVns : Bool) (x : Step) (e : Site) (trains last : List ℕ) {v : Verdict} (told : v ≡ verdictAt c otherOnVns x e trains last) where
+module _ (c : Line) (otherOnVns : Bool) (x : Step) (e : Site) (trains last : List ℕ) {v : Verdict} (told : v ≡ verdictAt c otherOnVns x e trains last) where
   told-judged : {w : Verdict} → v ≡ w → judgedOf w (effect c x e) e ≡ judgedAtPost c otherOnVns x e trains last
   unfolding judgedAtPost
   told-judged a = ap (λ (w : Verdict). judgedOf w (effect c x e) e) (sym a ∙ told)

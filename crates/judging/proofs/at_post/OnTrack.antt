@@ -6,7 +6,7 @@ use mathlib.Core.Path.{_≡_, refl, sym}
 use lib.ListN.{set}
 use lib.Seq.{set-getD}
 use Rattle.section.specs.declared.Said.{Said}
-use Rattle.section.specs.declared.Settings.{Settings}
+use Rattle.rules.specs.declared.Line.{Line}
 use Rattle.section.specs.declared.Step.{Step}
 use Rattle.section.specs.declared.Track.{Track}
 use Rattle.section.specs.declared.Section.{Section}
@@ -44,7 +44,7 @@ same-track s true = refl
 same-track s false = refl
 
 -- an accepted step leaves the table's track, a refused one the track as it was
-module _ (c : Settings) (otherOnVns : Bool) (x : Step) (e : Site) (t : Track) where
+module _ (c : Line) (otherOnVns : Bool) (x : Step) (e : Site) (t : Track) where
   accepted-track : {w : Said} → verdictAt c otherOnVns x e (t .trains) (t .last) ≡ Accepted w → trackAt c otherOnVns x e t ≡ trackAfter c x e t
   unfolding trackAt judgedAtPost trainsAt lastAt judgedOf cellsOf trackAfter
   accepted-track told = rw told refl

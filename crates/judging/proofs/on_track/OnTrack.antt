@@ -4,7 +4,7 @@ use mathlib.Core.Bool.{Bool, not}
 use mathlib.Core.List.{List}
 use mathlib.Core.Path.{_≡_, sym, _∙_}
 use lib.ListN.{set}
-use Rattle.section.specs.declared.Settings.{Settings}
+use Rattle.rules.specs.declared.Line.{Line}
 use Rattle.section.specs.declared.Track.{Track}
 use Rattle.section.specs.declared.Section.{Section}
 use Rattle.section.specs.declared.TrackStep.{TrackStep}
@@ -22,7 +22,7 @@ use Rattle.judging.specs.OnTrack.{judgedOnTrack}
 
 -- what the step leaves, put in its places
 pub put-back :
-    (c : Settings) (x : TrackStep) (t : Track) (other : Running) {p : ℕ} {r : Running} {j : PostAnswer} {trains last : List ℕ}
+    (c : Line) (x : TrackStep) (t : Track) (other : Running) {p : ℕ} {r : Running} {j : PostAnswer} {trains last : List ℕ}
     → p ≡ postOf (x .step)
     → r ≡ runningOf t
     → j ≡ judgedAtPost c (onVns other) (x .step) (siteWith (x .track) (postOf (x .step)) (postOn t p) r) (t .trains) (t .last)

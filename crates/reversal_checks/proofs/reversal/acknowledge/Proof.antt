@@ -1,7 +1,7 @@
 -- Each check is asked past those that held; the return on it is its refusal, the last return is past them all.
 use mathlib.Core.Bool.{false, not}
 use mathlib.Core.List.{[]}
-use Rattle.section.specs.declared.Settings.{Settings}
+use Rattle.rules.specs.declared.Line.{Line}
 use Rattle.section.specs.declared.Step.the-variants.{Acknowledge}
 use Rattle.rules.specs.Table.{checks, effect}
 use Rattle.site.specs.VerdictAt.{rowAt}
@@ -9,7 +9,7 @@ use Rattle.site.proofs.Row.{AskedAt, none, accepted, unless}
 use Rattle.reversal_checks.proofs.reversal.acknowledge.Statement.{statement}
 use Rattle.reversal_checks.proofs.reversal.acknowledge.Tie as tie
 
-in-turn : (s : Settings) (c : tie.After-is-turn) →
+in-turn : (s : Line) (c : tie.After-is-turn) →
     let e = c .before .args .e in AskedAt 1 15 (rowAt s false (Acknowledge (e .post)) e [] []) (not (c .is-turn .result))
 unfolding checks
 in-turn s c = unless none (c .is-turn .ensures)

@@ -1,8 +1,8 @@
 -- By its definition.
 use mathlib.Core.Path.{refl}
-use Rattle.section.specs.Settings.{isMaterialised}
-use Rattle.site.proofs.place.is_materialised.Statement.{statement}
-use Rattle.site.proofs.place.is_materialised.Tie as tie
+use Rattle.rules.specs.Line.{isMaterialised}
+use Rattle.site.proofs.line.is_materialised.Statement.{statement}
+use Rattle.site.proofs.line.is_materialised.Tie as tie
 
 returns : tie.Need-returns
 unfolding isMaterialised
