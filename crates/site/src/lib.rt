@@ -4,4 +4,5 @@ pub mod conditions;
 pub mod line;
 pub mod part;
 pub mod place;
+pub mod ruling;
 pub mod running;

@@ -11,6 +11,7 @@ use Rattle.section.specs.declared.TrackStep.{TrackStep}
 use Rattle.section.specs.declared.Decoded.the-variants.{Well}
 use Rattle.section.specs.Step.{decoded, postOf}
 use Rattle.section.specs.Store.{trackOf, withTrack, postOn}
+use Rattle.rules.specs.Line.{lineIn}
 use Rattle.rules.specs.Judge.{judgeInRange}
 use Rattle.site.specs.declared.running.Running.{Running}
 use Rattle.site.specs.Running.{runningOf, onVns, siteWith}
@@ -45,6 +46,6 @@ put-back c x t other ep er ej et el = rw (ej, et, el, ep, er)
 pub judged :
     (s : Section) (bytes : List ℕ) (x : TrackStep) → decoded (s .settings .posts) bytes ≡ Well x → (k : Bool) → x .track ≡ k
     → {t : Track} {other : Running} {w : TrackAnswer} → t ≡ trackOf s (x .track) → other ≡ runningOf (trackOf s (not (x .track)))
-    → w ≡ judgedOnTrack (s .settings) x t other → record { verdict = w .verdict; section = withTrack s k (w .track) } ≡ judgeInRange s bytes
+    → w ≡ judgedOnTrack (lineIn s) x t other → record { verdict = w .verdict; section = withTrack s k (w .track) } ≡ judgeInRange s bytes
 unfolding judgedOnTrack
 judged s bytes x well k ek et eo ew = rw (sym ek, ew, et, eo) (on-track.step-judged s x ∙ on-track.judged s bytes x well)
