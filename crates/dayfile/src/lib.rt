@@ -8,11 +8,11 @@ ghost use Rattle.dayfile.specs.Answers.{notRead, readOf, writeVerdict, w
 use layout::MOST_STEPS;
 use layout::SETTINGS_LENGTH;
 use layout::SHORTEST_FILE;
+use ranges::settings;
 use section::MOST_CROSSINGS;
 use section::STEP_LENGTH;
 use section::Settings;
 use section::UNUSED;
-use settings_ranges::settings;
 
 // A day of so many steps, or the refusal's number and index.
 pub enum Reading {

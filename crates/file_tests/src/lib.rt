@@ -10,8 +10,8 @@ use layout::MOST_STEPS;
 use layout::SETTINGS_LENGTH;
 use layout::SHORTEST_FILE;
 use layout::step_at;
+use ranges::settings;
 use section::STEP_LENGTH;
-use settings_ranges::settings;
 use steps::well_formed;
 
 // Below 24, above 32,800 or not a multiple of 8.

@@ -5,9 +5,9 @@ use native.Mathlib.Omega.{arith}
 use Rattle.section.specs.Crossings.{crossingsInRange}
 use Rattle.section.specs.Numbers.{mostCrossings}
 use Rattle.section.proofs.Told.{told-false, told-true}
-use Rattle.settings_ranges.proofs.crossings.Laws.{crossings-stop, crossings-go-on}
-use Rattle.settings_ranges.proofs.crossings.crossings_in_range.Statement.{statement}
-use Rattle.settings_ranges.proofs.crossings.crossings_in_range.Tie as tie
+use Rattle.ranges.proofs.crossings.Laws.{crossings-stop, crossings-go-on}
+use Rattle.ranges.proofs.crossings.crossings_in_range.Statement.{statement}
+use Rattle.ranges.proofs.crossings.crossings_in_range.Tie as tie
 
 abbrev Inv-loop : tie.InvT-loop
 Inv-loop n crossings i₀ i = (i ≤ mostCrossings) × (crossingsInRange n mostCrossings crossings ≡ crossingsInRange n i crossings)

@@ -1,8 +1,8 @@
 use native.Mathlib.Omega.{arith}
 use borrow.Author.Needs.{needs}
 use borrow.Author.Tests.{eq-eqb, ne-eqb, lt-ltb}
-use Rattle.settings_ranges.proofs.crossings.crossing_in_range.Statement.{statement}
-use Rattle.settings_ranges.proofs.crossings.crossing_in_range.Tie as tie
+use Rattle.ranges.proofs.crossings.crossing_in_range.Statement.{statement}
+use Rattle.ranges.proofs.crossings.crossing_in_range.Tie as tie
 
 returns : tie.Need-returns
 returns c = rw (eq-eqb _ _ (c .if1 .taken))

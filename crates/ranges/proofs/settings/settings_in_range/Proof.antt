@@ -4,8 +4,8 @@ use borrow.Author.Tests.{le-leb, lt-leb}
 use Rattle.section.specs.Bytes.{within}
 use Rattle.section.specs.Settings.{settingsInRange}
 use Rattle.section.proofs.Told.{told-false, told-true}
-use Rattle.settings_ranges.proofs.settings.settings_in_range.Statement.{statement}
-use Rattle.settings_ranges.proofs.settings.settings_in_range.Tie as tie
+use Rattle.ranges.proofs.settings.settings_in_range.Statement.{statement}
+use Rattle.ranges.proofs.settings.settings_in_range.Tie as tie
 
 returns : tie.Need-returns
 unfolding settingsInRange within

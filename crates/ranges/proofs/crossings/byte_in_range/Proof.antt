@@ -1,9 +1,9 @@
 use native.Mathlib.Omega.{arith}
 use borrow.Author.Needs.{needs}
 use Rattle.section.proofs.Told.{told-false, told-true}
-use Rattle.settings_ranges.proofs.crossings.Laws.{falls-never}
-use Rattle.settings_ranges.proofs.crossings.byte_in_range.Statement.{statement}
-use Rattle.settings_ranges.proofs.crossings.byte_in_range.Tie as tie
+use Rattle.ranges.proofs.crossings.Laws.{falls-never}
+use Rattle.ranges.proofs.crossings.byte_in_range.Statement.{statement}
+use Rattle.ranges.proofs.crossings.byte_in_range.Tie as tie
 
 returns : tie.Need-returns
 returns c = rw (told-false (c .before .crossing-in-range .ensures) (c .if1 .taken))

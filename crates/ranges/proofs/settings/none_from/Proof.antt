@@ -1,8 +1,8 @@
 use mathlib.Core.Path.{refl}
 use borrow.Author.Needs.{needs}
 use Rattle.section.specs.Settings.{noneFrom}
-use Rattle.settings_ranges.proofs.settings.none_from.Statement.{statement}
-use Rattle.settings_ranges.proofs.settings.none_from.Tie as tie
+use Rattle.ranges.proofs.settings.none_from.Statement.{statement}
+use Rattle.ranges.proofs.settings.none_from.Tie as tie
 
 returns : tie.Need-returns
 unfolding noneFrom

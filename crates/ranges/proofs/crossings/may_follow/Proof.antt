@@ -1,6 +1,6 @@
 use borrow.Author.Needs.{needs}
-use Rattle.settings_ranges.proofs.crossings.may_follow.Statement.{statement}
-use Rattle.settings_ranges.proofs.crossings.may_follow.Tie as tie
+use Rattle.ranges.proofs.crossings.may_follow.Statement.{statement}
+use Rattle.ranges.proofs.crossings.may_follow.Tie as tie
 
 returns : tie.Need-returns
 returns c = rw (c .before .crossing-order .ensures, c .crossing-order2 .ensures)
