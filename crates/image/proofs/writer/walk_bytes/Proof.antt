@@ -1,7 +1,7 @@
 use Rattle.image.specs.Image.{walkImage}
 use borrow.Author.Needs.{needs}
-use Rattle.image_writer.proofs.walk_bytes.Statement.{statement}
-use Rattle.image_writer.proofs.walk_bytes.Tie as tie
+use Rattle.image.proofs.writer.walk_bytes.Statement.{statement}
+use Rattle.image.proofs.writer.walk_bytes.Tie as tie
 
 returns : tie.Need-returns
 unfolding walkImage

@@ -1,8 +1,8 @@
 use Rattle.image.specs.Image.{trackHead}
-use Rattle.image_writer.proofs.Laws.{two-and-zero}
+use Rattle.image.proofs.writer.Laws.{two-and-zero}
 use borrow.Author.Needs.{needs}
-use Rattle.image_writer.proofs.track_head.Statement.{statement}
-use Rattle.image_writer.proofs.track_head.Tie as tie
+use Rattle.image.proofs.writer.track_head.Statement.{statement}
+use Rattle.image.proofs.writer.track_head.Tie as tie
 
 returns : tie.Need-returns
 unfolding trackHead

@@ -1,8 +1,8 @@
 use denote.Ref.{now}
-use Rattle.image_writer.proofs.Laws.{image-put}
+use Rattle.image.proofs.writer.Laws.{image-put}
 use borrow.Author.Needs.{needs}
-use Rattle.image_writer.proofs.put_image.Statement.{statement}
-use Rattle.image_writer.proofs.put_image.Tie as tie
+use Rattle.image.proofs.writer.put_image.Statement.{statement}
+use Rattle.image.proofs.writer.put_image.Tie as tie
 
 returns : tie.Need-returns
 returns c =

@@ -5,10 +5,10 @@ use native.Mathlib.Omega.{arith}
 use borrow.Author.Needs.{needs}
 use lib.ListN.{length}
 use Rattle.text.proofs.Laws.{Putting, none-put, one-more-put}
 use Rattle.image.specs.Image.{postsImage}
 use Rattle.image.proofs.Laws.{posts-length}
-use Rattle.image_writer.proofs.put_posts.Statement.{statement}
-use Rattle.image_writer.proofs.put_posts.Tie as tie
+use Rattle.image.proofs.writer.put_posts.Statement.{statement}
+use Rattle.image.proofs.writer.put_posts.Tie as tie
 
 abbrev Inv-loop : tie.InvT-loop
 Inv-loop buffer₀ at posts next₀ i₀ buffer next i = (i ≤ 16) × ((length buffer ≡ length buffer₀) × Putting buffer₀ at (postsImage i posts) next buffer)

@@ -1,8 +1,8 @@
 use Rattle.layout.specs.Layout.{le16Bytes}
 use Rattle.image.specs.Image.{postImage}
 use borrow.Author.Needs.{needs}
-use Rattle.image_writer.proofs.post_bytes.Statement.{statement}
-use Rattle.image_writer.proofs.post_bytes.Tie as tie
+use Rattle.image.proofs.writer.post_bytes.Statement.{statement}
+use Rattle.image.proofs.writer.post_bytes.Tie as tie
 
 returns : tie.Need-returns
 unfolding postImage le16Bytes

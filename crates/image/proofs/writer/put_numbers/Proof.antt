@@ -5,10 +5,10 @@ use native.Mathlib.Omega.{arith}
 use borrow.Author.Needs.{needs}
 use lib.ListN.{length}
 use Rattle.text.proofs.Laws.{Putting, none-put, one-more-put}
 use Rattle.image.specs.Image.{numbersImage}
 use Rattle.image.proofs.Laws.{numbers-length}
-use Rattle.image_writer.proofs.put_numbers.Statement.{statement}
-use Rattle.image_writer.proofs.put_numbers.Tie as tie
+use Rattle.image.proofs.writer.put_numbers.Statement.{statement}
+use Rattle.image.proofs.writer.put_numbers.Tie as tie
 
 abbrev Inv-loop : tie.InvT-loop
 Inv-loop buffer₀ at numbers next₀ i₀ buffer next i = (i ≤ 15) × ((length buffer ≡ length buffer₀) × Putting buffer₀ at (numbersImage i numbers) next buffer)

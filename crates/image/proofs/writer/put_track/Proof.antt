@@ -1,8 +1,8 @@
 use denote.Ref.{now}
-use Rattle.image_writer.proofs.Laws.{track-put}
+use Rattle.image.proofs.writer.Laws.{track-put}
 use borrow.Author.Needs.{needs}
-use Rattle.image_writer.proofs.put_track.Statement.{statement}
-use Rattle.image_writer.proofs.put_track.Tie as tie
+use Rattle.image.proofs.writer.put_track.Statement.{statement}
+use Rattle.image.proofs.writer.put_track.Tie as tie
 
 returns : tie.Need-returns
 returns c =

@@ -1,7 +1,7 @@
 use Rattle.image.specs.Image.{actNumber}
 use borrow.Author.Needs.{needs}
-use Rattle.image_writer.proofs.act_number.Statement.{statement}
-use Rattle.image_writer.proofs.act_number.Tie as tie
+use Rattle.image.proofs.writer.act_number.Statement.{statement}
+use Rattle.image.proofs.writer.act_number.Tie as tie
 
 returns : tie.Need-returns
 unfolding actNumber

@@ -1,7 +1,7 @@
 use Rattle.image.specs.Image.{faultsByte}
 use borrow.Author.Needs.{needs}
-use Rattle.image_writer.proofs.faults_byte.Statement.{statement}
-use Rattle.image_writer.proofs.faults_byte.Tie as tie
+use Rattle.image.proofs.writer.faults_byte.Statement.{statement}
+use Rattle.image.proofs.writer.faults_byte.Tie as tie
 
 returns : tie.Need-returns
 unfolding faultsByte
