@@ -36,8 +36,8 @@ use Rattle.judging_in_place.proofs.Laws.{in-range-before}
 use Rattle.whole_day.proofs.Laws.{note-written}
 use Rattle.lines.specs.Noted.{notedLine, noteAt, notedLines}
 use Rattle.lines.proofs.listing.Laws.{line-noted}
-use Rattle.panel_lines.specs.PanelLine.{panelFields, panelLine, panelLineRoom}
-use Rattle.panel_lines.proofs.Laws.{panel-line-length, few-posts}
+use Rattle.lines.specs.PanelLine.{panelFields, panelLine, panelLineRoom}
+use Rattle.lines.proofs.panel.Laws.{panel-line-length, few-posts}
 use Rattle.sheets.specs.declared.Sheet.{Sheet}
 use Rattle.sheets.specs.declared.Sheet.the-variants.{Listing, Panel}
 use Rattle.sheets.specs.Printed.{lines, printedRead, printed}

@@ -5,7 +5,7 @@ use Rattle.section.specs.declared.Answer.{Answer}
 use Rattle.sheets.specs.declared.Sheet.{Sheet}
 use Rattle.sheets.specs.declared.Sheet.the-variants.{Listing, Panel}
 use Rattle.lines.specs.Lines.{stepLine, headerRoom, stepLineRoom}
-use Rattle.panel_lines.specs.PanelLine.{panelLine, panelLineRoom}
+use Rattle.lines.specs.PanelLine.{panelLine, panelLineRoom}
 
 -- a step's line
 unfoldable pub lineOn : Sheet → ℕ → List ℕ → Answer → List ℕ

@@ -8,9 +8,9 @@ use lib.ListN.{length}
 use Rattle.rules.specs.Indications.{dark}
 use Rattle.text.specs.Text.{firstTexts}
 use Rattle.text.proofs.Laws.{Putting, none-put, one-more-put}
-use Rattle.panel_lines.proofs.Laws.{one-digit-at, fieldAt, fields-listed, six-each, few-posts}
-use Rattle.panel_lines.proofs.put_posts.Statement.{statement}
-use Rattle.panel_lines.proofs.put_posts.Tie as tie
+use Rattle.lines.proofs.panel.Laws.{one-digit-at, fieldAt, fields-listed, six-each, few-posts}
+use Rattle.lines.proofs.panel.put_posts.Statement.{statement}
+use Rattle.lines.proofs.panel.put_posts.Tie as tie
 
 abbrev Inv-loop : tie.InvT-loop
 Inv-loop buffer₀ at track n shown next₀ p₀ buffer next p =

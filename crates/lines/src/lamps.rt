@@ -3,10 +3,10 @@ ghost use mathlib.Core.Path.{_≡_};
 ghost use Prim.Native.Nat.{_≤_};
 ghost use lib.ListN.{length};
 ghost use Rattle.text.specs.Text.{written};
-ghost use Rattle.lamp_lines.specs.Printed.{tableRoom, tableText};
+ghost use Rattle.lines.specs.PrintedTable.{tableRoom, tableText};
+use crate::put_number;
 use lamp_table::TABLE_LENGTH;
 use lamp_table::rule::entry_by_rule;
-use lines::put_number;
 
 const LINE_ROOM: usize = 6;
 

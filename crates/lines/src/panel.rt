@@ -5,7 +5,8 @@ ghost use Prim.Native.Nat.{_+_, _*_, _≤_, _<_};
 ghost use lib.ListN.{length};
 ghost use Rattle.section.specs.Range.{inRange};
 ghost use Rattle.text.specs.Text.{written};
-ghost use Rattle.panel_lines.specs.PanelLine.{trackName, postField, postFields, panelFields, panelLineRoom};
+ghost use Rattle.lines.specs.PanelLine.{trackName, postField, postFields, panelFields, panelLineRoom};
+use crate::put_number;
 use section::Indications;
 use section::Section;
 use track_indications::track_indications;
@@ -62,7 +63,7 @@ pub fn put_panel(buffer: &mut [u8], at: usize, index: usize, track: u8, s: Secti
     ensures { λ r. ⌜ r ≡ at + length (panelFields index track s) ⌝ }
     ensures { λ _. ⌜ now (buffer .exit) ≡ written (now (buffer .entry)) at (panelFields index track s) ⌝ }
 {
-    let name_at = lines::put_number(buffer, at, index, b' ');
+    let name_at = put_number(buffer, at, index, b' ');
     let posts_at = text::put_byte(buffer, name_at, track_name(track));
     let end = put_posts(buffer, posts_at, s, track);
     text::put_byte(buffer, end, b'\n')

@@ -1,7 +1,7 @@
 use borrow.Author.Needs.{needs}
-use Rattle.panel_lines.specs.PanelLine.{postField}
-use Rattle.panel_lines.proofs.put_post.Statement.{statement}
-use Rattle.panel_lines.proofs.put_post.Tie as tie
+use Rattle.lines.specs.PanelLine.{postField}
+use Rattle.lines.proofs.panel.put_post.Statement.{statement}
+use Rattle.lines.proofs.panel.put_post.Tie as tie
 
 returns : tie.Need-returns
 unfolding postField

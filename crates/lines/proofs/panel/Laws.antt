@@ -19,7 +19,7 @@ use Rattle.rules.specs.Indications.{Lamps, lampsAt, circulation, troncon, shown
 use Rattle.track_indications.proofs.Laws.{at-its-place}
 use Rattle.text.proofs.Laws.{decimal-length, first-texts-length, same-texts}
 use Rattle.text.specs.Text.{firstTexts}
-use Rattle.panel_lines.specs.PanelLine.{postField, postFields, panelFields, panelLine, panelLineRoom}
+use Rattle.lines.specs.PanelLine.{postField, postFields, panelFields, panelLine, panelLineRoom}
 
 abbrev pub OneDigit : Indications → Type 0
 OneDigit l = (l .circulation < 10) × ((l .troncon < 10) × (l .permission < 10))

@@ -3,12 +3,12 @@ use borrow.Author.Needs.{needs}
 use native.Mathlib.Omega.{arith}
 use denote.Ref.{now}
 use mathlib.Core.List.{[], _∷_}
-use Rattle.panel_lines.specs.PanelLine.{postFields, panelFields}
+use Rattle.lines.specs.PanelLine.{postFields, panelFields}
 use Rattle.text.proofs.Laws.{then}
 use Rattle.lines.proofs.Puts.{number-length, number-then}
-use Rattle.panel_lines.proofs.Laws.{post-fields-length, few-posts}
-use Rattle.panel_lines.proofs.put_panel.Statement.{statement}
-use Rattle.panel_lines.proofs.put_panel.Tie as tie
+use Rattle.lines.proofs.panel.Laws.{post-fields-length, few-posts}
+use Rattle.lines.proofs.panel.put_panel.Statement.{statement}
+use Rattle.lines.proofs.panel.put_panel.Tie as tie
 
 put-byte-requires : tie.Need-put-byte-requires
 put-byte-requires c κs = omega (arith, number-length (c .before .before .before .before .before .before .before .args .index) 32)

@@ -7,10 +7,10 @@ use lib.ListN.{length}
 use Rattle.text.specs.Text.{firstTexts}
 use Rattle.text.proofs.Laws.{Putting, none-put, one-more-put}
 use Rattle.rules.specs.LampTable.{tableLength}
-use Rattle.lamp_lines.specs.Printed.{entryLine, tableText}
-use Rattle.lamp_lines.proofs.Laws.{lines-fit}
-use Rattle.lamp_lines.proofs.put_table.Statement.{statement}
-use Rattle.lamp_lines.proofs.put_table.Tie as tie
+use Rattle.lines.specs.PrintedTable.{entryLine, tableText}
+use Rattle.lines.proofs.lamps.Laws.{lines-fit}
+use Rattle.lines.proofs.lamps.put_table.Statement.{statement}
+use Rattle.lines.proofs.lamps.put_table.Tie as tie
 
 abbrev Inv-loop : tie.InvT-loop
 Inv-loop buffer₀ next₀ i₀ buffer next i =

@@ -1,7 +1,7 @@
 use borrow.Author.Tests.{eq-eqb, ne-eqb}
-use Rattle.panel_lines.specs.PanelLine.{trackName}
-use Rattle.panel_lines.proofs.track_name.Statement.{statement}
-use Rattle.panel_lines.proofs.track_name.Tie as tie
+use Rattle.lines.specs.PanelLine.{trackName}
+use Rattle.lines.proofs.panel.track_name.Statement.{statement}
+use Rattle.lines.proofs.panel.track_name.Tie as tie
 
 returns : tie.Need-returns
 unfolding trackName
