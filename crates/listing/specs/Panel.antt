@@ -2,7 +2,7 @@
 use Prim.Native.Nat.{ℕ}
 use mathlib.Core.List.{List}
 use Rattle.lines.specs.PanelLine.{panelLine}
-use Rattle.sheets.specs.Printed.{printed}
+use Rattle.listing.specs.Printed.{printed}
 
 -- the panel of a file
 unfoldable pub panel : List ℕ → List ℕ
