@@ -29,8 +29,8 @@ fn faults_byte(o: Post) -> u8
 fn post_bytes(o: Post) -> [u8; POST_LENGTH]
     ensures { λ r. ⌜ r ≡ postImage o ⌝ }
 {
-    let seals = layout_writer::le16_bytes(o.seals);
-    let caution = layout_writer::le16_bytes(o.caution);
+    let seals = layout::writer::le16_bytes(o.seals);
+    let caution = layout::writer::le16_bytes(o.caution);
     [
         truth_number(o.device),
         truth_number(o.permission),
@@ -97,7 +97,7 @@ fn put_numbers(buffer: &mut [u8], at: usize, numbers: Trains) -> usize
     let mut next = at;
     let mut i = 0;
     while i < MOST_BLOCKS {
-        let bytes = layout_writer::le16_bytes(numbers[i]);
+        let bytes = layout::writer::le16_bytes(numbers[i]);
         next = text::put_text(buffer, next, &bytes);
         i += 1;
     }
@@ -124,8 +124,8 @@ pub fn put_image(buffer: &mut [u8], s: Section)
     requires { ⌜ imageLength ≤ length (now buffer) ⌝ }
     ensures { λ _. ⌜ now (buffer .exit) ≡ written (now (buffer .entry)) 0 (imageOf s) ⌝ }
 {
-    let number = layout_writer::le16_bytes(LAYOUT_NUMBER);
-    let settings = layout_writer::settings_bytes(s.settings);
+    let number = layout::writer::le16_bytes(LAYOUT_NUMBER);
+    let settings = layout::writer::settings_bytes(s.settings);
     let settings_at = text::put_text(buffer, 0, &number);
     let a = text::put_text(buffer, settings_at, &settings);
     let b = put_track(buffer, a, s.a);

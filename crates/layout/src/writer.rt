@@ -2,12 +2,12 @@
 ghost use mathlib.Core.Path.{_≡_};
 ghost use Prim.Native.Nat.{_≤_};
 ghost use Rattle.section.specs.Numbers.{mostCrossings};
 ghost use Rattle.layout.specs.Layout.{mostSteps, le16Bytes, le32Bytes, markOf, tailOf, settingsBytes, trailer};
-use layout::BSR1;
-use layout::BSR2;
-use layout::LONGEST_SETTINGS;
-use layout::SHORTEST_FILE;
-use layout::TRAILER_LENGTH;
+use crate::BSR1;
+use crate::BSR2;
+use crate::LONGEST_SETTINGS;
+use crate::SHORTEST_FILE;
+use crate::TRAILER_LENGTH;
 use section::MOST_CROSSINGS;
 use section::STEP_LENGTH;
 use section::Settings;

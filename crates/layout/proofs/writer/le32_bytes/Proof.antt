@@ -1,8 +1,8 @@
 use Rattle.layout.specs.Layout.{le32Bytes}
 use mathlib.Core.Path.{refl}
 use borrow.Author.Needs.{needs}
-use Rattle.layout_writer.proofs.le32_bytes.Statement.{statement}
-use Rattle.layout_writer.proofs.le32_bytes.Tie as tie
+use Rattle.layout.proofs.writer.le32_bytes.Statement.{statement}
+use Rattle.layout.proofs.writer.le32_bytes.Tie as tie
 
 returns : tie.Need-returns
 unfolding le32Bytes

@@ -1,8 +1,8 @@
 -- There is no tail, or there is one.
 use Rattle.layout.specs.Layout.{markOf}
 use borrow.Author.Tests.{eq-eqb, ne-eqb}
-use Rattle.layout_writer.proofs.mark_of.Statement.{statement}
-use Rattle.layout_writer.proofs.mark_of.Tie as tie
+use Rattle.layout.proofs.writer.mark_of.Statement.{statement}
+use Rattle.layout.proofs.writer.mark_of.Tie as tie
 
 returns : tie.Need-returns
 unfolding markOf

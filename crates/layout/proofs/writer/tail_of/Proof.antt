@@ -1,9 +1,9 @@
 -- The first byte is unused, or it is used.
 use Rattle.layout.specs.Layout.{tailOf}
 use borrow.Author.Tests.{eq-eqb, ne-eqb}
 use borrow.Author.Needs.{needs}
-use Rattle.layout_writer.proofs.tail_of.Statement.{statement}
-use Rattle.layout_writer.proofs.tail_of.Tie as tie
+use Rattle.layout.proofs.writer.tail_of.Statement.{statement}
+use Rattle.layout.proofs.writer.tail_of.Tie as tie
 
 returns : tie.Need-returns
 unfolding tailOf

@@ -1,8 +1,8 @@
 -- The bytes of the mask and of the line number stand after the posts and the form; the crossings stand last.
 use Rattle.layout.proofs.Parts.{settings-are}
 use borrow.Author.Needs.{needs}
-use Rattle.layout_writer.proofs.settings_bytes.Statement.{statement}
-use Rattle.layout_writer.proofs.settings_bytes.Tie as tie
+use Rattle.layout.proofs.writer.settings_bytes.Statement.{statement}
+use Rattle.layout.proofs.writer.settings_bytes.Tie as tie
 
 returns : tie.Need-returns
 returns c = settings-are _ _ _ (c .before .before .le16-bytes .ensures) (c .before .le16-bytes2 .ensures)

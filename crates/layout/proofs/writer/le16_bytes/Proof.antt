@@ -1,8 +1,8 @@
 use Rattle.layout.specs.Layout.{le16Bytes}
 use mathlib.Core.Path.{refl}
 use borrow.Author.Needs.{needs}
-use Rattle.layout_writer.proofs.le16_bytes.Statement.{statement}
-use Rattle.layout_writer.proofs.le16_bytes.Tie as tie
+use Rattle.layout.proofs.writer.le16_bytes.Statement.{statement}
+use Rattle.layout.proofs.writer.le16_bytes.Tie as tie
 
 returns : tie.Need-returns
 unfolding le16Bytes

@@ -1,8 +1,8 @@
 -- The bytes of the three numbers stand after the mark.
 use Rattle.layout.proofs.Parts.{trailer-is}
 use borrow.Author.Needs.{needs}
-use Rattle.layout_writer.proofs.trailer.Statement.{statement}
-use Rattle.layout_writer.proofs.trailer.Tie as tie
+use Rattle.layout.proofs.writer.trailer.Statement.{statement}
+use Rattle.layout.proofs.writer.trailer.Tie as tie
 
 returns : tie.Need-returns
 returns c =
