@@ -7,11 +7,11 @@ use lib.ListN.{length}
 use Rattle.layout.specs.Layout.{mostSteps}
 use Rattle.listing.specs.Listing.{listing}
 use Rattle.listing.specs.Panel.{panel}
-use Rattle.sheets.specs.declared.Sheet.{Sheet}
-use Rattle.sheets.specs.declared.Sheet.the-variants.{Listing, Panel}
-use Rattle.sheets.specs.Printed.{printed}
-use Rattle.sheets.specs.Sheet.{lineOn, room}
-use Rattle.sheets.proofs.Laws.{most-room, printed-fits}
+use Rattle.listing.specs.declared.sheets.Sheet.{Sheet}
+use Rattle.listing.specs.declared.sheets.Sheet.the-variants.{Listing, Panel}
+use Rattle.listing.specs.Printed.{printed}
+use Rattle.listing.specs.Sheet.{lineOn, room}
+use Rattle.listing.proofs.sheets.Laws.{most-room, printed-fits}
 use Rattle.agreement.specs.Made.{made}
 
 pub made-printed : (sheet : Sheet) (file : List ℕ) → made sheet file ≡ printed (lineOn sheet) file

@@ -4,7 +4,7 @@ use text::Copied;
 
 // Writes the listing of a file. The buffer has room for every listing.
 fn print(file: &[u8]) {
-    let mut text = sheets::listing_room();
+    let mut text = listing::sheets::listing_room();
     if let Copied::Bytes(n) = listing::listing(file, &mut text) {
         streams::write_whole(true, &text[..n], b"bench: cannot write standard output");
     }

@@ -32,8 +32,8 @@ pub extern "C" fn bsr_settings(file: &[u8], buffer: &mut [u8]) -> u64
 {
     let answer = dayfile::read(file);
     let c = answer.settings;
-    let settings = layout_writer::settings_bytes(c);
-    let end = SETTINGS_LENGTH + layout_writer::tail_of(c);
+    let settings = layout::writer::settings_bytes(c);
+    let end = SETTINGS_LENGTH + layout::writer::tail_of(c);
     packed_copied(text::copy_out(&settings[0..end], buffer))
 }
 

@@ -4,6 +4,7 @@ ghost use mathlib.Core.Path.{_≡_};
 ghost use lib.ListN.{length};
 ghost use Rattle.capi_run.specs.Run.{runNumber, runImage, runAnswers};
 use image::reader;
+use image::writer;
 use packed::packed_figure;
 use run::Outcome;
 
@@ -26,7 +27,7 @@ pub extern "C" fn bsr_run(bytes: &mut [u8], steps: &[u8], answers: &mut [u8]) ->
     match outcome {
         Outcome::Done(count) => {
             let after = answer.section;
-            image_writer::put_image(bytes, after);
+            writer::put_image(bytes, after);
             packed_figure(0, count)
         }
         Outcome::Refused(number, index) => packed_figure(number, index),

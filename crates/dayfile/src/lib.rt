@@ -8,11 +8,11 @@ ghost use Rattle.dayfile.specs.Answers.{notRead, readOf, writeVerdict, w
 use layout::MOST_STEPS;
 use layout::SETTINGS_LENGTH;
 use layout::SHORTEST_FILE;
+use ranges::settings;
 use section::MOST_CROSSINGS;
 use section::STEP_LENGTH;
 use section::Settings;
 use section::UNUSED;
-use settings_ranges::settings;
 
 // A day of so many steps, or the refusal's number and index.
 pub enum Reading {
@@ -101,10 +101,10 @@ fn put(c: Settings, steps: &[u8], count: usize, buffer: &mut [u8])
     ensures { λ _. ⌜ now (buffer .exit) ≡ fileOf c (now (steps .entry)) ++ drop (length (fileOf c (now (steps .entry)))) (now (buffer .entry)) ⌝ }
 {
     let start = steps.len();
-    let tail = layout_writer::tail_of(c);
+    let tail = layout::writer::tail_of(c);
     let size = SETTINGS_LENGTH + tail;
-    let settings = layout_writer::settings_bytes(c);
-    let trailer = layout_writer::trailer(tail, count);
+    let settings = layout::writer::settings_bytes(c);
+    let trailer = layout::writer::trailer(tail, count);
     place(steps, 0, buffer);
     place(&settings[0..size], start, buffer);
     place(&trailer, start + size, buffer);
@@ -126,7 +126,7 @@ pub fn write(c: Settings, steps: &[u8], buffer: &mut [u8]) -> Written
     if count > MOST_STEPS {
         return Written::Refused(5, 0);
     }
-    let tail = layout_writer::tail_of(c);
+    let tail = layout::writer::tail_of(c);
     let length = SHORTEST_FILE + tail + STEP_LENGTH * count;
     if buffer.len() < length {
         return Written::Refused(5, 0);

@@ -14,9 +14,9 @@ use Rattle.dayfile.specs.Answers.{refusalNumber, readVerdict, readOf}
 use Rattle.rules.proofs.Days.{offeredAs, refusals, fresh}
 use Rattle.text.specs.Text.{decimalDigits, decimal, firstTexts}
 use Rattle.lines.specs.Lines.{word, refusedLine, header, verdictFields, fields, stepLine}
-use Rattle.panel_lines.specs.PanelLine.{postField, postFields, trackName, panelFields, panelLine}
+use Rattle.lines.specs.PanelLine.{postField, postFields, trackName, panelFields, panelLine}
 use Rattle.judging_in_place.specs.Offered.{sectionBefore, answerTo}
-use Rattle.sheets.specs.Printed.{lines, printedRead, printed}
+use Rattle.listing.specs.Printed.{lines, printedRead, printed}
 use Rattle.listing.specs.Listing.{listing}
 use Rattle.listing.specs.Panel.{panel}
 use Rattle.examples.specs.Worked.{settings, steps, day, workedListing, workedPanel, listingOfNothing}

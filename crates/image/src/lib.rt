@@ -2,6 +2,7 @@
 // The layout may change with any delivery, and its number with it: an image of another layout is not well formed.
 
 pub mod reader;
+pub mod writer;
 
 ghost use mathlib.Core.Path.{_≡_};
 ghost use Prim.Native.Nat.{_+_, _≤_};

@@ -1,4 +1,7 @@
 // The bench listing and the panel of a day file, from bytes to bytes.
+
+pub mod sheets;
+
 ghost use mathlib.Core.Path.{_≡_};
 ghost use Prim.Native.Nat.{_+_};
 ghost use lib.ListN.{replicate};
@@ -6,9 +9,9 @@ ghost use Rattle.layout.specs.Layout.{longestFile};
 ghost use Rattle.text.specs.Copied.{copied, copiedOut};
 ghost use Rattle.listing.specs.Listing.{listing};
 ghost use Rattle.listing.specs.Panel.{panel};
+use crate::sheets::Sheet;
+use crate::sheets::print;
 use layout::LONGEST_FILE;
-use sheets::Sheet;
-use sheets::print;
 use text::Copied;
 
 // A byte more than the longest day file has.

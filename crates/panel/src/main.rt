@@ -4,7 +4,7 @@ use text::Copied;
 
 // Writes the panel of a file. The buffer has room for every panel.
 fn print(file: &[u8]) {
-    let mut text = sheets::panel_room();
+    let mut text = listing::sheets::panel_room();
     if let Copied::Bytes(n) = listing::panel(file, &mut text) {
         streams::write_whole(true, &text[..n], b"panel: cannot write standard output");
     }

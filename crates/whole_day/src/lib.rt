@@ -5,9 +5,9 @@ ghost use Rattle.whole_day.specs.Notes.{canBeNoted, notesAfter};
 use judging_in_place::Entries;
 use judging_in_place::judge_steps;
 use notes::NOTE_LENGTH;
+use ranges::settings::settings_in_range;
 use section::STEP_LENGTH;
 use section::Settings;
-use settings_ranges::settings::settings_in_range;
 
 // Whether a day can be noted: so many whole steps are there, so much room is enough for their notes, and the settings are in their ranges.
 pub fn can_be_noted(c: Settings, steps: &[u8], count: usize, room: usize) -> bool

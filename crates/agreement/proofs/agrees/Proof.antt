@@ -5,8 +5,8 @@ use native.Mathlib.Omega.{arith}
 use lib.ListN.{length, length-replicate}
 use denote.Ref.{now}
 use Rattle.layout.specs.Layout.{mostSteps}
-use Rattle.sheets.specs.declared.Sheet.the-variants.{Panel}
-use Rattle.sheets.specs.Sheet.{room}
+use Rattle.listing.specs.declared.sheets.Sheet.the-variants.{Panel}
+use Rattle.listing.specs.Sheet.{room}
 use Rattle.text.proofs.CopiedOut.{within, longer, part}
 use Rattle.agreement.proofs.Laws.{made-printed, fits-the-panels-room}
 use borrow.Author.Needs.{needs}
