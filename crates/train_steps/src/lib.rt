@@ -83,7 +83,7 @@ pub fn pass(c: Line, e: Site, number: u16, trains: &mut Trains, last: &mut Train
     }
     vacate(c, e, trains);
     enter(c, e, number, trains);
-    enter(c, e, number, last);
+    enter(c, e, number, last); // beside the trains
     let own = e.own;
     Ruling::Accepted(moving(e, used_up(own, number), Movement::Moves(number)))
 }
