@@ -7,7 +7,7 @@ use borrow.Author.Tests.{leb-true}
 use lib.Dec.{leb, ltb}
 use Rattle.section.specs.Bytes.{within}
 use Rattle.section.specs.Numbers.{lastKind}
-use Rattle.section.specs.Step.{isKind, placeWellFormed, fieldsWellFormed}
+use Rattle.section.specs.Step.{isKind, trackWellFormed, placeWellFormed, fieldsWellFormed}
 use Rattle.section.proofs.Laws.{and-left, and-right}
 use Rattle.section.proofs.Told.{told-false, told-true}
 use Rattle.steps.proofs.well_formed.fields_well_formed.Statement.{statement}
@@ -17,7 +17,7 @@ use Rattle.steps.proofs.well_formed.fields_well_formed.Tie as tie
 known-kind : (n kind track post : ℕ) → placeWellFormed n kind track post ≡ true → kind ≤ lastKind
 unfolding placeWellFormed within
 known-kind n kind track post h =
-    leb-true kind lastKind (and-right (leb 1 kind) (leb kind lastKind) (and-left (isKind kind) (ltb track 2 && ltb post n) h))
+    leb-true kind lastKind (and-right (leb 1 kind) (leb kind lastKind) (and-left (isKind kind) (trackWellFormed kind track && ltb post n) h))
 
 fault-asked : tie.Need-fault-well-formed-requires
 fault-asked c κs = let b = c .before in

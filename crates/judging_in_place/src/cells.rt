@@ -1,7 +1,7 @@
 // The cells of the two tracks of a section, side by side, A before B.
 ghost use mathlib.Core.Path.{_≡_};
 ghost use Prim.Native.Nat.{_<_};
-ghost use Rattle.cells.specs.Rows.{row, postsIn, trainsIn, lastIn, runningIn, trackIn, sectionIn};
+ghost use Rattle.judging_in_place.specs.Cells.{row, postsIn, trainsIn, lastIn, runningIn, trackIn, sectionIn};
 use section::Posts;
 use section::Section;
 use section::Settings;

@@ -1,9 +1,9 @@
 // A day's steps, offered one after another from fresh: the special case of the walk over steps that the listing is made from.
 ghost use mathlib.Core.Path.{_≡_};
 ghost use lib.ListN.{length};
-ghost use Rattle.whole_day.specs.Notes.{canBeNoted, notesAfter};
-use judging_in_place::Entries;
-use judging_in_place::judge_steps;
+ghost use Rattle.judging_in_place.specs.Notes.{canBeNoted, notesAfter};
+use crate::Entries;
+use crate::judge_steps;
 use notes::NOTE_LENGTH;
 use ranges::settings::settings_in_range;
 use section::STEP_LENGTH;

@@ -7,9 +7,9 @@ use denote.Ref.{now}
 use lib.ListN.{length}
 use Rattle.section.specs.Numbers.{stepLength}
 use Rattle.notes.specs.Note.{noteLength}
-use Rattle.whole_day.specs.Notes.{canBeNoted}
-use Rattle.whole_day.proofs.can_be_noted.Statement.{statement}
-use Rattle.whole_day.proofs.can_be_noted.Tie as tie
+use Rattle.judging_in_place.specs.Notes.{canBeNoted}
+use Rattle.judging_in_place.proofs.whole_day.can_be_noted.Statement.{statement}
+use Rattle.judging_in_place.proofs.whole_day.can_be_noted.Tie as tie
 
 returns : tie.Need-returns
 unfolding canBeNoted

@@ -1,7 +1,7 @@
 use mathlib.Core.Path.{refl}
 use borrow.Author.Needs.{needs}
-use Rattle.cells.proofs.section_in.Statement.{statement}
-use Rattle.cells.proofs.section_in.Tie as tie
+use Rattle.judging_in_place.proofs.cells.section_in.Statement.{statement}
+use Rattle.judging_in_place.proofs.cells.section_in.Tie as tie
 
 returns : tie.Need-returns
 returns c = rw (c .track-in2 .ensures, c .before .before .before .before .before .track-in .ensures) refl

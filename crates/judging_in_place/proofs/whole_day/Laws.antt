@@ -19,10 +19,10 @@ use Rattle.text.specs.Text.{written, firstTexts}
 use Rattle.text.proofs.Laws.{at-front, first-texts-whole, same-texts}
 use Rattle.notes.specs.Note.{noteLength, note}
 use Rattle.notes.proofs.Laws.{note-length}
 use Rattle.judging_in_place.specs.declared.Entries.the-variants.{Notes}
 use Rattle.judging_in_place.specs.Offered.{answerTo}
 use Rattle.judging_in_place.specs.Entries.{entryWith, entryOf, entryOn, entriesOf}
-use Rattle.whole_day.specs.Notes.{noteOn, notesOf, canBeNoted, notesAfter}
+use Rattle.judging_in_place.specs.Notes.{noteOn, notesOf, canBeNoted, notesAfter}
 
 -- ## A day begins in its ranges
 

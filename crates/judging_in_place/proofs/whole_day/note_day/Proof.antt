@@ -4,10 +4,10 @@ use mathlib.Core.Path.{sym}
 use borrow.Author.Needs.{needs}
 use denote.Ref.{now}
 use Rattle.section.proofs.Told.{told}
 use Rattle.judging_in_place.specs.Entries.{entryLength}
-use Rattle.whole_day.proofs.Laws.{started, day-fits, notes-kept, notes-written, notes-untouched}
-use Rattle.whole_day.proofs.note_day.Statement.{statement}
-use Rattle.whole_day.proofs.note_day.Tie as tie
+use Rattle.judging_in_place.proofs.whole_day.Laws.{started, day-fits, notes-kept, notes-written, notes-untouched}
+use Rattle.judging_in_place.proofs.whole_day.note_day.Statement.{statement}
+use Rattle.judging_in_place.proofs.whole_day.note_day.Tie as tie
 
 judge-steps-requires : tie.Need-judge-steps-requires
 unfolding entryLength
