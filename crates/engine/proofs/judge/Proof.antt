@@ -1,17 +1,15 @@
 -- The section is in its ranges or not, the bytes say a step or none, and the step is judged on its own track, beside the other.
 use denote.Ref.{now}
 use mathlib.Core.Bool.{true, false, not}
-use mathlib.Core.Path.{_≡_, _∙_, ap, sym, subst}
+use mathlib.Core.Path.{_≡_, _∙_, ap, sym}
 use Rattle.section.specs.declared.Decoded.the-variants.{Well}
-use Rattle.section.specs.declared.Track.{Track}
 use Rattle.section.specs.Range.{inRange}
-use Rattle.section.specs.Step.{decoded, postOf}
+use Rattle.section.specs.Step.{decoded}
 use Rattle.section.specs.Store.{trackOf}
 use Rattle.section.proofs.Told.{told-false, told-true}
 use Rattle.rules.specs.Judge.{judge}
-use Rattle.rules.specs.Site.{siteOn}
+use Rattle.rules.specs.Line.{lineIn}
 use Rattle.rules.proofs.RangeLaw.{judged-in-range}
-use Rattle.site.specs.InItsRanges.{InItsRanges}
 use Rattle.site.specs.Running.{runningOf}
 use Rattle.judging.proofs.at_post.OnTrack.{malformed, in-ranges}
 use Rattle.judging.proofs.on_track.OnTrack.{judged}
@@ -30,10 +28,14 @@ in-range c = let l = c .before .before in told-true (l .before .in-range .ensure
 -- ## And once it has taken the tracks from the section
 
 abbrev well : tie.After-running-of → tie.After-d
-well c = c .before .before .before .before
+well c = c .before .before .before .before .before
 
 abbrev decode : tie.After-running-of → tie.After-decode
 decode c = well c .before .before
+
+-- the line that the step is judged on
+line-is : (c : tie.After-running-of) → c .before .before .before .line-of .result ≡ lineIn (start (decode c) .args .s)
+line-is c = c .before .before .before .line-of .ensures
 
 -- the step's own track and how the other runs
 own-track : (c : tie.After-running-of) → c .before .before .track-of .result ≡ trackOf (start (decode c) .args .s) (well c .d .given .0 .0 .track)
@@ -66,9 +68,7 @@ judge-on-track-requires : tie.Need-judge-on-track-requires
 judge-on-track-requires c κs =
     let x = well c .d .given .0 .0 in
     let entry = start (decode c) in
-    subst
-    (λ (t : Track). InItsRanges (entry .args .s .settings) (siteOn (x .track) (postOf (x .step)) t))
-    (sym (own-track c))
+    rw (line-is c, own-track c)
     (in-ranges (entry .args .s) (now (entry .args .bytes)) x (says c) (in-range (decode c)))
 
 returns-3 : tie.Need-returns-3
@@ -76,14 +76,14 @@ returns-3 c =
     let on-track = c .before .before .before in
     let b = on-track .before in
     judged-in-range _ _ _ (in-range (decode b))
-    (judged _ _ _ (says b) true (c .before .if2 .taken) (own-track b) (other-track b) (on-track .judge-on-track .ensures))
+    (judged _ _ _ (says b) true (c .before .if2 .taken) (line-is b) (own-track b) (other-track b) (on-track .judge-on-track .ensures))
 
 returns-4 : tie.Need-returns-4
 returns-4 c =
     let on-track = c .before .before .before in
     let b = on-track .before in
     judged-in-range _ _ _ (in-range (decode b))
-    (judged _ _ _ (says b) false (c .before .if2 .left) (own-track b) (other-track b) (on-track .judge-on-track .ensures))
+    (judged _ _ _ (says b) false (c .before .if2 .left) (line-is b) (own-track b) (other-track b) (on-track .judge-on-track .ensures))
 
 pub judge-spec : {M : Type 1} → statement M
 judge-spec =
@@ -97,6 +97,7 @@ judge-spec =
     (λ c. search needs)
     (λ c κs. search needs)
     returns-2
+    (λ c κs. search needs)
     (λ c κs. search needs)
     (λ c κs. search needs)
     (λ c κs. search needs)
