@@ -6,7 +6,7 @@ use lib.ListN.{length}
 use Rattle.section.specs.Numbers.{stepLength}
 use Rattle.layout.specs.Layout.{settingsOf}
 use Rattle.packed.specs.Settings.{lentSettingsWellFormed}
-use Rattle.whole_day.specs.Notes.{canBeNoted, notesAfter}
+use Rattle.judging_in_place.specs.Notes.{canBeNoted, notesAfter}
 
 -- the whole steps that are offered
 abbrev pub stepsOffered : List ℕ → ℕ

@@ -3,9 +3,9 @@
 ghost use mathlib.Core.Path.{_≡_};
 ghost use lib.ListN.{length};
 ghost use Rattle.capi_day.specs.Day.{dayAnswer, dayNotes};
+use judging_in_place::whole_day::note_day;
 use packed::lent_settings_well_formed;
 use section::STEP_LENGTH;
-use whole_day::note_day;
 
 // What bytes that are no settings give, as a state with settings out of range does.
 pub const NO_SETTINGS: u8 = 6;

@@ -6,10 +6,11 @@ ghost use lib.ListN.{length};
 ghost use Rattle.section.specs.Numbers.{stepLength};
 ghost use Rattle.text.specs.Text.{written};
 ghost use Rattle.notes.specs.Note.{noteLength, note};
-ghost use Rattle.whole_day.specs.Notes.{notesOf};
+ghost use Rattle.judging_in_place.specs.Notes.{notesOf};
 ghost use Rattle.capi_day.specs.Day.{dayAnswer, dayNotes};
 use capi_day::NO_SETTINGS;
 use capi_day::TOO_SHORT;
+use judging_in_place::whole_day::can_be_noted;
 use layout::step_at;
 use notes::NOTE_LENGTH;
 use notes::put_note;
@@ -18,7 +19,6 @@ use section::Answer;
 use section::STEP_LENGTH;
 use section::Settings;
 use section::words::letter;
-use whole_day::can_be_noted;
 
 // Writes the note of an answer.
 fn put_answer(notes: &mut [u8], at: usize, answer: Answer)

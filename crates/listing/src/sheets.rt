@@ -19,6 +19,7 @@ ghost use Rattle.listing.specs.Sheet.{lineOn, lineRoom, room};
 use dayfile::Reading;
 use judging_in_place::Entries;
 use judging_in_place::judge_steps;
+use judging_in_place::whole_day::note_day;
 use layout::MOST_STEPS;
 use layout::step_at;
 use lines::listing::put_noted_lines;
@@ -30,7 +31,6 @@ use notes::NOTE_LENGTH;
 use section::Settings;
 use text::Copied;
 use text::copy_out;
-use whole_day::note_day;
 
 // What is printed of each step: what it did, or what the posts show after it.
 pub enum Sheet {

@@ -4,7 +4,7 @@ use borrow.Author.Needs.{needs}
 use denote.Ref.{now}
 use Rattle.section.proofs.Told.{told-false, told-true}
 use Rattle.packed.proofs.Settings.{settings-lent}
-use Rattle.whole_day.proofs.Laws.{day-fits, notes-written, notes-untouched}
+use Rattle.judging_in_place.proofs.whole_day.Laws.{day-fits, notes-written, notes-untouched}
 use Rattle.capi_day.specs.Day.{stepsOffered, dayAnswer, dayNotes}
 use Rattle.capi_singly.proofs.bsr_day_singly.Statement.{statement}
 use Rattle.capi_singly.proofs.bsr_day_singly.Tie as tie

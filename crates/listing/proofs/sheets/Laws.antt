@@ -31,9 +31,9 @@ use Rattle.lines.specs.Lines.{refusedLine, stepLine}
 use Rattle.text.proofs.Laws.{Putting, first-texts-length, same-texts}
 use Rattle.lines.proofs.Puts.{refused-length, header-length, fields-length}
 use Rattle.judging_in_place.specs.Offered.{sectionBefore, answerTo}
-use Rattle.whole_day.specs.Notes.{noteOn, notesOf}
+use Rattle.judging_in_place.specs.Notes.{noteOn, notesOf}
 use Rattle.judging_in_place.proofs.Laws.{in-range-before}
-use Rattle.whole_day.proofs.Laws.{note-written}
+use Rattle.judging_in_place.proofs.whole_day.Laws.{note-written}
 use Rattle.lines.specs.Noted.{notedLine, noteAt, notedLines}
 use Rattle.lines.proofs.listing.Laws.{line-noted}
 use Rattle.lines.specs.PanelLine.{panelFields, panelLine, panelLineRoom}

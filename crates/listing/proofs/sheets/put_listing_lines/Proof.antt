@@ -3,7 +3,7 @@ use borrow.Author.Needs.{needs}
 use native.Mathlib.Omega.{arith}
 use denote.Ref.{now}
 use lib.ListN.{length}
-use Rattle.whole_day.proofs.Laws.{DayFits, can-be-noted, notes-written}
+use Rattle.judging_in_place.proofs.whole_day.Laws.{DayFits, can-be-noted, notes-written}
 use Rattle.listing.proofs.sheets.Laws.{lines-noted}
 use Rattle.listing.proofs.sheets.put_listing_lines.Statement.{statement}
 use Rattle.listing.proofs.sheets.put_listing_lines.Tie as tie

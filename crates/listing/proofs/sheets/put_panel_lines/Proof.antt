@@ -16,7 +16,7 @@ use Rattle.notes.specs.Note.{answerLength}
 use Rattle.judging_in_place.specs.Offered.{sectionBefore, answerTo}
 use Rattle.judging_in_place.specs.Entries.{entryLength}
 use Rattle.judging_in_place.proofs.Laws.{in-range-before, step-after}
-use Rattle.whole_day.proofs.Laws.{started}
+use Rattle.judging_in_place.proofs.whole_day.Laws.{started}
 use Rattle.listing.specs.Printed.{lines}
 use Rattle.listing.specs.Sheet.{lineOn}
 use Rattle.listing.proofs.sheets.Laws.{lineAt, in-range-after, one-more-fits, line-put, step-length, one-step}

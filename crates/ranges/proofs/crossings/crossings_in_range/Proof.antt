@@ -15,23 +15,11 @@ Inv-loop n crossings i₀ i = (i ≤ mostCrossings) × (crossingsInRange n mostC
 abbrev μ-loop : tie.MeasureT-loop
 μ-loop n crossings i₀ i = i
 
-loop-holds : tie.Need-loop-holds Inv-loop μ-loop
-loop-holds c = (omega arith, refl)
-
-sub-i : tie.Need-sub-i Inv-loop μ-loop
-sub-i c = omega arith
-
-byte-in-range-requires : tie.Need-byte-in-range-requires Inv-loop μ-loop
-byte-in-range-requires c κs = (omega arith, omega arith)
-
 returns : tie.Need-returns Inv-loop μ-loop
 returns c =
     let b = c .before .before in
     let failed = told-false (c .before .byte-in-range .ensures) (c .if1 .taken) in
     sym (b .before .loop .inv .1 ∙ crossings-stop _ _ (b .before .loop .i) (b .loop-test .taken) failed)
-
-loop-less : tie.Need-loop-less Inv-loop μ-loop
-loop-less c = omega arith
 
 loop-again : tie.Need-loop-again Inv-loop μ-loop
 loop-again c =
@@ -51,10 +39,10 @@ crossings-in-range-spec =
     (tie.spec
     Inv-loop
     μ-loop
-    loop-holds
-    sub-i
-    byte-in-range-requires
+    (λ c. (omega arith, refl))
+    (λ c. omega arith)
+    (λ c κs. (omega arith, omega arith))
     returns
-    loop-less
+    (λ c. omega arith)
     loop-again
     returns-2)
