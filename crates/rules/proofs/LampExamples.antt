@@ -37,8 +37,8 @@ module _ (form : Form) (w : Way) where
   abbrev with1 : ℕ → ℕ
   with1 k = telephoneElse form k (1 + k)
 
-  -- "2 for device CVT, .. 8 for fault 1, 16 for fault 3, 32 for the part ahead occupied, 64 for a post that commands a part (by telephone, any but the
-  -- receiving end), 128 for start permission"
+  -- "2 for device CVT, .. 8 for fault 1, 16 for fault 3, 32 for the part ahead occupied, 64 for a post that commands a part (by telephone, any
+  -- but the receiving end), 128 for start permission"
   abbrev ofPost : List (Row ℕ)
   ofPost =
       (index (form 4 15) Settled free blank 1 gives with1 64)

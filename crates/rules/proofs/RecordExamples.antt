@@ -46,7 +46,8 @@ pub record Left : Type 0 where
 unfoldable pub left : Form → Way → Walk → Post → ℕ → (ℕ → Step) → Left
 unfolding judged
 left form w walk own j x =
-    let after = effect (lineIn (fresh (form 4 15))) (x (place w j)) (record { track = w .track; post = place w j; cvt = w .cvt; walk = walk; own = own }) in
+    let p = place w j in
+    let after = effect (lineIn (fresh (form 4 15))) (x p) (record { track = w .track; post = p; cvt = w .cvt; walk = walk; own = own }) in
     record { own = after .own; cvt = after .cvt; walk = after .walk; train = after .train }
 
 module _ (form : Form) (w : Way) where
