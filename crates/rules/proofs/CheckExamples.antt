@@ -2,12 +2,12 @@
 -- the step and one in which it does not, on both tracks, in both directions and both forms, so that a check that is dropped in one direction or
 -- one form gives another row. The states need not be reached: "A state inside the ranges is judged by the table of steps, reachable or not."
 use Prim.Native.Nat.{ℕ, _+_}
-use mathlib.Core.Bool.{Bool, true, false, cond, not}
+use mathlib.Core.Bool.{Bool, true, cond, not}
 use mathlib.Core.Path.{refl}
 use mathlib.Core.List.{List, [], _∷_, _++_}
 use mathlib.Core.Option.{Option}
+use lib.ListN.{replicate}
 use Rattle.section.specs.declared.Settings.{Settings}
-use Rattle.section.specs.declared.Section.{Section}
 use Rattle.section.specs.declared.Post.{Post}
 use Rattle.section.specs.declared.Step.{Step}
 use Rattle.section.specs.declared.Act.{Act}
@@ -22,8 +22,9 @@ use Rattle.section.specs.declared.Step.the-variants.{FaultOn, FaultOff, Release
 use Rattle.section.specs.Post.{blank, turned, permitted, measured, faulty, marked, cautioned}
 use Rattle.rules.proofs.Days.{VNS, CVT, withCrossings, changedTrack, running, holdingLast, on}
 use Rattle.rules.proofs.Rows.{Row, _gives_, Holds, Judged, judged, judgedFrom, accepted, says, refused, _before_}
+use Rattle.rules.proofs.RecordExamples.{full}
 use Rattle.rules.proofs.Directions.{Way, Form, everyWay, each, telephoneElse, vnsElse, place, blockAfter, entry, maskWithout1, maskWithout2}
-use Rattle.rules.proofs.Directions.{inTheRun, standing, free, inFirst, inSecond, inThird}
+use Rattle.rules.proofs.Directions.{placeOf, inTheRun, standing, free, inFirst, inSecond, inThird}
 
 abbrev Answers : Type 0
 Answers = List (Row (Option Judged))
@@ -44,6 +45,23 @@ withSeals count o = record {
   seals = count;
   caution = o .caution;
 }
+
+-- with what set and key take no notice of, and with what release and start take none of
+abbrev laden : Post → Post
+laden o = turned true (permitted true (faulty Three true (faulty Four true (cautioned 8 o))))
+
+abbrev ladenMore : Post → Post
+ladenMore o = measured true (faulty Two true (laden o))
+
+-- with what 22 takes no notice of, faults 1 to 3, and the mark that 18 asks for; with what measures take none of, and faults
+abbrev underFaults : Post → Post
+underFaults o = marked true (faulty One true (faulty Two true (faulty Three true o)))
+
+abbrev troubled : Post → Post
+troubled o = permitted true (cautioned 7 (faulty Four true (underFaults o)))
+
+abbrev furnished : Post → Post
+furnished o = turned true (permitted true (measured true (marked true (cautioned 7 o))))
 
 -- with every fault but one
 abbrev others : Fault → Post
@@ -80,33 +98,32 @@ module _ (form : Form) (w : Way) where
   -- ## Kind 1, order: "11; 12 not the sending end; 14; 13"
 
   -- with the other track running and walking so
-  unfoldable pub ordered : Bool → Walk → Option Judged
+  unfoldable pub ordered : Post → Bool → Walk → Option Judged
   unfolding answer
-  ordered cvt walk =
-      judgedFrom (changedTrack (not (w .track)) (running cvt walk) (standing w signalled Settled free (place w 0) blank))
+  ordered own cvt walk =
+      judgedFrom (changedTrack (not (w .track)) (running cvt walk) (standing w signalled Settled free (place w 0) own))
       (on (w .track) (Order (place w 0) ∷ []))
 
-  abbrev order : Answers
-  order =
-      (answer signalled Settled free blank 0 Order gives accepted)
-      ∷ (answer signalled (turn 0 act.Set) free blank 0 Order gives refused 11)
-      ∷ (answer signalled (turn 3 act.Acknowledge) free blank 0 Order gives refused 11)
-      ∷ (answer signalled Settled free blank 1 Order gives refused 12)
-      ∷ (answer signalled Settled free blank 3 Order gives refused 12)
+  -- whatever the post has: it looks at no field of its record
+  abbrev order : Post → Answers
+  order own =
+      (answer signalled Settled free own 0 Order gives accepted)
+      ∷ (answer signalled (turn 0 act.Set) free own 0 Order gives refused 11)
+      ∷ (answer signalled (turn 3 act.Acknowledge) free own 0 Order gives refused 11)
+      ∷ (answer signalled Settled free own 1 Order gives refused 12)
+      ∷ (answer signalled Settled free own 3 Order gives refused 12)
       -- "order to CVT while the other track isn't settled on VNS (art. 915)"
-      ∷ (ordered VNS Settled gives accepted)
-      ∷ (ordered CVT Settled gives vnsElse w (refused 14) accepted)
-      ∷ (ordered VNS (Turn 1 act.Set) gives vnsElse w (refused 14) accepted)
-      ∷ (ordered CVT (Turn 1 act.Set) gives vnsElse w (refused 14) accepted)
+      ∷ (ordered own VNS Settled gives accepted)
+      ∷ (ordered own CVT Settled gives vnsElse w (refused 14) accepted)
+      ∷ (ordered own VNS (Turn 1 act.Set) gives vnsElse w (refused 14) accepted)
+      ∷ (ordered own CVT (Turn 1 act.Set) gives vnsElse w (refused 14) accepted)
       -- "telephone form: a train anywhere on the track (art. 907)"; materialised: in the part
-      ∷ (answer signalled Settled inFirst blank 0 Order gives refused 13)
-      ∷ (answer signalled Settled inSecond blank 0 Order gives telephoneElse form (refused 13) accepted)
-      ∷ (answer signalled Settled inThird blank 0 Order gives telephoneElse form (refused 13) accepted)
-      ∷ (answer without1 Settled inSecond blank 0 Order gives refused 13)
-      ∷ (answer without1 Settled inThird blank 0 Order gives telephoneElse form (refused 13) accepted)
-      ∷ (answer endsOnly Settled inThird blank 0 Order gives refused 13)
-      -- no fault stops it
-      ∷ (answer signalled Settled free (others Four) 0 Order gives accepted)
+      ∷ (answer signalled Settled inFirst own 0 Order gives refused 13)
+      ∷ (answer signalled Settled inSecond own 0 Order gives telephoneElse form (refused 13) accepted)
+      ∷ (answer signalled Settled inThird own 0 Order gives telephoneElse form (refused 13) accepted)
+      ∷ (answer without1 Settled inSecond own 0 Order gives refused 13)
+      ∷ (answer without1 Settled inThird own 0 Order gives telephoneElse form (refused 13) accepted)
+      ∷ (answer endsOnly Settled inThird own 0 Order gives refused 13)
       ∷ []
 
   -- ## Kinds 2 and 13, set and key: "15; 13; 18; 16; 19", "15; 21; 13; 18; 16; 20"
@@ -138,44 +155,41 @@ module _ (form : Form) (w : Way) where
       -- "set or key to CVT without measures"
       ∷ (answer signalled (turn 1 act.Set) free (asks blank) 1 x gives vnsElse w (refused 16) accepted)
       ∷ (answer signalled (turn 3 act.Set) free (asks blank) 3 x gives vnsElse w (refused 16) accepted)
-      -- wherever the device stands, and whatever else the post has
-      ∷ (answer signalled (turn 1 act.Set) free (asks (turned true ready)) 1 x gives accepted)
-      ∷ (answer signalled (turn 1 act.Set) free (asks (faulty Three true (faulty Four true (cautioned 7 (permitted true ready))))) 1 x gives accepted)
+      ∷ (answer signalled (turn 1 act.Set) free (asks (marked true blank)) 1 x gives vnsElse w (refused 16) accepted)
       ∷ []
 
-  abbrev setAndKey : Answers
-  setAndKey =
-      setting Set (λ o. o)
-      ++ setting Key (faulty Two true)
+  abbrev setAndKey : (Post → Post) → Answers
+  setAndKey more =
+      setting Set more
+      ++ setting Key (λ o. faulty Two true (more o))
       -- "fault 2 stops set, and key is its emergency button"
-      ++ (answer signalled (turn 1 act.Set) free (faulty Two true ready) 1 Set gives refused 19)
-      ∷ (answer signalled (turn 3 act.Set) free (faulty Two true ready) 3 Set gives refused 19)
-      ∷ (answer signalled (turn 1 act.Set) free (withSeals 999 ready) 1 Set gives accepted)
-      ∷ (answer signalled (turn 1 act.Set) free ready 1 Key gives refused 21)
-      ∷ (answer signalled (turn 1 act.Set) free (faulty Three true (faulty Four true ready)) 1 Key gives refused 21)
-      ∷ (answer signalled (turn 3 act.Set) free ready 3 Key gives refused 21)
+      ++ (answer signalled (turn 1 act.Set) free (faulty Two true (more ready)) 1 Set gives refused 19)
+      ∷ (answer signalled (turn 3 act.Set) free (faulty Two true (more ready)) 3 Set gives refused 19)
+      ∷ (answer signalled (turn 1 act.Set) free (withSeals 999 (more ready)) 1 Set gives accepted)
+      ∷ (answer signalled (turn 1 act.Set) free (more ready) 1 Key gives refused 21)
+      ∷ (answer signalled (turn 3 act.Set) free (more ready) 3 Key gives refused 21)
       -- "seal count is 999"
-      ∷ (answer signalled (turn 1 act.Set) free (withSeals 998 (faulty Two true ready)) 1 Key gives accepted)
-      ∷ (answer signalled (turn 1 act.Set) free (withSeals 999 (faulty Two true ready)) 1 Key gives refused 20)
-      ∷ (answer signalled (turn 3 act.Set) free (withSeals 999 (faulty Two true ready)) 3 Key gives refused 20)
+      ∷ (answer signalled (turn 1 act.Set) free (withSeals 998 (faulty Two true (more ready))) 1 Key gives accepted)
+      ∷ (answer signalled (turn 1 act.Set) free (withSeals 999 (faulty Two true (more ready))) 1 Key gives refused 20)
+      ∷ (answer signalled (turn 3 act.Set) free (withSeals 999 (faulty Two true (more ready))) 3 Key gives refused 20)
       ∷ []
 
   -- ## Kinds 3 and 4, announce and acknowledge: "15"
 
-  abbrev announceAndAcknowledge : Answers
-  announceAndAcknowledge =
-      (answer signalled (turn 1 act.Announce) free blank 1 Announce gives vnsElse w (says Cvt) (says Vns))
-      ∷ (answer signalled (turn 0 act.Announce) free (others Four) 0 Announce gives vnsElse w (says Cvt) (says Vns))
-      ∷ (answer signalled (turn 1 act.Set) free blank 1 Announce gives refused 15)
-      ∷ (answer signalled (turn 1 act.Acknowledge) free blank 1 Announce gives refused 15)
-      ∷ (answer signalled (turn 2 act.Announce) free blank 1 Announce gives refused 15)
-      ∷ (answer signalled Settled free blank 1 Announce gives refused 15)
-      ∷ (answer signalled (turn 1 act.Acknowledge) free blank 1 Acknowledge gives vnsElse w (says Cvtz) (says Vnsz))
-      ∷ (answer signalled (turn 3 act.Acknowledge) free (others Four) 3 Acknowledge gives vnsElse w (says Cvtz) (says Vnsz))
-      ∷ (answer signalled (turn 1 act.Set) free blank 1 Acknowledge gives refused 15)
-      ∷ (answer signalled (turn 1 act.Announce) free blank 1 Acknowledge gives refused 15)
-      ∷ (answer signalled (turn 2 act.Acknowledge) free blank 1 Acknowledge gives refused 15)
-      ∷ (answer signalled Settled free blank 1 Acknowledge gives refused 15)
+  abbrev announceAndAcknowledge : Post → Answers
+  announceAndAcknowledge own =
+      (answer signalled (turn 1 act.Announce) free own 1 Announce gives vnsElse w (says Cvt) (says Vns))
+      ∷ (answer signalled (turn 0 act.Announce) free own 0 Announce gives vnsElse w (says Cvt) (says Vns))
+      ∷ (answer signalled (turn 1 act.Set) free own 1 Announce gives refused 15)
+      ∷ (answer signalled (turn 1 act.Acknowledge) free own 1 Announce gives refused 15)
+      ∷ (answer signalled (turn 2 act.Announce) free own 1 Announce gives refused 15)
+      ∷ (answer signalled Settled free own 1 Announce gives refused 15)
+      ∷ (answer signalled (turn 1 act.Acknowledge) free own 1 Acknowledge gives vnsElse w (says Cvtz) (says Vnsz))
+      ∷ (answer signalled (turn 3 act.Acknowledge) free own 3 Acknowledge gives vnsElse w (says Cvtz) (says Vnsz))
+      ∷ (answer signalled (turn 1 act.Set) free own 1 Acknowledge gives refused 15)
+      ∷ (answer signalled (turn 1 act.Announce) free own 1 Acknowledge gives refused 15)
+      ∷ (answer signalled (turn 2 act.Acknowledge) free own 1 Acknowledge gives refused 15)
+      ∷ (answer signalled Settled free own 1 Acknowledge gives refused 15)
       ∷ []
 
   -- ## Kind 12, release: "15; 12 the last post; 21; 13; 17"
@@ -187,39 +201,39 @@ module _ (form : Form) (w : Way) where
       judgedFrom (changedTrack (w .track) (holdingLast (inTheRun w (6 ∷ 7 ∷ 8 ∷ []))) (standing w c walk trains (place w j) own))
       (on (w .track) (Release (place w j) number ∷ []))
 
-  abbrev release : Answers
-  release =
+  abbrev release : (Post → Post) → Answers
+  release more =
       -- "in turn where set is, or at the sending end with no reversal under way"
-      (released signalled (turn 1 act.Set) free (faulty One true blank) 1 7 gives accepted)
-      ∷ (released signalled (turn 0 act.Set) free (faulty One true blank) 0 6 gives accepted)
-      ∷ (released signalled Settled free (faulty One true blank) 0 6 gives accepted)
-      ∷ (released signalled Settled free (faulty One true blank) 1 7 gives refused 15)
-      ∷ (released signalled (turn 1 act.Announce) free (faulty One true blank) 1 7 gives refused 15)
-      ∷ (released signalled (turn 1 act.Acknowledge) free (faulty One true blank) 1 7 gives refused 15)
-      ∷ (released signalled (turn 2 act.Set) free (faulty One true blank) 1 7 gives refused 15)
-      ∷ (released signalled (turn 1 act.Set) free (faulty One true blank) 0 6 gives refused 15)
-      ∷ (released signalled Settled free (faulty One true blank) 3 0 gives 15 before (12 ∷ []))
+      (released signalled (turn 1 act.Set) free (more (faulty One true blank)) 1 7 gives accepted)
+      ∷ (released signalled (turn 0 act.Set) free (more (faulty One true blank)) 0 6 gives accepted)
+      ∷ (released signalled Settled free (more (faulty One true blank)) 0 6 gives accepted)
+      ∷ (released signalled Settled free (more (faulty One true blank)) 1 7 gives refused 15)
+      ∷ (released signalled (turn 1 act.Announce) free (more (faulty One true blank)) 1 7 gives refused 15)
+      ∷ (released signalled (turn 1 act.Acknowledge) free (more (faulty One true blank)) 1 7 gives refused 15)
+      ∷ (released signalled (turn 2 act.Set) free (more (faulty One true blank)) 1 7 gives refused 15)
+      ∷ (released signalled (turn 1 act.Set) free (more (faulty One true blank)) 0 6 gives refused 15)
+      ∷ (released signalled Settled free (more (faulty One true blank)) 3 0 gives 15 before (12 ∷ []))
       -- "the last post"; a post without signals "is given 12 by release"
-      ∷ (released signalled (turn 3 act.Set) free (faulty One true blank) 3 0 gives refused 12)
-      ∷ (released without1 (turn 1 act.Set) free (faulty One true blank) 1 7 gives telephoneElse form accepted (refused 12))
+      ∷ (released signalled (turn 3 act.Set) free (more (faulty One true blank)) 3 0 gives refused 12)
+      ∷ (released without1 (turn 1 act.Set) free (more (faulty One true blank)) 1 7 gives telephoneElse form accepted (refused 12))
       -- "release: no fault 1, and nothing else: with a mark already there it is accepted"
-      ∷ (released signalled (turn 1 act.Set) free (others One) 1 7 gives refused 21)
-      ∷ (released signalled Settled free (others One) 0 6 gives refused 21)
-      ∷ (released signalled (turn 1 act.Set) free (marked true (others Two)) 1 7 gives accepted)
-      ∷ (released signalled Settled free (marked true (others Two)) 0 6 gives accepted)
+      ∷ (released signalled (turn 1 act.Set) free (more (others One)) 1 7 gives refused 21)
+      ∷ (released signalled Settled free (more (others One)) 0 6 gives refused 21)
+      ∷ (released signalled (turn 1 act.Set) free (more (marked true (others Two))) 1 7 gives accepted)
+      ∷ (released signalled Settled free (more (marked true (others Two))) 0 6 gives accepted)
       -- "one in the block section ahead"; materialised: in the part
-      ∷ (released signalled (turn 1 act.Set) inFirst (faulty One true blank) 1 7 gives accepted)
-      ∷ (released signalled (turn 1 act.Set) inSecond (faulty One true blank) 1 7 gives refused 13)
-      ∷ (released signalled (turn 1 act.Set) inThird (faulty One true blank) 1 7 gives accepted)
-      ∷ (released signalled Settled inFirst (faulty One true blank) 0 6 gives refused 13)
-      ∷ (released without2 (turn 1 act.Set) inThird (faulty One true blank) 1 7 gives telephoneElse form accepted (refused 13))
-      ∷ (released without1 Settled inSecond (faulty One true blank) 0 6 gives telephoneElse form accepted (refused 13))
-      ∷ (released without1 Settled inThird (faulty One true blank) 0 6 gives accepted)
+      ∷ (released signalled (turn 1 act.Set) inFirst (more (faulty One true blank)) 1 7 gives accepted)
+      ∷ (released signalled (turn 1 act.Set) inSecond (more (faulty One true blank)) 1 7 gives refused 13)
+      ∷ (released signalled (turn 1 act.Set) inThird (more (faulty One true blank)) 1 7 gives accepted)
+      ∷ (released signalled Settled inFirst (more (faulty One true blank)) 0 6 gives refused 13)
+      ∷ (released without2 (turn 1 act.Set) inThird (more (faulty One true blank)) 1 7 gives telephoneElse form accepted (refused 13))
+      ∷ (released without1 Settled inSecond (more (faulty One true blank)) 0 6 gives telephoneElse form accepted (refused 13))
+      ∷ (released without1 Settled inThird (more (faulty One true blank)) 0 6 gives accepted)
       -- "not the last train that entered the block section ahead"
-      ∷ (released signalled (turn 1 act.Set) free (faulty One true blank) 1 6 gives refused 17)
-      ∷ (released signalled (turn 1 act.Set) free (faulty One true blank) 1 8 gives refused 17)
-      ∷ (released signalled (turn 1 act.Set) free (faulty One true blank) 1 0 gives refused 17)
-      ∷ (released signalled Settled free (faulty One true blank) 0 7 gives refused 17)
+      ∷ (released signalled (turn 1 act.Set) free (more (faulty One true blank)) 1 6 gives refused 17)
+      ∷ (released signalled (turn 1 act.Set) free (more (faulty One true blank)) 1 8 gives refused 17)
+      ∷ (released signalled (turn 1 act.Set) free (more (faulty One true blank)) 1 0 gives refused 17)
+      ∷ (released signalled Settled free (more (faulty One true blank)) 0 7 gives refused 17)
       ∷ []
 
   -- ## Kinds 5 and 6, start and pass: "11; 12 not the sending end; 17; 13; 18", "12 an end post; 17; 13", then 22
@@ -227,50 +241,50 @@ module _ (form : Form) (w : Way) where
   abbrev starting : ℕ → ℕ → Step
   starting number p = Start p number
 
-  abbrev start : Answers
-  start =
-      (answer signalled Settled free blank 0 (starting 7) gives accepted)
-      ∷ (answer signalled (turn 0 act.Set) free blank 0 (starting 7) gives refused 11)
-      ∷ (answer signalled (turn 3 act.Acknowledge) free blank 0 (starting 7) gives refused 11)
-      ∷ (answer signalled Settled free blank 1 (starting 7) gives refused 12)
-      ∷ (answer signalled Settled free (permitted true blank) 3 (starting 7) gives refused 12)
+  abbrev start : (Post → Post) → Answers
+  start more =
+      (answer signalled Settled free (more blank) 0 (starting 7) gives accepted)
+      ∷ (answer signalled (turn 0 act.Set) free (more blank) 0 (starting 7) gives refused 11)
+      ∷ (answer signalled (turn 3 act.Acknowledge) free (more blank) 0 (starting 7) gives refused 11)
+      ∷ (answer signalled Settled free (more blank) 1 (starting 7) gives refused 12)
+      ∷ (answer signalled Settled free (more (permitted true blank)) 3 (starting 7) gives refused 12)
       -- "number already on this track"
-      ∷ (answer signalled Settled inThird blank 0 (starting 5) gives refused 17)
-      ∷ (answer signalled Settled inThird blank 0 (starting 7) gives accepted)
+      ∷ (answer signalled Settled inThird (more blank) 0 (starting 5) gives refused 17)
+      ∷ (answer signalled Settled inThird (more blank) 0 (starting 7) gives accepted)
       -- "a train in that stretch": "for VNS, one block section. For CVT it reaches from one signalled post to the next", in both forms
-      ∷ (answer signalled Settled inFirst blank 0 (starting 7) gives refused 13)
-      ∷ (answer signalled Settled inSecond blank 0 (starting 7) gives accepted)
-      ∷ (answer without1 Settled inSecond blank 0 (starting 7) gives vnsElse w accepted (refused 13))
-      ∷ (answer without1 Settled inThird blank 0 (starting 7) gives accepted)
-      ∷ (answer endsOnly Settled inThird blank 0 (starting 7) gives vnsElse w accepted (refused 13))
+      ∷ (answer signalled Settled inFirst (more blank) 0 (starting 7) gives refused 13)
+      ∷ (answer signalled Settled inSecond (more blank) 0 (starting 7) gives accepted)
+      ∷ (answer without1 Settled inSecond (more blank) 0 (starting 7) gives vnsElse w accepted (refused 13))
+      ∷ (answer without1 Settled inThird (more blank) 0 (starting 7) gives accepted)
+      ∷ (answer endsOnly Settled inThird (more blank) 0 (starting 7) gives vnsElse w accepted (refused 13))
       -- "fault 1 without a mark"; no other fault, and no mark without it
-      ∷ (answer signalled Settled free (faulty One true blank) 0 (starting 7) gives refused 18)
-      ∷ (answer without1 Settled free (faulty One true blank) 0 (starting 7) gives refused 18)
-      ∷ (answer signalled Settled free (marked true (faulty One true blank)) 0 (starting 7) gives accepted)
-      ∷ (answer signalled Settled free (marked true (others One)) 0 (starting 7) gives accepted)
-      ∷ (answer signalled Settled free (others One) 0 (starting 7) gives accepted)
+      ∷ (answer signalled Settled free (more (faulty One true blank)) 0 (starting 7) gives refused 18)
+      ∷ (answer without1 Settled free (more (faulty One true blank)) 0 (starting 7) gives refused 18)
+      ∷ (answer signalled Settled free (more (marked true (faulty One true blank))) 0 (starting 7) gives accepted)
+      ∷ (answer signalled Settled free (more (marked true (others One))) 0 (starting 7) gives accepted)
+      ∷ (answer signalled Settled free (more (others One)) 0 (starting 7) gives accepted)
       ∷ []
 
   abbrev passing : ℕ → ℕ → Step
   passing number p = Pass p number
 
-  abbrev pass : Answers
-  pass =
-      (answer signalled Settled inFirst blank 1 (passing 5) gives accepted)
-      ∷ (answer signalled Settled inThird blank 3 (passing 5) gives refused 12)
-      ∷ (answer signalled Settled free blank 0 (passing 5) gives 12 before (17 ∷ []))
+  -- it looks at no walk, and of the post's record at fault 4 and the caution form alone
+  abbrev pass : Post → Answers
+  pass own =
+      (answer signalled Settled inFirst own 1 (passing 5) gives accepted)
+      ∷ (answer signalled Settled inThird own 3 (passing 5) gives refused 12)
+      ∷ (answer signalled Settled free own 0 (passing 5) gives 12 before (17 ∷ []))
       -- "that train isn't in the block section before the post"
-      ∷ (answer signalled Settled inFirst blank 1 (passing 7) gives refused 17)
-      ∷ (answer signalled Settled inFirst blank 2 (passing 5) gives refused 17)
-      ∷ (answer signalled Settled inThird blank 1 (passing 5) gives refused 17)
+      ∷ (answer signalled Settled inFirst own 1 (passing 7) gives refused 17)
+      ∷ (answer signalled Settled inFirst own 2 (passing 5) gives refused 17)
+      ∷ (answer signalled Settled inThird own 1 (passing 5) gives refused 17)
       -- "pass at a post that begins a stretch: a train in that stretch. Pass elsewhere: never."
-      ∷ (answer signalled Settled (5 ∷ 6 ∷ 0 ∷ []) blank 1 (passing 5) gives refused 13)
-      ∷ (answer signalled Settled (5 ∷ 0 ∷ 6 ∷ []) blank 1 (passing 5) gives accepted)
-      ∷ (answer without1 Settled (5 ∷ 6 ∷ 0 ∷ []) blank 1 (passing 5) gives vnsElse w (refused 13) accepted)
-      ∷ (answer without2 Settled (5 ∷ 0 ∷ 6 ∷ []) blank 1 (passing 5) gives vnsElse w accepted (refused 13))
-      -- it looks at no walk, and of the post's record at fault 4 and the caution form alone
-      ∷ (answer signalled (turn 0 act.Set) inFirst (others Four) 1 (passing 5) gives accepted)
-      ∷ (answer signalled (turn 1 act.Set) inFirst (turned true (measured true blank)) 1 (passing 5) gives accepted)
+      ∷ (answer signalled Settled (5 ∷ 6 ∷ 0 ∷ []) own 1 (passing 5) gives refused 13)
+      ∷ (answer signalled Settled (5 ∷ 0 ∷ 6 ∷ []) own 1 (passing 5) gives accepted)
+      ∷ (answer without1 Settled (5 ∷ 6 ∷ 0 ∷ []) own 1 (passing 5) gives vnsElse w (refused 13) accepted)
+      ∷ (answer without2 Settled (5 ∷ 0 ∷ 6 ∷ []) own 1 (passing 5) gives vnsElse w accepted (refused 13))
+      ∷ (answer signalled (turn 0 act.Set) inFirst own 1 (passing 5) gives accepted)
+      ∷ (answer signalled (turn 1 act.Set) inFirst own 1 (passing 5) gives accepted)
       ∷ []
 
   -- a crossing in the block section ahead of the post at place j, with announcing zones in the counter direction, and without
@@ -281,69 +295,68 @@ module _ (form : Form) (w : Way) where
   withoutZones j = withCrossings ((128 + blockAfter w j) ∷ []) signalled
 
   -- 22, of the entry of train 5 at place j, with these trains on the track
-  abbrev entering : (ℕ → Step) → ℕ → ℕ → List ℕ → Answers
-  entering x j elsewhere trains =
-      (answer (withZones j) Settled trains blank j x gives accepted)
+  abbrev entering : (Post → Post) → (ℕ → Step) → ℕ → ℕ → List ℕ → Answers
+  entering more x j elsewhere trains =
+      (answer (withZones j) Settled trains (more blank) j x gives accepted)
       -- "under fault 4": the other faults do not count, nor a crossing elsewhere
-      ∷ (answer (withZones j) Settled trains (faulty Four true blank) j x gives refused 22)
-      ∷ (answer (withoutZones j) Settled trains (faulty Four true blank) j x gives refused 22)
-      ∷ (answer (withZones j) Settled trains (faulty Two true (faulty Three true blank)) j x gives accepted)
-      ∷ (answer (withZones elsewhere) Settled trains (faulty Four true blank) j x gives accepted)
+      ∷ (answer (withZones j) Settled trains (more (faulty Four true blank)) j x gives refused 22)
+      ∷ (answer (withoutZones j) Settled trains (more (faulty Four true blank)) j x gives refused 22)
+      ∷ (answer (withZones elsewhere) Settled trains (more (faulty Four true blank)) j x gives accepted)
       -- "or in CVT without zones"
-      ∷ (answer (withoutZones j) Settled trains blank j x gives vnsElse w accepted (refused 22))
-      ∷ (answer (withoutZones elsewhere) Settled trains blank j x gives accepted)
+      ∷ (answer (withoutZones j) Settled trains (more blank) j x gives vnsElse w accepted (refused 22))
+      ∷ (answer (withoutZones elsewhere) Settled trains (more blank) j x gives accepted)
       -- "needs an E.S. 379 form for that train"
-      ∷ (answer (withZones j) Settled trains (cautioned 5 (faulty Four true blank)) j x gives accepted)
-      ∷ (answer (withZones j) Settled trains (cautioned 6 (faulty Four true blank)) j x gives refused 22)
-      ∷ (answer (withoutZones j) Settled trains (cautioned 5 blank) j x gives accepted)
-      ∷ (answer (withoutZones j) Settled trains (cautioned 6 blank) j x gives vnsElse w accepted (refused 22))
+      ∷ (answer (withZones j) Settled trains (more (cautioned 5 (faulty Four true blank))) j x gives accepted)
+      ∷ (answer (withZones j) Settled trains (more (cautioned 6 (faulty Four true blank))) j x gives refused 22)
+      ∷ (answer (withoutZones j) Settled trains (more (cautioned 5 blank)) j x gives accepted)
+      ∷ (answer (withoutZones j) Settled trains (more (cautioned 6 blank)) j x gives vnsElse w accepted (refused 22))
       ∷ []
 
-  abbrev entries : Answers
-  entries = entering (starting 5) 0 1 free ++ entering (passing 5) 1 0 inFirst ++ entering (passing 5) 2 0 inSecond
+  abbrev entries : (Post → Post) → Answers
+  entries more = entering more (starting 5) 0 1 free ++ entering more (passing 5) 1 0 inFirst ++ entering more (passing 5) 2 0 inSecond
 
   -- ## Kind 7, leave: "12 not the receiving end; 17"
 
   abbrev leaving : ℕ → ℕ → Step
   leaving number p = Leave p number
 
-  abbrev leave : Answers
-  leave =
-      (answer signalled Settled inThird blank 3 (leaving 5) gives accepted)
-      ∷ (answer signalled (turn 0 act.Set) inThird (others Four) 3 (leaving 5) gives accepted)
-      ∷ (answer signalled Settled inSecond blank 2 (leaving 5) gives refused 12)
-      ∷ (answer signalled Settled free blank 0 (leaving 5) gives 12 before (17 ∷ []))
-      ∷ (answer signalled Settled inThird blank 3 (leaving 7) gives refused 17)
-      ∷ (answer signalled Settled inSecond blank 3 (leaving 5) gives refused 17)
+  abbrev leave : Post → Answers
+  leave own =
+      (answer signalled Settled inThird own 3 (leaving 5) gives accepted)
+      ∷ (answer signalled (turn 0 act.Set) inThird own 3 (leaving 5) gives accepted)
+      ∷ (answer signalled Settled inSecond own 2 (leaving 5) gives refused 12)
+      ∷ (answer signalled Settled free own 0 (leaving 5) gives 12 before (17 ∷ []))
+      ∷ (answer signalled Settled inThird own 3 (leaving 7) gives refused 17)
+      ∷ (answer signalled Settled inSecond own 3 (leaving 5) gives refused 17)
       ∷ []
 
   -- ## Kinds 8 to 11, measures and faults: "21"; "21; 16"; "21"; "21"
 
-  abbrev ofFault : Fault → Answers
-  ofFault f =
-      (answer signalled Settled free blank 1 (λ p. FaultOn p f) gives accepted)
-      ∷ (answer signalled Settled free (others f) 1 (λ p. FaultOn p f) gives accepted)
-      ∷ (answer signalled Settled free (faulty f true blank) 1 (λ p. FaultOn p f) gives refused 21)
-      ∷ (answer signalled Settled free (faulty f true blank) 1 (λ p. FaultOff p f) gives accepted)
-      ∷ (answer signalled Settled free (others f) 1 (λ p. FaultOff p f) gives refused 21)
+  abbrev ofFault : (Post → Post) → Fault → Answers
+  ofFault more f =
+      (answer signalled Settled free (more blank) 1 (λ p. FaultOn p f) gives accepted)
+      ∷ (answer signalled Settled free (more (others f)) 1 (λ p. FaultOn p f) gives accepted)
+      ∷ (answer signalled Settled free (more (faulty f true blank)) 1 (λ p. FaultOn p f) gives refused 21)
+      ∷ (answer signalled Settled free (more (faulty f true blank)) 1 (λ p. FaultOff p f) gives accepted)
+      ∷ (answer signalled Settled free (more (others f)) 1 (λ p. FaultOff p f) gives refused 21)
       -- in a reversal, with a train ahead, at a post without signals, at the receiving end
-      ∷ (answer without1 (turn 1 act.Set) inSecond (others f) 1 (λ p. FaultOn p f) gives accepted)
-      ∷ (answer without1 (turn 1 act.Set) inSecond (faulty f true blank) 1 (λ p. FaultOff p f) gives accepted)
-      ∷ (answer signalled Settled inThird (others f) 3 (λ p. FaultOn p f) gives accepted)
+      ∷ (answer without1 (turn 1 act.Set) inSecond (more (others f)) 1 (λ p. FaultOn p f) gives accepted)
+      ∷ (answer without1 (turn 1 act.Set) inSecond (more (faulty f true blank)) 1 (λ p. FaultOff p f) gives accepted)
+      ∷ (answer signalled Settled inThird (more (others f)) 3 (λ p. FaultOn p f) gives accepted)
       ∷ []
 
-  abbrev measures : Answers
-  measures =
-      (answer signalled Settled free blank 1 MeasuresOn gives accepted)
-      ∷ (answer signalled Settled free (turned true (others Four)) 1 MeasuresOn gives accepted)
-      ∷ (answer signalled (turn 1 act.Set) inSecond blank 1 MeasuresOn gives accepted)
-      ∷ (answer signalled Settled free ready 1 MeasuresOn gives refused 21)
-      ∷ (answer signalled Settled free ready 1 MeasuresOff gives accepted)
-      ∷ (answer signalled (turn 1 act.Set) inSecond ready 1 MeasuresOff gives accepted)
-      ∷ (answer signalled Settled free blank 1 MeasuresOff gives refused 21)
+  abbrev measures : (Post → Post) → Answers
+  measures more =
+      (answer signalled Settled free (more blank) 1 MeasuresOn gives accepted)
+      ∷ (answer signalled Settled free (more (turned true blank)) 1 MeasuresOn gives accepted)
+      ∷ (answer signalled (turn 1 act.Set) inSecond (more blank) 1 MeasuresOn gives accepted)
+      ∷ (answer signalled Settled free (more ready) 1 MeasuresOn gives refused 21)
+      ∷ (answer signalled Settled free (more ready) 1 MeasuresOff gives accepted)
+      ∷ (answer signalled (turn 1 act.Set) inSecond (more ready) 1 MeasuresOff gives accepted)
+      ∷ (answer signalled Settled free (more blank) 1 MeasuresOff gives refused 21)
       -- "measures off with the device at CVT", whatever the running direction
-      ∷ (answer signalled Settled free (turned true ready) 1 MeasuresOff gives refused 16)
-      ∷ (answer signalled (turn 1 act.Set) free (turned true ready) 1 MeasuresOff gives refused 16)
+      ∷ (answer signalled Settled free (more (turned true ready)) 1 MeasuresOff gives refused 16)
+      ∷ (answer signalled (turn 1 act.Set) free (more (turned true ready)) 1 MeasuresOff gives refused 16)
       ∷ []
 
   -- ## Kind 14, a caution form: "12 where no crossing lies in the block section ahead"
@@ -352,13 +365,13 @@ module _ (form : Form) (w : Way) where
   abbrev handedOut : List ℕ → ℕ → Option Judged
   handedOut bytes i = judgedFrom (standing w (withCrossings bytes signalled) Settled free 0 blank) (on (w .track) (Caution (entry w i) 7 ∷ []))
 
-  abbrev caution : Answers
-  caution =
-      (answer (withZones 1) Settled free blank 1 (λ p. Caution p 7) gives accepted)
-      ∷ (answer (withoutZones 1) (turn 1 act.Set) inSecond (cautioned 8 (others Four)) 1 (λ p. Caution p 7) gives accepted)
-      ∷ (answer (withZones 1) Settled free blank 0 (λ p. Caution p 7) gives refused 12)
-      ∷ (answer (withZones 1) Settled free blank 2 (λ p. Caution p 7) gives refused 12)
-      ∷ (answer (withZones 2) Settled free (faulty Four true blank) 3 (λ p. Caution p 7) gives refused 12)
+  abbrev caution : Post → Answers
+  caution own =
+      (answer (withZones 1) Settled free own 1 (λ p. Caution p 7) gives accepted)
+      ∷ (answer (withoutZones 1) (turn 1 act.Set) inSecond own 1 (λ p. Caution p 7) gives accepted)
+      ∷ (answer (withZones 1) Settled free own 0 (λ p. Caution p 7) gives refused 12)
+      ∷ (answer (withZones 1) Settled free own 2 (λ p. Caution p 7) gives refused 12)
+      ∷ (answer (withZones 2) Settled free own 3 (λ p. Caution p 7) gives refused 12)
       -- any of the eight bytes
       ∷ (handedOut (0 ∷ 1 ∷ 1 ∷ 1 ∷ 1 ∷ 1 ∷ 1 ∷ 2 ∷ []) 0 gives accepted)
       ∷ (handedOut (0 ∷ 0 ∷ 0 ∷ 1 ∷ 2 ∷ 2 ∷ 2 ∷ 2 ∷ []) 1 gives accepted)
@@ -375,40 +388,95 @@ module _ (form : Form) (w : Way) where
       gives vnsElse w accepted (refused 22))
       ∷ []
 
+  -- ## The longest line, of sixteen posts
+
+  abbrev longest : ℕ → Settings
+  longest mask = form 16 mask
+
+  abbrev farAway : Walk → List ℕ → Post → ℕ → (ℕ → Step) → Settings → Option Judged
+  farAway walk trains own j x c = judgedFrom (standing w c walk trains (placeOf w 16 j) own) (on (w .track) (x (placeOf w 16 j) ∷ []))
+
+  -- train 5 in the tenth block section of the run, and in the last
+  abbrev inTenth : List ℕ
+  inTenth = replicate 9 0 ++ 5 ∷ replicate 5 0
+
+  abbrev inLast : List ℕ
+  inLast = replicate 14 0 ++ 5 ∷ []
+
+  abbrev maskWithout9 : ℕ
+  maskWithout9 = cond (w .upward) 65023 65471
+
+  -- only the ends are signalled; all posts are; all but the one at place 9 are
+  abbrev long : Answers
+  long =
+      (farAway Settled inLast blank 0 Order (longest 32769) gives refused 13)
+      ∷ (farAway Settled inLast blank 0 Order (longest 65535) gives telephoneElse form (refused 13) accepted)
+      ∷ (farAway (Turn (placeOf w 16 0) act.Set) inLast ready 0 Set (longest 32769) gives telephoneElse form accepted (refused 13))
+      ∷ (farAway Settled inLast blank 0 (starting 7) (longest 32769) gives vnsElse w accepted (refused 13))
+      ∷ (farAway Settled inLast blank 0 (starting 5) (longest 65535) gives refused 17)
+      ∷ (farAway Settled inLast blank 15 (leaving 5) (longest 32769) gives accepted)
+      ∷ (farAway (Turn (placeOf w 16 8) act.Set) inTenth ready 8 Set (longest 65535) gives accepted)
+      ∷ (farAway (Turn (placeOf w 16 8) act.Set) inTenth ready 8 Set (longest maskWithout9) gives telephoneElse form accepted (refused 13))
+      ∷ (farAway (Turn (placeOf w 16 9) act.Set) inTenth ready 9 Set (longest maskWithout9) gives telephoneElse form (refused 13) accepted)
+      ∷ (farAway Settled (replicate 15 0) blank 14 (λ p. Caution p 7) (withCrossings (cond (w .upward) 14 0 ∷ []) (longest 65535)) gives accepted)
+      ∷ []
+
 -- ## The tables
 
-pub order-answers : Holds (everyWay order)
+-- a post that has nothing, and one that has everything
+abbrev whatever : List Post
+whatever = blank ∷ full ∷ []
+
+-- a post as it is, and with more that its step takes no notice of
+abbrev alsoWith : (Post → Post) → List (Post → Post)
+alsoWith more = (λ o. o) ∷ more ∷ []
+
+pub order-answers : Holds (everyWay (λ form w. each whatever (order form w)))
 unfolding released ordered
 order-answers = refl
 
-pub set-and-key-answers : Holds (everyWay setAndKey)
+pub set-and-key-answers : Holds (everyWay (λ form w. each (alsoWith laden) (setAndKey form w)))
 unfolding answer
 set-and-key-answers = refl
 
-pub announce-and-acknowledge-answers : Holds (everyWay announceAndAcknowledge)
+pub announce-and-acknowledge-answers : Holds (everyWay (λ form w. each whatever (announceAndAcknowledge form w)))
 unfolding answer
 announce-and-acknowledge-answers = refl
 
-pub release-answers : Holds (everyWay release)
+pub release-answers : Holds (everyWay (λ form w. each (alsoWith ladenMore) (release form w)))
 unfolding released
 release-answers = refl
 
-pub start-and-pass-answers : Holds (everyWay (λ form w. start form w ++ pass form w))
+pub start-answers : Holds (everyWay (λ form w. each (alsoWith ladenMore) (start form w)))
 unfolding answer
-start-and-pass-answers = refl
+start-answers = refl
 
-pub entry-answers : Holds (everyWay (λ form w. entries form w ++ byTheEighth form w))
+pub pass-answers : Holds (everyWay (λ form w. each whatever (pass form w)))
+unfolding answer
+pass-answers = refl
+
+pub entry-answers : Holds (everyWay (λ form w. each (alsoWith underFaults) (entries form w) ++ byTheEighth form w))
 unfolding answer
 entry-answers = refl
 
-pub leave-answers : Holds (everyWay leave)
+pub leave-answers : Holds (everyWay (λ form w. each whatever (leave form w)))
 unfolding answer
 leave-answers = refl
 
-pub fault-answers : Holds (everyWay (λ form w. each (One ∷ Two ∷ Three ∷ Four ∷ []) (ofFault form w)))
+pub measures-answers : Holds (everyWay (λ form w. each (alsoWith troubled) (measures form w)))
+unfolding answer
+measures-answers = refl
+
+pub fault-answers :
+    Holds
+    (everyWay (λ form w. each (alsoWith furnished) (λ more. each (One ∷ Two ∷ Three ∷ Four ∷ []) (ofFault form w more))))
 unfolding answer
 fault-answers = refl
 
-pub measures-and-caution-answers : Holds (everyWay (λ form w. measures form w ++ caution form w))
+pub caution-answers : Holds (everyWay (λ form w. each whatever (caution form w)))
 unfolding answer
-measures-and-caution-answers = refl
+caution-answers = refl
+
+pub answers-on-the-longest-line : Holds (everyWay long)
+unfolding answer
+answers-on-the-longest-line = refl

@@ -3,8 +3,7 @@
 -- trains stand in the order in which the run meets their block sections.
 use Prim.Native.Nat.{ℕ, suc, _-_}
 use mathlib.Core.Bool.{Bool, true, false, cond}
-use mathlib.Core.List.{List, [], _∷_, _++_}
-use lib.ListN.{getD}
+use mathlib.Core.List.{List, [], _∷_, _++_, reverse}
 use lib.Dec.{eqb}
 use Rattle.section.specs.declared.Settings.{Settings}
 use Rattle.section.specs.declared.Post.{Post}
@@ -66,9 +65,12 @@ abbrev pub inThird : List ℕ
 inThird = 0 ∷ 0 ∷ 5 ∷ []
 
 module _ (w : Way) where
-  -- the post at that place of the run
+  -- the post at that place of the run on a line of n posts, and of four
+  abbrev pub placeOf : ℕ → ℕ → ℕ
+  placeOf n j = cond (w .upward) j (n - suc j)
+
   abbrev pub place : ℕ → ℕ
-  place j = cond (w .upward) j (3 - j)
+  place j = placeOf 4 j
 
   -- the block section after that place
   abbrev pub blockAfter : ℕ → ℕ
@@ -85,9 +87,9 @@ module _ (w : Way) where
   abbrev pub maskWithout2 : ℕ
   maskWithout2 = cond (w .upward) 11 13
 
-  -- three numbers of block sections, given in the order of the run
+  -- a number for each block section, given in the order of the run
   abbrev pub inTheRun : List ℕ → List ℕ
-  inTheRun l = cond (w .upward) l (getD l 2 0 ∷ getD l 1 0 ∷ getD l 0 0 ∷ [])
+  inTheRun l = cond (w .upward) l (reverse l)
 
   -- the track runs that way, with these trains, and the post has that record: a state that a day need not reach
   unfoldable pub standing : Settings → Walk → List ℕ → ℕ → Post → Section

@@ -1,7 +1,7 @@
 -- The lamp table's index, entries and length (document 02, request 6), and the number of posts shown: on both tracks, in both directions and both
 -- forms. By telephone too a post is next to set; where a post commands no part fault 1 still counts, and a train ahead does not.
 use Prim.Native.Nat.{ℕ, _+_}
-use mathlib.Core.Bool.{true, false}
+use mathlib.Core.Bool.{true}
 use mathlib.Core.Path.{_≡_, refl}
 use mathlib.Core.List.{List, [], _∷_, _++_}
 use lib.ListN.{length}

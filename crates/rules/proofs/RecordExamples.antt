@@ -5,7 +5,6 @@ use Prim.Native.Nat.{ℕ, suc}
 use mathlib.Core.Bool.{Bool, true, false, not}
 use mathlib.Core.Path.{refl}
 use mathlib.Core.List.{List, [], _∷_, _++_}
-use Rattle.section.specs.declared.Settings.{Settings}
 use Rattle.section.specs.declared.Post.{Post}
 use Rattle.section.specs.declared.Step.{Step}
 use Rattle.section.specs.declared.Act.the-variants as act
@@ -21,7 +20,7 @@ use Rattle.rules.specs.Line.{lineIn}
 use Rattle.rules.specs.Table.{effect}
 use Rattle.rules.proofs.Days.{fresh}
 use Rattle.rules.proofs.Rows.{Row, _gives_, Holds, judged}
-use Rattle.rules.proofs.Directions.{Way, Form, everyWay, each, place}
+use Rattle.rules.proofs.Directions.{Way, Form, everyWay, place}
 
 -- device at CVT, permission, measures, every fault, a mark, three seals, a caution form for train 7
 abbrev pub full : Post

@@ -18,9 +18,9 @@ use Rattle.section.specs.declared.Walk.the-variants.{Settled, Turn}
 use Rattle.section.specs.Bytes.{le16, within}
 use Rattle.section.specs.Crossings.{noCrossings, isUsed, crossingBlock, lacksZones, liesIn, hasCrossings}
 use Rattle.section.specs.Step.{faultWellFormed, numberWellFormed, trackWellFormed, placeWellFormed, fieldsWellFormed, wellFormed}
-use Rattle.section.specs.Step.{faultOf, stepOf, stepSaid, decoded, kindOf, postOf, numberOf, faultNumber, bytesOf, encoded, isTrainKind}
+use Rattle.section.specs.Step.{faultOf, stepOf, stepSaid, decoded, faultNumber, bytesOf, encoded, isTrainKind}
 use Rattle.section.specs.Words.{refusalOf, saidBy, saidNumber, saidNumbered, letter}
-use Rattle.section.proofs.Rows.{Row, _gives_, Holds}
+use Rattle.section.proofs.Rows.{_gives_, Holds}
 
 -- ## Steps
 

@@ -7,7 +7,7 @@ use Rattle.section.specs.declared.Fault.{Fault}
 use Rattle.section.specs.declared.Fault.the-variants.{One, Two, Three, Four}
 use Rattle.section.specs.declared.Post.{Post}
 use Rattle.section.specs.Post.{blank, turned, permitted, measured, faulty, marked, sealed, cautioned, hasFault}
-use Rattle.section.proofs.Rows.{Row, _gives_, Holds}
+use Rattle.section.proofs.Rows.{_gives_, Holds}
 
 abbrev on : Bool
 on = true

@@ -4,7 +4,7 @@ use Prim.Native.Nat.{ℕ}
 use mathlib.Core.Bool.{Bool, true, false}
 use mathlib.Core.Path.{_≡_, refl}
 use mathlib.Core.List.{List, [], _∷_, _++_, map}
-use lib.ListN.{length, replicate}
+use lib.ListN.{replicate}
 use Rattle.section.specs.declared.Act.the-variants.{Set, Announce, Acknowledge}
 use Rattle.section.specs.declared.Post.{Post}
 use Rattle.section.specs.declared.Section.{Section}
@@ -16,11 +16,11 @@ use Rattle.section.specs.Bytes.{within}
 use Rattle.section.specs.Crossings.{crossingsInRange}
 use Rattle.section.specs.Fresh.{freshTrack, freshSection}
 use Rattle.section.specs.Geometry.{upward, rank, block, isFirst, isLast}
-use Rattle.section.specs.Post.{blank, permitted}
+use Rattle.section.specs.Post.{permitted}
 use Rattle.section.specs.Range.{postInRange, postsInRange, numbersInRange, actInRange, walkInRange, trackInRange, inRange}
 use Rattle.section.specs.Settings.{isSignalled, noneFrom, settingsInRange}
-use Rattle.section.specs.Store.{trackOf, withTrack, withPost}
-use Rattle.section.proofs.Rows.{Row, _gives_, Holds}
+use Rattle.section.specs.Store.{withTrack, withPost}
+use Rattle.section.proofs.Rows.{_gives_, Holds}
 
 -- ## Settings
 
