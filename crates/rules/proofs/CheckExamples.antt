@@ -1,13 +1,14 @@
 -- The column "Checks" of document 01's table, with document 02's requests 1 and 3: for each check of each kind a state in which it alone refuses
 -- the step and one in which it does not, on both tracks, in both directions and both forms, so that a check that is dropped in one direction or
--- one form gives another row. The states need not be reached: "A state inside the ranges is judged by the table of steps, reachable or not."
+-- one form, or by something else that the post has, gives another row. The states need not be reached: "A state inside the ranges is judged by
+-- the table of steps, reachable or not."
 use Prim.Native.Nat.{ℕ, _+_}
 use mathlib.Core.Bool.{Bool, true, cond, not}
 use mathlib.Core.Path.{refl}
 use mathlib.Core.List.{List, [], _∷_, _++_}
-use mathlib.Core.Option.{Option}
 use lib.ListN.{replicate}
 use Rattle.section.specs.declared.Settings.{Settings}
+use Rattle.section.specs.declared.Section.{Section}
 use Rattle.section.specs.declared.Post.{Post}
 use Rattle.section.specs.declared.Step.{Step}
 use Rattle.section.specs.declared.Act.{Act}
@@ -17,17 +18,32 @@ use Rattle.section.specs.declared.Walk.the-variants.{Settled, Turn}
 use Rattle.section.specs.declared.Fault.{Fault}
 use Rattle.section.specs.declared.Fault.the-variants.{One, Two, Three, Four}
 use Rattle.section.specs.declared.Said.the-variants.{Cvt, Cvtz, Vns, Vnsz}
+use Rattle.section.specs.declared.Verdict.{Verdict}
+use Rattle.section.specs.declared.Verdict.the-variants.{Accepted}
 use Rattle.section.specs.declared.Step.the-variants.{Order, Set, Announce, Acknowledge, Start, Pass, Leave, MeasuresOn, MeasuresOff}
 use Rattle.section.specs.declared.Step.the-variants.{FaultOn, FaultOff, Release, Key, Caution}
 use Rattle.section.specs.Post.{blank, turned, permitted, measured, faulty, marked, cautioned}
-use Rattle.rules.proofs.Days.{VNS, CVT, withCrossings, changedTrack, running, holdingLast, on}
-use Rattle.rules.proofs.Rows.{Row, _gives_, Holds, Judged, judged, judgedFrom, accepted, says, refused, _before_}
+use Rattle.rules.specs.Line.{lineIn}
+use Rattle.rules.specs.Table.{checks}
+use Rattle.rules.specs.Judge.{siteOf, occupancyOf, verdictOn}
+use Rattle.rules.proofs.Days.{VNS, CVT, withCrossings, changedTrack, running, holdingLast, stepOn}
+use Rattle.rules.proofs.Rows.{Row, _gives_, Holds, failingOf, judged}
 use Rattle.rules.proofs.RecordExamples.{full}
 use Rattle.rules.proofs.Directions.{Way, Form, everyWay, each, telephoneElse, vnsElse, place, blockAfter, entry, maskWithout1, maskWithout2}
 use Rattle.rules.proofs.Directions.{placeOf, inTheRun, standing, free, inFirst, inSecond, inThird}
 
+-- the figures of all checks that fail, in their order
+abbrev Failing : Type 0
+Failing = List ℕ
+
 abbrev Answers : Type 0
-Answers = List (Row (Option Judged))
+Answers = List (Row Failing)
+
+abbrev accepted : Failing
+accepted = []
+
+abbrev refused : ℕ → Failing
+refused k = k ∷ []
 
 -- ## Posts
 
@@ -90,19 +106,23 @@ module _ (form : Form) (w : Way) where
   abbrev turn : ℕ → Act → Walk
   turn j act = Turn (place w j) act
 
-  -- the answer to a step of the post at a place: with these trains on the track, and that record at the post
-  unfoldable pub answer : Settings → Walk → List ℕ → Post → ℕ → (ℕ → Step) → Option Judged
+  -- the answer to a step of the track
+  unfoldable pub failing : Step → Section → Failing
   unfolding judged standing
-  answer c walk trains own j x = judgedFrom (standing w c walk trains (place w j) own) (on (w .track) (x (place w j) ∷ []))
+  failing x s = let y = stepOn (w .track) x in failingOf (checks (lineIn s) x (siteOf s y) (occupancyOf s y))
+
+  -- to a step of the post at a place: with these trains on the track, and that record at the post
+  unfoldable pub answer : Settings → Walk → List ℕ → Post → ℕ → (ℕ → Step) → Failing
+  unfolding failing
+  answer c walk trains own j x = failing (x (place w j)) (standing w c walk trains (place w j) own)
 
   -- ## Kind 1, order: "11; 12 not the sending end; 14; 13"
 
   -- with the other track running and walking so
-  unfoldable pub ordered : Post → Bool → Walk → Option Judged
+  unfoldable pub ordered : Post → Bool → Walk → Failing
   unfolding answer
   ordered own cvt walk =
-      judgedFrom (changedTrack (not (w .track)) (running cvt walk) (standing w signalled Settled free (place w 0) own))
-      (on (w .track) (Order (place w 0) ∷ []))
+      failing (Order (place w 0)) (changedTrack (not (w .track)) (running cvt walk) (standing w signalled Settled free (place w 0) own))
 
   -- whatever the post has: it looks at no field of its record
   abbrev order : Post → Answers
@@ -178,28 +198,41 @@ module _ (form : Form) (w : Way) where
 
   abbrev announceAndAcknowledge : Post → Answers
   announceAndAcknowledge own =
-      (answer signalled (turn 1 act.Announce) free own 1 Announce gives vnsElse w (says Cvt) (says Vns))
-      ∷ (answer signalled (turn 0 act.Announce) free own 0 Announce gives vnsElse w (says Cvt) (says Vns))
+      (answer signalled (turn 1 act.Announce) free own 1 Announce gives accepted)
+      ∷ (answer signalled (turn 0 act.Announce) free own 0 Announce gives accepted)
       ∷ (answer signalled (turn 1 act.Set) free own 1 Announce gives refused 15)
       ∷ (answer signalled (turn 1 act.Acknowledge) free own 1 Announce gives refused 15)
       ∷ (answer signalled (turn 2 act.Announce) free own 1 Announce gives refused 15)
       ∷ (answer signalled Settled free own 1 Announce gives refused 15)
-      ∷ (answer signalled (turn 1 act.Acknowledge) free own 1 Acknowledge gives vnsElse w (says Cvtz) (says Vnsz))
-      ∷ (answer signalled (turn 3 act.Acknowledge) free own 3 Acknowledge gives vnsElse w (says Cvtz) (says Vnsz))
+      ∷ (answer signalled (turn 1 act.Acknowledge) free own 1 Acknowledge gives accepted)
+      ∷ (answer signalled (turn 3 act.Acknowledge) free own 3 Acknowledge gives accepted)
       ∷ (answer signalled (turn 1 act.Set) free own 1 Acknowledge gives refused 15)
       ∷ (answer signalled (turn 1 act.Announce) free own 1 Acknowledge gives refused 15)
       ∷ (answer signalled (turn 2 act.Acknowledge) free own 1 Acknowledge gives refused 15)
       ∷ (answer signalled Settled free own 1 Acknowledge gives refused 15)
       ∷ []
 
+  -- "says CVT or VNS, the new direction", "says CVTz or VNSz"
+  unfoldable pub announced : Walk → Post → ℕ → (ℕ → Step) → Verdict
+  unfolding answer
+  announced walk own j x = verdictOn (standing w signalled walk free (place w j) own) (stepOn (w .track) (x (place w j)))
+
+  abbrev announcements : Post → List (Row Verdict)
+  announcements own =
+      (announced (turn 0 act.Announce) own 0 Announce gives vnsElse w (Accepted Cvt) (Accepted Vns))
+      ∷ (announced (turn 1 act.Announce) own 1 Announce gives vnsElse w (Accepted Cvt) (Accepted Vns))
+      ∷ (announced (turn 1 act.Acknowledge) own 1 Acknowledge gives vnsElse w (Accepted Cvtz) (Accepted Vnsz))
+      ∷ (announced (turn 3 act.Acknowledge) own 3 Acknowledge gives vnsElse w (Accepted Cvtz) (Accepted Vnsz))
+      ∷ []
+
   -- ## Kind 12, release: "15; 12 the last post; 21; 13; 17"
 
   -- the last trains that entered the block sections of the run are 6, 7 and 8
-  unfoldable pub released : Settings → Walk → List ℕ → Post → ℕ → ℕ → Option Judged
+  unfoldable pub released : Settings → Walk → List ℕ → Post → ℕ → ℕ → Failing
   unfolding answer
   released c walk trains own j number =
-      judgedFrom (changedTrack (w .track) (holdingLast (inTheRun w (6 ∷ 7 ∷ 8 ∷ []))) (standing w c walk trains (place w j) own))
-      (on (w .track) (Release (place w j) number ∷ []))
+      failing (Release (place w j) number)
+      (changedTrack (w .track) (holdingLast (inTheRun w (6 ∷ 7 ∷ 8 ∷ []))) (standing w c walk trains (place w j) own))
 
   abbrev release : (Post → Post) → Answers
   release more =
@@ -212,7 +245,7 @@ module _ (form : Form) (w : Way) where
       ∷ (released signalled (turn 1 act.Acknowledge) free (more (faulty One true blank)) 1 7 gives refused 15)
       ∷ (released signalled (turn 2 act.Set) free (more (faulty One true blank)) 1 7 gives refused 15)
       ∷ (released signalled (turn 1 act.Set) free (more (faulty One true blank)) 0 6 gives refused 15)
-      ∷ (released signalled Settled free (more (faulty One true blank)) 3 0 gives 15 before (12 ∷ []))
+      ∷ (released signalled Settled free (more (faulty One true blank)) 3 0 gives 15 ∷ 12 ∷ [])
       -- "the last post"; a post without signals "is given 12 by release"
       ∷ (released signalled (turn 3 act.Set) free (more (faulty One true blank)) 3 0 gives refused 12)
       ∷ (released without1 (turn 1 act.Set) free (more (faulty One true blank)) 1 7 gives telephoneElse form accepted (refused 12))
@@ -273,7 +306,7 @@ module _ (form : Form) (w : Way) where
   pass own =
       (answer signalled Settled inFirst own 1 (passing 5) gives accepted)
       ∷ (answer signalled Settled inThird own 3 (passing 5) gives refused 12)
-      ∷ (answer signalled Settled free own 0 (passing 5) gives 12 before (17 ∷ []))
+      ∷ (answer signalled Settled free own 0 (passing 5) gives 12 ∷ 17 ∷ [])
       -- "that train isn't in the block section before the post"
       ∷ (answer signalled Settled inFirst own 1 (passing 7) gives refused 17)
       ∷ (answer signalled Settled inFirst own 2 (passing 5) gives refused 17)
@@ -325,7 +358,7 @@ module _ (form : Form) (w : Way) where
       (answer signalled Settled inThird own 3 (leaving 5) gives accepted)
       ∷ (answer signalled (turn 0 act.Set) inThird own 3 (leaving 5) gives accepted)
       ∷ (answer signalled Settled inSecond own 2 (leaving 5) gives refused 12)
-      ∷ (answer signalled Settled free own 0 (leaving 5) gives 12 before (17 ∷ []))
+      ∷ (answer signalled Settled free own 0 (leaving 5) gives 12 ∷ 17 ∷ [])
       ∷ (answer signalled Settled inThird own 3 (leaving 7) gives refused 17)
       ∷ (answer signalled Settled inSecond own 3 (leaving 5) gives refused 17)
       ∷ []
@@ -362,8 +395,8 @@ module _ (form : Form) (w : Way) where
   -- ## Kind 14, a caution form: "12 where no crossing lies in the block section ahead"
 
   -- handed out at the post from which block section i is entered, on a line with these bytes of crossings
-  abbrev handedOut : List ℕ → ℕ → Option Judged
-  handedOut bytes i = judgedFrom (standing w (withCrossings bytes signalled) Settled free 0 blank) (on (w .track) (Caution (entry w i) 7 ∷ []))
+  abbrev handedOut : List ℕ → ℕ → Failing
+  handedOut bytes i = failing (Caution (entry w i) 7) (standing w (withCrossings bytes signalled) Settled free 0 blank)
 
   abbrev caution : Post → Answers
   caution own =
@@ -393,8 +426,8 @@ module _ (form : Form) (w : Way) where
   abbrev longest : ℕ → Settings
   longest mask = form 16 mask
 
-  abbrev farAway : Walk → List ℕ → Post → ℕ → (ℕ → Step) → Settings → Option Judged
-  farAway walk trains own j x c = judgedFrom (standing w c walk trains (placeOf w 16 j) own) (on (w .track) (x (placeOf w 16 j) ∷ []))
+  abbrev farAway : Walk → List ℕ → Post → ℕ → (ℕ → Step) → Settings → Failing
+  farAway walk trains own j x c = failing (x (placeOf w 16 j)) (standing w c walk trains (placeOf w 16 j) own)
 
   -- train 5 in the tenth block section of the run, and in the last
   abbrev inTenth : List ℕ
@@ -423,57 +456,59 @@ module _ (form : Form) (w : Way) where
 
 -- ## The tables
 
--- a post that has nothing, and one that has everything
-abbrev whatever : List Post
-whatever = blank ∷ full ∷ []
+-- a post that has nothing on track A, and everything on track B
+abbrev whatever : Way → Post
+whatever w = cond (w .track) full blank
 
--- a post as it is, and with more that its step takes no notice of
-abbrev alsoWith : (Post → Post) → List (Post → Post)
-alsoWith more = (λ o. o) ∷ more ∷ []
+-- a post as it is on track A, and on track B with more that its step takes no notice of
+abbrev onB : (Post → Post) → Way → Post → Post
+onB more w o = cond (w .track) (more o) o
 
-pub order-answers : Holds (everyWay (λ form w. each whatever (order form w)))
+pub order-answers : Holds (everyWay (λ form w. order form w (whatever w)))
 unfolding released ordered
 order-answers = refl
 
-pub set-and-key-answers : Holds (everyWay (λ form w. each (alsoWith laden) (setAndKey form w)))
+pub set-and-key-answers : Holds (everyWay (λ form w. setAndKey form w (onB laden w)))
 unfolding answer
 set-and-key-answers = refl
 
-pub announce-and-acknowledge-answers : Holds (everyWay (λ form w. each whatever (announceAndAcknowledge form w)))
+pub announce-and-acknowledge-answers : Holds (everyWay (λ form w. announceAndAcknowledge form w (whatever w)))
 unfolding answer
 announce-and-acknowledge-answers = refl
 
-pub release-answers : Holds (everyWay (λ form w. each (alsoWith ladenMore) (release form w)))
+pub what-is-announced : Holds (everyWay (λ form w. announcements form w (whatever w)))
+unfolding announced
+what-is-announced = refl
+
+pub release-answers : Holds (everyWay (λ form w. release form w (onB ladenMore w)))
 unfolding released
 release-answers = refl
 
-pub start-answers : Holds (everyWay (λ form w. each (alsoWith ladenMore) (start form w)))
+pub start-answers : Holds (everyWay (λ form w. start form w (onB ladenMore w)))
 unfolding answer
 start-answers = refl
 
-pub pass-answers : Holds (everyWay (λ form w. each whatever (pass form w)))
+pub pass-answers : Holds (everyWay (λ form w. pass form w (whatever w)))
 unfolding answer
 pass-answers = refl
 
-pub entry-answers : Holds (everyWay (λ form w. each (alsoWith underFaults) (entries form w) ++ byTheEighth form w))
+pub entry-answers : Holds (everyWay (λ form w. entries form w (onB underFaults w) ++ byTheEighth form w))
 unfolding answer
 entry-answers = refl
 
-pub leave-answers : Holds (everyWay (λ form w. each whatever (leave form w)))
+pub leave-answers : Holds (everyWay (λ form w. leave form w (whatever w)))
 unfolding answer
 leave-answers = refl
 
-pub measures-answers : Holds (everyWay (λ form w. each (alsoWith troubled) (measures form w)))
+pub measures-answers : Holds (everyWay (λ form w. measures form w (onB troubled w)))
 unfolding answer
 measures-answers = refl
 
-pub fault-answers :
-    Holds
-    (everyWay (λ form w. each (alsoWith furnished) (λ more. each (One ∷ Two ∷ Three ∷ Four ∷ []) (ofFault form w more))))
+pub fault-answers : Holds (everyWay (λ form w. each (One ∷ Two ∷ Three ∷ Four ∷ []) (ofFault form w (onB furnished w))))
 unfolding answer
 fault-answers = refl
 
-pub caution-answers : Holds (everyWay (λ form w. each whatever (caution form w)))
+pub caution-answers : Holds (everyWay (λ form w. caution form w (whatever w)))
 unfolding answer
 caution-answers = refl
 
