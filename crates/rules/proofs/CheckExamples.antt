@@ -119,10 +119,10 @@ module _ (form : Form) (w : Way) where
   -- ## Kind 1, order: "11; 12 not the sending end; 14; 13"
 
   -- with the other track running and walking so
-  unfoldable pub ordered : Post → Bool → Walk → Failing
+  unfoldable pub ordered : List ℕ → Post → Bool → Walk → Failing
   unfolding answer
-  ordered own cvt walk =
-      failing (Order (place w 0)) (changedTrack (not (w .track)) (running cvt walk) (standing w signalled Settled free (place w 0) own))
+  ordered trains own cvt walk =
+      failing (Order (place w 0)) (changedTrack (not (w .track)) (running cvt walk) (standing w signalled Settled trains (place w 0) own))
 
   -- whatever the post has: it looks at no field of its record
   abbrev order : Post → Answers
@@ -133,10 +133,11 @@ module _ (form : Form) (w : Way) where
       ∷ (answer signalled Settled free own 1 Order gives refused 12)
       ∷ (answer signalled Settled free own 3 Order gives refused 12)
       -- "order to CVT while the other track isn't settled on VNS (art. 915)"
-      ∷ (ordered own VNS Settled gives accepted)
-      ∷ (ordered own CVT Settled gives vnsElse w (refused 14) accepted)
-      ∷ (ordered own VNS (Turn 1 act.Set) gives vnsElse w (refused 14) accepted)
-      ∷ (ordered own CVT (Turn 1 act.Set) gives vnsElse w (refused 14) accepted)
+      ∷ (ordered free own VNS Settled gives accepted)
+      ∷ (ordered free own CVT Settled gives vnsElse w (refused 14) accepted)
+      ∷ (ordered free own VNS (Turn 1 act.Set) gives vnsElse w (refused 14) accepted)
+      ∷ (ordered free own CVT (Turn 1 act.Set) gives vnsElse w (refused 14) accepted)
+      ∷ (ordered inThird own CVT Settled gives vnsElse w (refused 14) accepted ++ telephoneElse form (refused 13) accepted)
       -- "telephone form: a train anywhere on the track (art. 907)"; materialised: in the part
       ∷ (answer signalled Settled inFirst own 0 Order gives refused 13)
       ∷ (answer signalled Settled inSecond own 0 Order gives telephoneElse form (refused 13) accepted)
