@@ -43,3 +43,7 @@ pub mod OfferedExamples
 pub mod ChecksColumn
 pub mod OnlyOutOfRange
 pub mod LampTable
+pub mod Directions
+pub mod RecordExamples
+pub mod CheckExamples
+pub mod LampExamples
