@@ -30,6 +30,7 @@ pub mod Along
 pub mod Starts
 pub mod VoieOccupee
 pub mod Theorem
+pub mod InPlainWords
 pub mod Days
 pub mod Rows
 pub mod ReversalExamples

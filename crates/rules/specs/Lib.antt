@@ -9,4 +9,5 @@ pub mod Demand3
 pub mod VoieOccupee
 pub mod RangesKept
 pub mod CellsPast
+pub mod InPlainWords
 pub mod LampTable
