@@ -2,8 +2,8 @@
 -- arithmetic on the end posts, and inductions over lists: a test of some steps keeps a sequence that a wider test keeps; steps that are performed
 -- are the accepted ones of their bytes.
 use Prim.Native.Nat.{ℕ, zero, suc, _+_, _-_, _≤_, _<_}
-use mathlib.Core.Bool.{Bool, true, false, cond, not, _&&_, Bool·beq, true≢false, false≢true}
-use mathlib.Core.Path.{_≡_, refl, sym, ap, ap₂, _∙_, subst}
+use mathlib.Core.Bool.{Bool, true, false, cond, not, true≢false, false≢true}
+use mathlib.Core.Path.{_≡_, refl, sym, ap, _∙_, subst}
 use mathlib.Core.Logic.{_⊎_, inl, inr, _≢_}
 use mathlib.Core.List.{List, [], _∷_, _++_, append-nil, append-assoc, List·Memᴰ, List·Memᴰ·head, List·Memᴰ·tail}
 use mathlib.Core.Option.{Option, none, some}
@@ -11,7 +11,7 @@ use native.Mathlib.Omega.{arith}
 use native.Mathlib.Decide.{ℕ-discrete}
 use lib.ListN.{getD, length, take, length-append, List·getD-append}
 use lib.Seq.{take-length, getD-at}
-use lib.Dec.{eqb, leb}
+use lib.Dec.{eqb}
 use borrow.Author.Tests.{eqb-true, eq-eqb, ne-eqb}
 use Rattle.section.specs.declared.Act.{Act}
 use Rattle.section.specs.declared.Said.{Said}
@@ -19,9 +19,8 @@ use Rattle.section.specs.declared.Said.the-variants.{Nothing, Cvt, Cvtz, Vns, V
 use Rattle.section.specs.declared.Section.{Section}
 use Rattle.section.specs.declared.Settings.{Settings}
 use Rattle.section.specs.declared.Track.{Track}
-use Rattle.section.specs.declared.Verdict.the-variants.{Accepted}
 use Rattle.section.specs.declared.Walk.{Walk}
-use Rattle.section.specs.declared.Walk.the-variants.{Settled, Turn}
+use Rattle.section.specs.declared.Walk.the-variants.{Turn}
 use Rattle.section.specs.Bytes.{byte, le16, within}
 use Rattle.section.specs.Fresh.{freshSection}
 use Rattle.section.specs.Geometry.{upward, rank}
@@ -31,9 +30,9 @@ use Rattle.section.specs.Store.{trackOf}
 use Rattle.section.proofs.Laws.{posts-right, both, and-left, and-right}
 use Rattle.rules.specs.Judge.{judge}
 use Rattle.rules.specs.Site.{isSettled}
-use Rattle.rules.specs.Demand3.{stateAfter, AcceptedStep, acceptedOf, acceptedSteps, kind, post, isOfPost, isStepOfTrain, isSpoken, isAnnouncement}
-use Rattle.rules.specs.Demand3.{keep, All, Reordering, none-left, same, swapped, chained, Run, runsOf, hasEnded, otherEnd, underWay, placeOf}
-use Rattle.rules.specs.Demand3.{sendingEnd, BetweenThePosts, TrainThere, inTurn, LeftAtTheFarEnd, Fate, MayStart, permission, start, OnTrack}
+use Rattle.rules.specs.Demand3.{stateAfter, AcceptedStep, acceptedSteps, kind, isOfPost, isStepOfTrain, isSpoken, isAnnouncement}
+use Rattle.rules.specs.Demand3.{keep, All, Reordering, none-left, same, swapped, chained, Run, runsOf, hasEnded, underWay, placeOf}
+use Rattle.rules.specs.Demand3.{BetweenThePosts, TrainThere, inTurn, LeftAtTheFarEnd, Fate, MayStart, permission, start, OnTrack}
 use Rattle.rules.specs.Demand3.{NoTrainInReversal, Performs, NewOrder, Demand3}
 use Rattle.rules.specs.InPlainWords.{entryPost, trackByte, isAtPost, movesTrain, spokenAt, spoken, howMany, bytesOfAll, SameTrack, OnTrackNow}
 use Rattle.rules.specs.InPlainWords.{StandsInOne, IsThere, NoTrainLost, WentUp, WentDown, LeftAtTheOtherEnd, NeverFaceEachOther, HasPermission}

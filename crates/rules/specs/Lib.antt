@@ -10,4 +10,5 @@ pub mod VoieOccupee
 pub mod RangesKept
 pub mod CellsPast
 pub mod InPlainWords
+pub mod FurtherInPlainWords
 pub mod LampTable
