@@ -1,7 +1,8 @@
--- What the statement of demand 3 reads off steps, by computation: its own words on steps in their eight bytes, as document 01 lays them out, and
--- the accepted steps, runs and reversals of small days. A word that says less than the paper falls here, also where no theorem needs it.
+-- What the statement of demand 3, and InPlainWords, read off steps, by computation: their own words on steps in their eight bytes, as document 01
+-- lays them out, and the accepted steps, runs and reversals of small days. A word that says less than the paper falls here, also where no theorem
+-- needs it.
 use Prim.Native.Nat.{ℕ}
-use mathlib.Core.Bool.{Bool, true, false}
+use mathlib.Core.Bool.{true, false}
 use mathlib.Core.Path.{refl}
 use mathlib.Core.List.{List, [], _∷_, map}
 use mathlib.Core.Option.{Option, none, some}
@@ -14,6 +15,7 @@ use Rattle.section.specs.Fresh.{freshTrack}
 use Rattle.section.specs.Geometry.{upward, rank}
 use Rattle.rules.specs.Demand3.{AcceptedStep, acceptedSteps, kind, track, post, number, isOnTrack, isStepOfTrain, isOfTrain, isOfPost, isSpoken}
 use Rattle.rules.specs.Demand3.{isAnnouncement, keep, Run, runsOf, hasEnded, otherEnd, underWay, placeOf, sendingEnd, inTurn}
+use Rattle.rules.specs.InPlainWords.{entryPost, isAtPost, movesTrain, spoken, howMany}
 use Rattle.rules.proofs.Days.{A, B, VNS, CVT, telephone, fresh, running, refusals}
 use Rattle.rules.proofs.Rows.{_gives_, Holds}
 
@@ -100,6 +102,41 @@ pub spoken-words :
     ∷ (isAnnouncement (plain 3 0 0) gives false)
     ∷ [])
 spoken-words = refl
+
+-- ## The words of InPlainWords
+
+pub plain-tests :
+    Holds
+    ((isAtPost A 1 (ofSeven 6 0 1) gives true)
+    ∷ (isAtPost B 1 (ofSeven 6 0 1) gives false)
+    ∷ (isAtPost B 1 (ofSeven 6 1 1) gives true)
+    ∷ (isAtPost A 2 (ofSeven 6 0 1) gives false)
+    ∷ (movesTrain 7 (ofSeven 4 0 1) gives false)
+    ∷ (movesTrain 7 (ofSeven 5 0 1) gives true)
+    ∷ (movesTrain 7 (ofSeven 7 1 1) gives true)
+    ∷ (movesTrain 7 (ofSeven 8 0 1) gives false)
+    ∷ (movesTrain 263 (quiet (bytesOf 6 0 1 7 1)) gives true)
+    ∷ (movesTrain 7 (quiet (bytesOf 6 0 1 7 1)) gives false)
+    ∷ [])
+plain-tests = refl
+
+pub plain-counts :
+    Holds
+    ((howMany (isAtPost A 1) (ofSeven 6 0 1 ∷ ofSeven 6 0 2 ∷ ofSeven 6 0 1 ∷ []) gives 2)
+    ∷ (howMany (isAtPost A 3) (ofSeven 6 0 1 ∷ ofSeven 6 0 2 ∷ []) gives 0)
+    ∷ (entryPost 4 A VNS gives 0)
+    ∷ (entryPost 4 A CVT gives 3)
+    ∷ (entryPost 4 B VNS gives 3)
+    ∷ (entryPost 4 B CVT gives 0)
+    ∷ [])
+plain-counts = refl
+
+pub plain-sequences :
+    Holds
+    ((spoken (plain 1 0 0 ∷ says Cvt (bytesOf 3 0 0 0 0) ∷ plain 2 0 0 ∷ says Vnsz (bytesOf 4 0 1 0 0) ∷ [])
+    gives says Cvt (bytesOf 3 0 0 0 0) ∷ says Vnsz (bytesOf 4 0 1 0 0) ∷ [])
+    ∷ [])
+plain-sequences = refl
 
 -- ## Positions
 
