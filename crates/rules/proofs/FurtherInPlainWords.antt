@@ -32,7 +32,8 @@ use Rattle.rules.specs.Parts.{EarlierRule}
 use Rattle.rules.specs.RangesKept.{RangesKept, NeverOutOfRange}
 use Rattle.rules.specs.CellsPast.{CellsPastKept, SameBelow, AgreeBelow, CellsPastNotTested}
 use Rattle.rules.specs.FurtherInPlainWords.{PartFree, ReplyNotNeeded, OneSectionAhead, InRangeAlong, NextIsJudged}
-use Rattle.rules.specs.FurtherInPlainWords.{KeepsCellsPast, answers, overwrittenOn, overwritten, SameToTheEye, NeverMatters, CellsPastNeverMatter}
+use Rattle.rules.specs.FurtherInPlainWords.{KeepsCellsPast, answers, overwrittenOn, overwritten, SameToTheEye, NeverMatters}
+use Rattle.rules.specs.FurtherInPlainWords.{CellsPastNeverMatter}
 use Rattle.rules.proofs.VoieOccupee.{voie-occupee-never-said}
 use Rattle.rules.proofs.Parts.{telephone-keeps-the-rule}
 use Rattle.rules.proofs.RangeLaw.{ranges-kept}
@@ -83,7 +84,8 @@ module _ (s : Section) (b : Bool) (free : FreeToAnnounce (lineIn s) b (trackOf s
       }
     where
       same : (w : SeenFree (lineIn s) b (trackOf s b) (rank n up p)) (j : ℕ)
-          → ((k : ℕ) → rank n up p < k → k ≤ j → partEnds (lineIn s) b (trackOf s b .cvt) k ≡ false) → SamePart (lineIn s) b (trackOf s b) (w .watcher) j
+          → ((k : ℕ) → rank n up p < k → k ≤ j → partEnds (lineIn s) b (trackOf s b .cvt) k ≡ false)
+          → SamePart (lineIn s) b (trackOf s b) (w .watcher) j
       same w j none k above below = go (ltb (rank n up p) k) refl
         where
           go : (x : Bool) → ltb (rank n up p) k ≡ x → partEnds (lineIn s) b (trackOf s b .cvt) k ≡ false
@@ -134,7 +136,8 @@ module _ (c : Line) (e : Site) (below : e .post < c .posts) (rule : EarlierRule 
   one-section-ahead = record {
     upward-commands = λ q h. rule .commanded ∙ rw (last-is true false q (up-inside h)) refl;
     upward-watches = λ q h trains.
-        rule .watched trains ∙ rw (last-is true false q (up-inside h)) (ap (λ (i : ℕ). isTrain (getD trains i 0)) (ahead-up (c .posts) (e .post) toward q));
+        rule .watched trains ∙ rw (last-is true false q (up-inside h))
+        (ap (λ (i : ℕ). isTrain (getD trains i 0)) (ahead-up (c .posts) (e .post) toward q));
     downward-commands = λ q i h. rule .commanded ∙ rw (last-is false false q (down-inside i h)) refl;
     downward-watches = λ q i h trains.
         rule .watched trains ∙ rw (last-is false false q (down-inside i h))

@@ -54,7 +54,8 @@ module _ {A : Type 0} (f g : A → Bool) (wider : (x : A) → g x ≡ true → f
   keep-twice [] = refl
   keep-twice (x ∷ l) = go (f x) (g x) refl refl (keep-twice l)
     where
-      go : (u v : Bool) → f x ≡ u → g x ≡ v → keep g (keep f l) ≡ keep g l → keep g (cond u (x ∷ keep f l) (keep f l)) ≡ cond v (x ∷ keep g l) (keep g l)
+      go : (u v : Bool) → f x ≡ u → g x ≡ v → keep g (keep f l) ≡ keep g l
+          → keep g (cond u (x ∷ keep f l) (keep f l)) ≡ cond v (x ∷ keep g l) (keep g l)
       go true v p q e = rw (q, e) refl
       go false true p q e = absurd (false≢true (sym p ∙ wider x q))
       go false false p q e = e
@@ -93,7 +94,8 @@ spoken-kept : (ds : List AcceptedStep) → keep isAnnouncement ds ≡ spoken ds
 spoken-kept [] = refl
 spoken-kept (d ∷ ds) = go (d .said) (spoken-kept ds)
   where
-    go : (w : Said) → keep isAnnouncement ds ≡ spoken ds → cond (isSpoken w) (d ∷ keep isAnnouncement ds) (keep isAnnouncement ds) ≡ spokenAt w d ++ spoken ds
+    go : (w : Said) → keep isAnnouncement ds ≡ spoken ds
+        → cond (isSpoken w) (d ∷ keep isAnnouncement ds) (keep isAnnouncement ds) ≡ spokenAt w d ++ spoken ds
     go Nothing e = e
     go Cvt e = ap (λ l. d ∷ l) e
     go Cvtz e = ap (λ l. d ∷ l) e
@@ -176,7 +178,8 @@ module _ (c : Settings) (n2 : 2 ≤ c .posts) (claim : (offered : List (List ℕ
           from-last = λ q. omega (arith, w .inside, place-last (r .from) (length (r .passed)) q);
         }
       where
-        inside : suc (length (r .passed)) < c .posts → (r .from ≡ 0) ⊎ (r .from ≡ c .posts - 1) → suc (placeOf c (r .from) (length (r .passed))) < c .posts
+        inside : suc (length (r .passed)) < c .posts → (r .from ≡ 0) ⊎ (r .from ≡ c .posts - 1)
+            → suc (placeOf c (r .from) (length (r .passed))) < c .posts
         inside k (inl q) = omega (arith, place-first (r .from) (length (r .passed)) q)
         inside k (inr q) = omega (arith, place-last (r .from) (length (r .passed)) q)
 
@@ -331,7 +334,8 @@ module _ (c : Settings) (n2 : 2 ≤ c .posts) (claim : (offered : List (List ℕ
           → (i : ℕ) → suc i < c .posts → getD (trackOf (stateAfter (freshSection c) (bytesOfAll (take k (o .order)))) b .trains) i 0 ≡ 0
       empty k b q act e =
           performed-empty k (freshSection c) [] (o .order) (end offered) (o .performs) (fresh-empty (freshSection c)) .empty b
-          (rw (performed-again k (freshSection c) [] (o .order) (end offered) (o .performs)) at (under-way-there (bytesOfAll (take k (o .order))) b q act e))
+          (rw (performed-again k (freshSection c) [] (o .order) (end offered) (o .performs))
+          at (under-way-there (bytesOfAll (take k (o .order))) b q act e))
 
   in-another-order : (offered : List (List ℕ)) → InAnotherOrder c offered
   unfolding Demand3

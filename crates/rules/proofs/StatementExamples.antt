@@ -208,7 +208,7 @@ pub under-way-on-a :
     ∷ (underWay 3 B (plain 1 1 2 ∷ []) gives true)
     ∷ (underWay 3 B (plain 1 1 2 ∷ plain 2 1 0 ∷ []) gives false)
     ∷ [])
-unfolding underWay
+unfolding underWay within
 under-way-on-a = refl
 
 -- ## A day
@@ -251,5 +251,5 @@ pub worked-under-way :
     gives false ∷ false ∷ false ∷ true ∷ true ∷ true ∷ true ∷ false ∷ false ∷ false ∷ [])
     ∷ (map (λ (k : ℕ). underWay 2 B (take k workedAccepted)) (3 ∷ 9 ∷ []) gives false ∷ false ∷ [])
     ∷ [])
-unfolding underWay
+unfolding underWay within
 worked-under-way = refl

@@ -86,7 +86,8 @@ InRangeAlong = (s : Section) → inRange s ≡ true → (offered : List (List �
 
 -- "a reached state never gives 6": malformed bytes get 4, a step is judged by the table
 pub record NextIsJudged (end : Section) : Type 0 where
-  pub malformed : (bytes : List ℕ) → decoded (end .settings .posts) bytes ≡ Malformed → judge end bytes ≡ record { verdict = Refused 4; section = end }
+  pub malformed : (bytes : List ℕ) → decoded (end .settings .posts) bytes ≡ Malformed
+      → judge end bytes ≡ record { verdict = Refused 4; section = end }
   pub by-the-table : (bytes : List ℕ) (x : TrackStep) → decoded (end .settings .posts) bytes ≡ Well x → judge end bytes ≡ judgeStep end x
 
 -- ## Cells past post n−1 or block section n−2
@@ -131,7 +132,8 @@ pub record SameToTheEye (s u : Section) : Type 0 where
 pub record NeverMatters (s u : Section) : Type 0 where
   pub same-answers : (offered : List (List ℕ)) → answers u offered ≡ answers s offered
   pub same-afterwards : (offered : List (List ℕ)) → SameToTheEye (stateAfter u offered) (stateAfter s offered)
-  pub same-shown : (offered : List (List ℕ)) (track post : ℕ) → indications (stateAfter u offered) track post ≡ indications (stateAfter s offered) track post
+  pub same-shown : (offered : List (List ℕ)) (track post : ℕ)
+      → indications (stateAfter u offered) track post ≡ indications (stateAfter s offered) track post
   -- every check of a step at a post of the section finds the same
   pub same-checks : (x : TrackStep) → postOf (x .step) < s .settings .posts
       → checks (lineIn s) (x .step) (siteOf u x) (occupancyOf u x) ≡ checks (lineIn s) (x .step) (siteOf s x) (occupancyOf s x)

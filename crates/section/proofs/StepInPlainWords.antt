@@ -38,8 +38,10 @@ start-fits : (n : ℕ) (track : Bool) (p number : ℕ) → stepInRange n (record
     → (1 ≤ number) × (number ≤ 59999)
 unfolding stepInRange kindOf postOf numberOf numberWellFormed within
 start-fits n track p number h =
-    let fits : (leb 1 number && leb number largestTrain) ≡ true = and-right (ltb p n) _ (and-right (trackWellFormed 5 (truthNumber track)) _ h) in
-    (leb-true 1 number (and-left (leb 1 number) (leb number largestTrain) fits), leb-true number largestTrain (and-right (leb 1 number) (leb number largestTrain) fits))
+    let fits : (leb 1 number && leb number largestTrain) ≡ true = and-right (ltb p n) _ (and-right (trackWellFormed 5 (truthNumber track)) _ h) in (
+      leb-true 1 number (and-left (leb 1 number) (leb number largestTrain) fits),
+      leb-true number largestTrain (and-right (leb 1 number) (leb number largestTrain) fits),
+    )
 
 module _ (there : DecodesWhatIsEncoded) (eight : EncodesInEightBytes) (back : EncodesWhatIsDecoded) (fits : DecodesOnlyWhatFits) (n : ℕ) where
   in-words : StepInPlainWords n
