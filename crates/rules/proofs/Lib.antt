@@ -30,6 +30,8 @@ pub mod Along
 pub mod Starts
 pub mod VoieOccupee
 pub mod Theorem
+pub mod InPlainWords
+pub mod FurtherInPlainWords
 pub mod Days
 pub mod Rows
 pub mod ReversalExamples
@@ -40,6 +42,7 @@ pub mod StateExamples
 pub mod IndicationExamples
 pub mod PartExamples
 pub mod OfferedExamples
+pub mod StatementExamples
 pub mod ChecksColumn
 pub mod OnlyOutOfRange
 pub mod LampTable
