@@ -1,4 +1,4 @@
--- By the first test that fails: the length, the layout's number, track A, track B.
+-- By the first test that fails: the length, the layout's number, the settings' zeros, track A, track B.
 use borrow.Author.Tests.{eq-eqb, ne-eqb}
 use Rattle.section.proofs.Told.{told-false, told-true}
 use Rattle.image.specs.Image.{imageWellFormed}
@@ -23,20 +23,39 @@ returns-3 c =
       eq-eqb _ _ (number .before .if1 .left),
       ← number .number-at .ensures,
       eq-eqb _ _ (layout .if2 .left),
-      told-false (c .before .track-well-formed .ensures) (c .if3 .taken),
+      ← c .before .number-at2 .ensures,
+      ne-eqb _ _ (c .if3 .taken),
     )
 
 returns-4 : tie.Need-returns-4
 unfolding imageWellFormed
 returns-4 c =
-    let a = c .before .before in
-    let layout = a .before in
+    let zeros = c .before .before in
+    let layout = zeros .before .before in
     let number = layout .before in
     rw (
       eq-eqb _ _ (number .before .if1 .left),
       ← number .number-at .ensures,
       eq-eqb _ _ (layout .if2 .left),
-      told-true (a .track-well-formed .ensures) (c .before .if3 .left),
+      ← zeros .before .number-at2 .ensures,
+      eq-eqb _ _ (zeros .if3 .left),
+      told-false (c .before .track-well-formed .ensures) (c .if4 .taken),
+    )
+
+returns-5 : tie.Need-returns-5
+unfolding imageWellFormed
+returns-5 c =
+    let a = c .before .before in
+    let zeros = a .before in
+    let layout = zeros .before .before in
+    let number = layout .before in
+    rw (
+      eq-eqb _ _ (number .before .if1 .left),
+      ← number .number-at .ensures,
+      eq-eqb _ _ (layout .if2 .left),
+      ← zeros .before .number-at2 .ensures,
+      eq-eqb _ _ (zeros .if3 .left),
+      told-true (a .track-well-formed .ensures) (c .before .if4 .left),
     )
     (c .track-well-formed2 .ensures)
 
@@ -50,4 +69,6 @@ image-well-formed-spec =
     (λ c κs. search needs)
     returns-3
     (λ c κs. search needs)
-    returns-4)
+    returns-4
+    (λ c κs. search needs)
+    returns-5)

@@ -1,4 +1,4 @@
--- By the first byte that stands for no value: device, permission, measures, faults. Past those four the mark's own test is the answer.
+-- By the first byte that stands for no value: device, permission, measures, faults, mark. Past those five the zero's own test is the answer.
 use borrow.Author.Tests.{le-leb, lt-leb}
 use Rattle.image.specs.Image.{postWellFormed}
 use borrow.Author.Needs.{needs}
@@ -28,11 +28,33 @@ returns-4 c =
 returns-5 : tie.Need-returns-5
 unfolding postWellFormed
 returns-5 c =
-    let four = c .before in
+    let four = c .before .before in
     let three = four .before .before in
     let two = three .before .before in
     let one = two .before .before in
-    rw (le-leb _ _ (one .if1 .left), le-leb _ _ (two .if2 .left), le-leb _ _ (three .if3 .left), le-leb _ _ (four .if4 .left))
+    rw (
+      le-leb _ _ (one .if1 .left),
+      le-leb _ _ (two .if2 .left),
+      le-leb _ _ (three .if3 .left),
+      le-leb _ _ (four .if4 .left),
+      lt-leb _ _ (c .if5 .taken),
+    )
+
+returns-6 : tie.Need-returns-6
+unfolding postWellFormed
+returns-6 c =
+    let five = c .before in
+    let four = five .before .before in
+    let three = four .before .before in
+    let two = three .before .before in
+    let one = two .before .before in
+    rw (
+      le-leb _ _ (one .if1 .left),
+      le-leb _ _ (two .if2 .left),
+      le-leb _ _ (three .if3 .left),
+      le-leb _ _ (four .if4 .left),
+      le-leb _ _ (five .if5 .left),
+    )
 
 pub post-well-formed-spec : {M : Type 1} → statement M
 post-well-formed-spec =
@@ -51,4 +73,7 @@ post-well-formed-spec =
     returns-4
     (λ c. search needs)
     (λ c. search needs)
-    returns-5)
+    returns-5
+    (λ c. search needs)
+    (λ c. search needs)
+    returns-6)
