@@ -1,13 +1,13 @@
 -- What is read is written back: each part of a well-formed image is the part written of what it says.
 use Prim.Native.Nat.{ℕ, zero, suc, _+_, _*_, _/_, _%_, _<_, _≤_}
-use mathlib.Core.Bool.{true, cond, _&&_}
+use mathlib.Core.Bool.{Bool, true, false, cond, _&&_}
 use mathlib.Core.List.{List, [], _∷_, _++_}
 use mathlib.Core.Path.{_≡_, refl, sym, ap, _∙_}
 use native.Mathlib.Nat.{div-div-eq-div-mul, not-suc-le-zero}
 use native.Mathlib.Numerals.{add-one}
 use native.Mathlib.Omega.{arith}
 use lib.Dec.{eqb, leb}
-use lib.ListN.{length, take, drop, getD, length-drop}
+use lib.ListN.{length, take, drop, length-drop}
 use lib.Seq.{take-all, take-add, drop-drop, getD-drop}
 use borrow.Author.Count.{below-more}
 use borrow.Author.Tests.{eqb-true, leb-true}
@@ -18,14 +18,13 @@ use Rattle.section.specs.Post.{blank}
 use Rattle.section.proofs.Items.{same-items, first-items, item-at}
 use Rattle.section.proofs.Laws.{and-parts}
 use Rattle.text.specs.Text.{firstTexts}
-use Rattle.text.proofs.Laws.{same-texts}
 use Rattle.layout.specs.Layout.{longestSettings, le16Bytes, settingsBytes, settingsOf}
 use Rattle.layout.proofs.Numbers.{le16-bytes}
 use Rattle.image.specs.Image.{numberLength, postLength, postsLength, numbersLength, headLength, trackLength}
-use Rattle.image.specs.Image.{settingsPlace, settingsZeros, trackA, trackB, imageLength, layoutNumber}
+use Rattle.image.specs.Image.{settingsPlace, trackA, trackB, imageLength}
 use Rattle.image.specs.Image.{faultsByte, postImage, postsImage, numbersImage, actNumber, walkImage, trackHead, trackImage, imageHead, imageOf}
 use Rattle.image.specs.Image.{numberAt, postAt, postsFrom, numbersFrom, walkOf, trackFrom, sectionOf}
-use Rattle.image.specs.Image.{postWellFormed, postsWellFormed, walkWellFormed, trackWellFormed, imageWellFormed}
+use Rattle.image.specs.Image.{postWellFormed, postsWellFormed, walkWellFormed, trackWellFormed}
 use Rattle.image.specs.RoundTrip.{WritesBack}
 use Rattle.image.proofs.Laws.{ImageTested, image-tested}
 
@@ -163,5 +162,120 @@ module _ (l : List ℕ) (bytes : AllBytes l) (at m : ℕ) where
   posts-kept h e =
       items-joined _ postLength l at m
       (λ p k.
-          ap postImage (item-at (λ (q : ℕ). postAt l (at + postLength * q)) blank m p k)
-          ∙ post-kept l (at + postLength * p) bytes (omega arith) (each-post l at m e p k))
+      ap postImage (item-at (λ (q : ℕ). postAt l (at + postLength * q)) blank m p k)
+      ∙ post-kept l (at + postLength * p) bytes (omega arith) (each-post l at m e p k))
+
+-- ## A track
+
+act-small : (act post : ℕ) → walkWellFormed act post ≡ true → act ≤ 3
+unfolding walkWellFormed
+act-small act post e = go (eqb act 0) refl e
+  where
+    go : (b : Bool) → eqb act 0 ≡ b → cond b (eqb post 0) (leb act 3) ≡ true → act ≤ 3
+    go true z k = omega (arith, eqb-true act 0 z)
+    go false z k = leb-true act 3 k
+
+walk-kept : (act post : ℕ) → act ≤ 3 → walkWellFormed act post ≡ true → walkImage (walkOf act post) ≡ act ∷ post ∷ []
+unfolding walkWellFormed walkOf walkImage actNumber
+walk-kept zero post h e = ap (λ (p : ℕ). 0 ∷ p ∷ []) (sym (eqb-true post 0 e))
+walk-kept (suc zero) post h e = refl
+walk-kept (suc (suc zero)) post h e = refl
+walk-kept (suc (suc (suc zero))) post h e = refl
+walk-kept (suc (suc (suc (suc act)))) post h e = absurd (omega (arith, h))
+
+-- what the tests of a track say
+record TrackTested (l : List ℕ) (at : ℕ) : Type 0 where
+  direction : byte l at ≤ 1
+  walk : walkWellFormed (byte l (at + 1)) (byte l (at + 2)) ≡ true
+  zero-next : byte l (at + 3) ≡ 0
+  posts : postsWellFormed l (at + headLength) mostPosts ≡ true
+
+module _ (l : List ℕ) (at : ℕ) where
+  track-tested : trackWellFormed l at ≡ true → TrackTested l at
+  unfolding trackWellFormed
+  track-tested e =
+      let three = eqb (byte l (at + 3)) 0 && postsWellFormed l (at + headLength) mostPosts in
+      let two = walkWellFormed (byte l (at + 1)) (byte l (at + 2)) && three in
+      let by-direction = and-parts (leb (byte l at) 1) two e in
+      let by-walk = and-parts (walkWellFormed (byte l (at + 1)) (byte l (at + 2))) three (by-direction .1) in
+      let by-zero = and-parts (eqb (byte l (at + 3)) 0) (postsWellFormed l (at + headLength) mostPosts) (by-walk .1) in
+      record {
+        direction = leb-true _ _ (by-direction .0);
+        walk = by-walk .0;
+        zero-next = eqb-true _ _ (by-zero .0);
+        posts = by-zero .1;
+      }
+
+  head-kept : at + headLength ≤ length l → TrackTested l at → trackHead (trackFrom l at) ≡ part l at headLength
+  unfolding trackHead trackFrom items
+  head-kept h t =
+      let none : at + 0 ≡ at = omega arith in
+      let act = byte l (at + 1) in
+      let post = byte l (at + 2) in
+      rw (
+        listed-part l at headLength h,
+        none,
+        flag-kept (byte l at) (t .direction),
+        walk-kept act post (act-small act post (t .walk)) (t .walk),
+        t .zero-next,
+      )
+
+  track-kept : AllBytes l → at + trackLength ≤ length l → trackWellFormed l at ≡ true → trackImage (trackFrom l at) ≡ part l at trackLength
+  unfolding trackImage trackFrom
+  track-kept bytes h e =
+      let t = track-tested e in
+      let posts-at = at + headLength in
+      let trains-at = at + (headLength + postsLength) in
+      let last-at = at + (headLength + (postsLength + numbersLength)) in
+      let past-posts : posts-at + postsLength ≡ trains-at = omega arith in
+      let past-trains : trains-at + numbersLength ≡ last-at = omega arith in
+      rw (
+        head-kept (omega arith) t,
+        posts-kept l bytes posts-at mostPosts (omega arith) (t .posts),
+        numbers-kept l bytes trains-at mostBlocks (omega arith),
+        numbers-kept l bytes last-at mostBlocks (omega arith),
+        ← past-trains,
+        parts-joined l trains-at numbersLength numbersLength,
+        ← past-posts,
+        parts-joined l posts-at postsLength (numbersLength + numbersLength),
+      )
+      (parts-joined l at headLength (postsLength + (numbersLength + numbersLength)))
+
+-- ## An image
+
+module _ (l : List ℕ) (bytes : AllBytes l) (t : ImageTested l) where
+  settings-kept : settingsBytes (settingsOf (part l settingsPlace longestSettings)) ≡ part l settingsPlace longestSettings
+  unfolding settingsBytes settingsOf items le16 numberAt
+  settings-kept =
+      let whole = t .right-length in
+      let low : byte l 8 ≡ 0 = omega (arith, t .zeros) in
+      let high : byte l 9 ≡ 0 = omega (arith, t .zeros) in
+      rw (
+        listed-part l settingsPlace longestSettings (omega arith),
+        le16-bytes (byte l 4) (byte l 5) (bytes 4) (bytes 5),
+        le16-bytes (byte l 6) (byte l 7) (bytes 6) (bytes 7),
+        low,
+        high,
+      )
+
+  head-of-image-kept : imageHead (sectionOf l) ≡ part l 0 trackA
+  unfolding imageHead sectionOf
+  head-of-image-kept =
+      let whole = t .right-length in
+      rw (← t .right-layout, number-part l bytes 0 (omega arith), settings-kept) (parts-joined l 0 numberLength longestSettings)
+
+  image-kept : imageOf (sectionOf l) ≡ l
+  unfolding imageOf sectionOf
+  image-kept =
+      let whole = t .right-length in
+      rw (
+        head-of-image-kept,
+        track-kept l trackA bytes (omega arith) (t .a-well-formed),
+        track-kept l trackB bytes (omega arith) (t .b-well-formed),
+        parts-joined l trackA trackLength trackLength,
+        parts-joined l 0 trackA (trackLength + trackLength),
+      )
+      (take-all imageLength l (omega arith))
+
+pub writes-back : WritesBack
+writes-back l bytes e = image-kept l bytes (image-tested l e)
