@@ -16,7 +16,7 @@ use Rattle.section.specs.Store.{trackOf}
 use Rattle.section.proofs.Laws.{posts-right, settings-in-range}
 use Rattle.rules.specs.Site.{siteOn}
 use Rattle.rules.specs.Indications.{Lamps, lampsAt, circulation, troncon, shown, dark, indicationsOn, indications, trackIndications}
-use Rattle.track_indications.proofs.Laws.{at-its-place}
+use Rattle.indications.proofs.track.Laws.{at-its-place}
 use Rattle.text.proofs.Laws.{decimal-length, first-texts-length, same-texts}
 use Rattle.text.specs.Text.{firstTexts}
 use Rattle.lines.specs.PanelLine.{postField, postFields, panelFields, panelLine, panelLineRoom}
