@@ -46,15 +46,15 @@ readVerdict file =
     (Day (stepCount (stepsIn file))))))
 
 -- the settings beside a refusal
-unfoldable pub blank : Settings
-blank = record { posts = 0; form = 0; mask = 0; line = 0; crossings = noCrossings }
+unfoldable pub noSettings : Settings
+noSettings = record { posts = 0; form = 0; mask = 0; line = 0; crossings = noCrossings }
 
 unfoldable pub notRead : ℕ → ℕ → ReadAnswer
-notRead number index = record { reading = Refused number index; settings = blank }
+notRead number index = record { reading = Refused number index; settings = noSettings }
 
 unfoldable pub readOf : List ℕ → ReadAnswer
 readOf file =
-    record { reading = readVerdict file; settings = cond (eqb (refusalNumber (readVerdict file)) 0) (settingsOf (settingsIn file)) blank }
+    record { reading = readVerdict file; settings = cond (eqb (refusalNumber (readVerdict file)) 0) (settingsOf (settingsIn file)) noSettings }
 
 -- ## The writer
 

@@ -20,7 +20,7 @@ pub enum Reading {
     Refused(u8, usize),
 }
 
-// What the reader answers. The settings beside a refusal are blank.
+// What the reader answers. The settings beside a refusal are noSettings.
 pub struct ReadAnswer {
     pub reading: Reading,
     pub settings: Settings,

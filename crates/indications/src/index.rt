@@ -18,8 +18,8 @@ use section::Trains;
 use section::Walk;
 use section::positions;
 use section::truth_number;
+use site::ends::commands;
 use site::line::is_materialised;
-use site::part::commands;
 use site::place::rank_at;
 
 // How many posts, from the sending end on, have set in this reversal.

@@ -40,7 +40,7 @@ fn taken_apart(entry: u8) -> Indications
 }
 
 // What the post of a site shows, read from the lent table.
-pub fn read_at(table: &LampTable, c: Line, e: Site, trains: &Trains) -> Indications
+fn read_at(table: &LampTable, c: Line, e: Site, trains: &Trains) -> Indications
     requires { ⌜ (now table ≡ lampTable) × (InItsRanges c e) ⌝ }
     ensures { λ r. ⌜ r ≡ shown (lampsAt c e (now (trains .entry))) ⌝ }
 {
@@ -60,7 +60,7 @@ fn post_indications(c: Settings, track: bool, post: u8, t: Track) -> Indications
     read_at(&table, line_of(c), e, &trains)
 }
 
-pub fn all_dark() -> Indications
+fn all_dark() -> Indications
     ensures { λ r. ⌜ r ≡ dark ⌝ }
 {
     Indications {

@@ -21,7 +21,7 @@ use Rattle.judging_in_place.proofs.Laws.{in-range-before, settings-before, stat
 use Rattle.run.specs.declared.Outcome.{Outcome}
 use Rattle.run.specs.declared.Outcome.the-variants.{Done, Refused}
 use Rattle.run.specs.Run.{outcomeOf, sectionLeft, runOf}
-use Rattle.run.specs.Calls.{TwoCallsAreOne, OneCallIsTwo, Call, sectionAfterCalls, stepsTaken, stepsOfCalls, Demand3OfCalls}
+use Rattle.run.specs.Calls.{TwoCallsAreOne, OneCallIsTwo, Call, sectionAfterCalls, stepsOfCall, stepsOfCalls, Demand3OfCalls}
 use Rattle.run.proofs.Outcomes.{IsDone, is-done, done}
 use Rattle.run.proofs.Parts.{count-of-one, count-of-both, both-well, each-well, section-in-other, kept-of-both}
 
@@ -95,8 +95,8 @@ one-call-is-two s one other room rest whole k m e long here there =
 -- ## Demand 3 along calls
 
 left-is-offered :
-    (s : Section) (steps : List ℕ) (outcome : Outcome) → sectionLeft outcome s steps ≡ stateAfter s (stepsTaken outcome steps)
-unfolding sectionLeft stepsTaken stateAfter
+    (s : Section) (steps : List ℕ) (outcome : Outcome) → sectionLeft outcome s steps ≡ stateAfter s (stepsOfCall outcome steps)
+unfolding sectionLeft stepsOfCall stateAfter
 left-is-offered s steps (Done count) = steps-are-offered s steps count
 left-is-offered s steps (Refused number index) = refl
 
@@ -108,7 +108,7 @@ calls-are-offered s (call ∷ calls) =
     let left = runOf s (call .steps) (call .room) .section in
     calls-are-offered left calls
     ∙ (ap (λ (t : Section). stateAfter t (stepsOfCalls left calls)) (left-is-offered s (call .steps) outcome)
-    ∙ sym (state-append s (stepsTaken outcome (call .steps)) (stepsOfCalls left calls)))
+    ∙ sym (state-append s (stepsOfCall outcome (call .steps)) (stepsOfCalls left calls)))
 
 pub demand3-of-calls : Demand3OfCalls
 unfolding Demand3

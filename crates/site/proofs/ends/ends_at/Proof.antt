@@ -5,8 +5,8 @@ use native.Mathlib.Omega.{arith}
 use borrow.Author.Tests.{not-true, not-false}
 use borrow.Author.Needs.{needs}
 use Rattle.site.proofs.place.Laws.{rank-below}
-use Rattle.site.proofs.part.ends_at.Statement.{statement}
-use Rattle.site.proofs.part.ends_at.Tie as tie
+use Rattle.site.proofs.ends.ends_at.Statement.{statement}
+use Rattle.site.proofs.ends.ends_at.Tie as tie
 
 returns : tie.Need-returns
 returns c =

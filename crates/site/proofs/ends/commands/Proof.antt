@@ -4,8 +4,8 @@ use borrow.Author.Needs.{needs}
 use Rattle.section.proofs.Told.{told}
 use Rattle.rules.specs.Site.{partEnds, commands}
 use Rattle.site.proofs.place.Laws.{rank-on-the-line}
-use Rattle.site.proofs.part.commands.Statement.{statement}
-use Rattle.site.proofs.part.commands.Tie as tie
+use Rattle.site.proofs.ends.commands.Statement.{statement}
+use Rattle.site.proofs.ends.commands.Tie as tie
 
 returns : tie.Need-returns
 unfolding commands

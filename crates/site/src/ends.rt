@@ -3,7 +3,7 @@ ghost use mathlib.Core.Path.{_≡_};
 ghost use Prim.Native.Nat.{_<_, _≤_};
 ghost use Rattle.section.specs.Numbers.{mostPosts};
 ghost use Rattle.rules.specs.Site.{commands};
-ghost use Rattle.site.specs.Ends.{endsAt};
+ghost use Rattle.site.specs.Ends.{endsAtRank};
 ghost use Rattle.site.specs.OnTheLine.{OnTheLine};
 use crate::line::is_materialised;
 use crate::place::at_receiving_end;
@@ -15,7 +15,7 @@ use section::positions;
 // Whether a stretch or a part ends at the post of rank j. The rank of a rank is the post.
 pub fn ends_at(c: Line, signalled_only: bool, up: bool, j: u8) -> bool
     requires { ⌜ (j < c .posts) × (c .posts ≤ mostPosts) ⌝ }
-    ensures { λ r. ⌜ r ≡ endsAt c «signalled_only» up j ⌝ }
+    ensures { λ r. ⌜ r ≡ endsAtRank c «signalled_only» up j ⌝ }
 {
     if !signalled_only {
         return true;
