@@ -15,12 +15,12 @@ use Rattle.section.specs.declared.Walk.{Walk}
 use Rattle.section.specs.declared.Walk.the-variants.{Settled, Turn}
 use Rattle.section.specs.Numbers.{mostPosts, mostBlocks}
 use Rattle.section.specs.Post.{blank}
-use Rattle.section.proofs.Laws.{and-left}
+use Rattle.section.proofs.Laws.{and-parts}
 use Rattle.section.proofs.Tests.{stops, goes-on}
 use Rattle.layout.specs.Layout.{le16Bytes, settingsBytes}
 use Rattle.text.specs.Text.{written}
 use Rattle.text.proofs.Laws.{first-texts-whole}
-use Rattle.image.specs.Image.{numberLength, postLength, headLength, trackLength, trackA, trackB, imageLength, layoutNumber}
+use Rattle.image.specs.Image.{numberLength, postLength, headLength, trackLength, settingsZeros, trackA, trackB, imageLength, layoutNumber}
 use Rattle.image.specs.Image.{postImage, postsImage, numbersImage, walkImage, trackHead, trackImage, imageHead, imageOf}
 use Rattle.image.specs.Image.{numberAt, postWellFormed, postsWellFormed, trackWellFormed, imageWellFormed}
 
@@ -81,11 +81,33 @@ module _ (l : List ℕ) (at : ℕ) where
 
 -- ## A well-formed image is as long as what is written
 
-pub well-formed-length : (l : List ℕ) → imageWellFormed l ≡ true → length l ≡ imageLength
+-- what the tests of an image say
+pub record ImageTested (l : List ℕ) : Type 0 where
+  pub right-length : length l ≡ imageLength
+  pub right-layout : numberAt l 0 ≡ layoutNumber
+  pub zeros : numberAt l settingsZeros ≡ 0
+  pub a-well-formed : trackWellFormed l trackA ≡ true
+  pub b-well-formed : trackWellFormed l trackB ≡ true
+
+pub image-tested : (l : List ℕ) → imageWellFormed l ≡ true → ImageTested l
 unfolding imageWellFormed
-well-formed-length l e =
-    eqb-true (length l) imageLength
-    (and-left (eqb (length l) imageLength) (eqb (numberAt l 0) layoutNumber && (trackWellFormed l trackA && trackWellFormed l trackB)) e)
+image-tested l e =
+    let tracks = trackWellFormed l trackA && trackWellFormed l trackB in
+    let settings = eqb (numberAt l settingsZeros) 0 && tracks in
+    let length-first = and-parts (eqb (length l) imageLength) (eqb (numberAt l 0) layoutNumber && settings) e in
+    let layout-next = and-parts (eqb (numberAt l 0) layoutNumber) settings (length-first .1) in
+    let zeros-next = and-parts (eqb (numberAt l settingsZeros) 0) tracks (layout-next .1) in
+    let tracks-last = and-parts (trackWellFormed l trackA) (trackWellFormed l trackB) (zeros-next .1) in
+    record {
+      right-length = eqb-true (length l) imageLength (length-first .0);
+      right-layout = eqb-true (numberAt l 0) layoutNumber (layout-next .0);
+      zeros = eqb-true (numberAt l settingsZeros) 0 (zeros-next .0);
+      a-well-formed = tracks-last .0;
+      b-well-formed = tracks-last .1;
+    }
+
+pub well-formed-length : (l : List ℕ) → imageWellFormed l ≡ true → length l ≡ imageLength
+well-formed-length l e = image-tested l e .right-length
 
 pub whole-written : (l : List ℕ) (s : Section) → length l ≡ imageLength → written l 0 (imageOf s) ≡ imageOf s
 unfolding written

@@ -1,4 +1,5 @@
--- Each return is past the bytes that stand for a value: device, permission, measures, faults. Past those four the mark's own test is the answer.
+-- Each return is past the bytes that stand for a value: device, permission, measures, faults, mark. Past those five the zero's own
+-- test is the answer.
 use borrow.Author.Tests.{le-leb, lt-leb}
 use Rattle.section.proofs.Tests.{Passed, first, _then_}
 use Rattle.image.specs.Image.{postWellFormed}
@@ -18,6 +19,9 @@ measures c = permission (c .before .before) then le-leb _ _ (c .if3 .left)
 abbrev faults : tie.Else4 → Passed
 faults c = measures (c .before .before) then le-leb _ _ (c .if4 .left)
 
+abbrev mark : tie.Else5 → Passed
+mark c = faults (c .before .before) then le-leb _ _ (c .if5 .left)
+
 pub post-well-formed-spec : {M : Type 1} → statement M
 unfolding postWellFormed
 post-well-formed-spec =
@@ -36,4 +40,7 @@ post-well-formed-spec =
     (λ c. rw (measures (c .before .before) .say, lt-leb _ _ (c .if4 .taken)))
     (λ c. search needs)
     (λ c. search needs)
-    (λ c. rw (faults (c .before) .say)))
+    (λ c. rw (faults (c .before .before) .say, lt-leb _ _ (c .if5 .taken)))
+    (λ c. search needs)
+    (λ c. search needs)
+    (λ c. rw (mark (c .before) .say)))

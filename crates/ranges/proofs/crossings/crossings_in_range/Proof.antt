@@ -15,6 +15,9 @@ Inv-loop n crossings i₀ i = (i ≤ mostCrossings) × (crossingsInRange n mostC
 abbrev μ-loop : tie.MeasureT-loop
 μ-loop n crossings i₀ i = i
 
+loop-holds : tie.Need-loop-holds Inv-loop μ-loop
+loop-holds c = (omega arith, refl)
+
 returns : tie.Need-returns Inv-loop μ-loop
 returns c =
     let b = c .before .before in
@@ -39,7 +42,7 @@ crossings-in-range-spec =
     (tie.spec
     Inv-loop
     μ-loop
-    (λ c. (omega arith, refl))
+    loop-holds
     (λ c. omega arith)
     (λ c κs. (omega arith, omega arith))
     returns
