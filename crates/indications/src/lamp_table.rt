@@ -1,8 +1,6 @@
 // The lamp table (document 02, request 6): the constant from which panels are wired and the indications are read.
-ghost use mathlib.Core.Bool.{true};
 ghost use mathlib.Core.Path.{_≡_};
 ghost use Rattle.rules.specs.LampTable.{lampEntry, lampTable};
-use crate::rule;
 
 pub const TABLE_LENGTH: usize = 256;
 
@@ -290,11 +288,4 @@ pub fn entry(index: u8) -> u8
 {
     let whole = table();
     look_up(&whole, index)
-}
-
-// Whether the constant has what the generator computes at an index: always.
-pub fn agrees(index: u8) -> bool
-    ensures { λ r. ⌜ r ≡ true ⌝ }
-{
-    entry(index) == rule::entry_by_rule(index)
 }
