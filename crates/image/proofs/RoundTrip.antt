@@ -28,7 +28,8 @@ use Rattle.image.specs.Image.{postWellFormed, postsWellFormed, walkWellF
 use Rattle.image.specs.RoundTrip.{Small, TrackHeld, SectionHeld, ReadsBack}
 use Rattle.section.proofs.Items.{same-items, first-items}
 use Rattle.image.proofs.Items.{each}
-use Rattle.image.proofs.Laws.{post-length, le16-length, posts-length, numbers-length, head-length, track-length, image-head-length, image-length}
+use Rattle.image.proofs.Laws.{post-length, le16-length, posts-length, numbers-length, head-length, track-length}
+use Rattle.image.proofs.Laws.{image-head-length, image-length}
 
 -- ## Flags
 

@@ -63,7 +63,9 @@ flag-kept (suc (suc x)) h = absurd (omega (arith, h))
 
 module _ (x : ℕ) (h : x ≤ 15) where
   faults-kept :
-      truthNumber (eqb (x % 2) 1) + truthNumber (eqb (x / 2 % 2) 1) * 2 + truthNumber (eqb (x / 4 % 2) 1) * 4 + truthNumber (eqb (x / 8 % 2) 1) * 8 ≡ x
+      truthNumber (eqb (x % 2) 1) + truthNumber (eqb (x / 2 % 2) 1) * 2
+      + truthNumber (eqb (x / 4 % 2) 1) * 4 + truthNumber (eqb (x / 8 % 2) 1) * 8
+      ≡ x
   faults-kept =
       rw (
         flag-kept (x % 2) (omega arith),
@@ -154,7 +156,9 @@ module _ (l : List ℕ) (bytes : AllBytes l) (at m : ℕ) where
   unfolding numbersImage numbersFrom
   numbers-kept h =
       items-joined _ numberLength l at m
-      (λ i k. ap le16Bytes (item-at (λ (j : ℕ). numberAt l (at + numberLength * j)) 0 m i k) ∙ number-part l bytes (at + numberLength * i) (omega arith))
+      (λ i k.
+      ap le16Bytes (item-at (λ (j : ℕ). numberAt l (at + numberLength * j)) 0 m i k)
+      ∙ number-part l bytes (at + numberLength * i) (omega arith))
 
   posts-kept :
       at + postLength * m ≤ length l → postsWellFormed l at m ≡ true → postsImage m (postsFrom l at m) ≡ part l at (postLength * m)
