@@ -12,12 +12,12 @@ use Rattle.section.specs.declared.Outcome.the-variants.{Done, Malformed, Refuse
 use Rattle.section.specs.declared.Settings.{Settings}
 use Rattle.section.specs.Numbers.{stepLength}
 use Rattle.section.specs.Outcome.{ifDone}
-use Rattle.section.proofs.Outcomes.{malformed-not-done, refused-not-done, same-figure}
+use Rattle.section.proofs.Outcomes.{past-refusal, past-steps, same-figure}
 use Rattle.layout.specs.Layout.{mostSteps, settingsLength, shortestFile, settingsDistance, longestFile, stepCount, fromEnd}
 use Rattle.layout.specs.Layout.{tailIn, settingsIn, stepsIn, settingsOf}
 use Rattle.layout.proofs.Parts.{steps-length}
 use Rattle.file_tests.specs.Tests.{lengthWrong, trailerFits, settingsWellFormed, someMalformed, firstMalformed}
-use Rattle.file_tests.proofs.Laws.{neither, past, TrailerFits, trailer-fits}
+use Rattle.file_tests.proofs.Laws.{neither, TrailerFits, trailer-fits}
 use Rattle.dayfile.specs.Answers.{readVerdict, notRead, readOf}
 use Rattle.dayfile.specs.declared.ReadAnswer.{ReadAnswer}
 
@@ -95,13 +95,11 @@ pub record DayRead (file : List ℕ) (count : ℕ) : Type 0 where
 pub day-read : (file : List ℕ) (count : ℕ) → readVerdict file ≡ Done count → DayRead file count
 unfolding readVerdict
 day-read file count e =
-    let a = past (lengthWrong (length file)) (Refused 1) _ (Done count) (refused-not-done 1 count) e in
-    let b = past (not (trailerFits file)) (Refused 2) _ (Done count) (refused-not-done 2 count) (a .1) in
-    let c = past (not (settingsWellFormed (settingsIn file))) (Refused 3) _ (Done count) (refused-not-done 3 count) (b .1) in
-    let first = firstMalformed (settingsOf (settingsIn file) .posts) (stepsIn file) in
-    let d =
-    past (someMalformed (settingsOf (settingsIn file) .posts) (stepsIn file)) (Malformed first) (Done (stepCount (stepsIn file))) (Done count)
-    (malformed-not-done first count) (c .1) in
+    let n = settingsOf (settingsIn file) .posts in
+    let a = past-refusal (lengthWrong (length file)) 1 count _ e in
+    let b = past-refusal (not (trailerFits file)) 2 count _ (a .1) in
+    let c = past-refusal (not (settingsWellFormed (settingsIn file))) 3 count _ (b .1) in
+    let d = past-steps (someMalformed n (stepsIn file)) (firstMalformed n (stepsIn file)) count (Done (stepCount (stepsIn file))) (c .1) in
     record {
       length-well = length-right _ (a .0);
       trailer-well = trailer-fits file (not-false _ (b .0));

@@ -15,12 +15,12 @@ use Rattle.section.specs.declared.Settings.{Settings}
 use Rattle.section.specs.Numbers.{stepLength}
 use Rattle.section.specs.Outcome.{ifDone}
 use Rattle.section.specs.Settings.{settingsInRange}
-use Rattle.section.proofs.Outcomes.{malformed-not-done, refused-not-done, same-figure}
+use Rattle.section.proofs.Outcomes.{past-refusal, past-steps, same-figure}
 use Rattle.layout.specs.Layout.{mostSteps, settingsLength, stepsDistance, settingsBytes, tailOf, settingsPart, trailer, stepCount, fileOf}
 use Rattle.file_tests.specs.Tests.{firstMalformed, someMalformed}
 use Rattle.dayfile.specs.Answers.{writeVerdict, writtenInto}
 use Rattle.layout.proofs.Parts.{tail-of, settings-long}
-use Rattle.file_tests.proofs.Laws.{neither, past}
+use Rattle.file_tests.proofs.Laws.{neither}
 
 -- ## Parts of a buffer
 
@@ -139,15 +139,13 @@ pub bytes-written :
 unfolding writeVerdict
 bytes-written c steps room written e =
     let n = stepCount steps in
-    let a = past (not (settingsInRange c)) (Refused 3) _ (Done written) (refused-not-done 3 written) e in
-    let first = firstMalformed (c .posts) steps in
-    let b = past (someMalformed (c .posts) steps) (Malformed first) _ (Done written) (malformed-not-done first written) (a .1) in
-    let d =
-    past (ltb mostSteps n || ltb room (stepsDistance (tailOf c) n)) (Refused 5) (Done (stepsDistance (tailOf c) n)) (Done written)
-    (refused-not-done 5 written) (b .1) in
+    let size = stepsDistance (tailOf c) n in
+    let a = past-refusal (not (settingsInRange c)) 3 written _ e in
+    let b = past-steps (someMalformed (c .posts) steps) (firstMalformed (c .posts) steps) written _ (a .1) in
+    let d = past-refusal (ltb mostSteps n || ltb room size) 5 written (Done size) (b .1) in
     record {
       settings-well = not-false _ (a .0);
       steps-well = b .0;
-      few = ltb-false _ _ (neither (ltb mostSteps n) (ltb room (stepsDistance (tailOf c) n)) (d .0) .0);
-      counted = same-figure (stepsDistance (tailOf c) n) written (d .1);
+      few = ltb-false _ _ (neither (ltb mostSteps n) (ltb room size) (d .0) .0);
+      counted = same-figure size written (d .1);
     }

@@ -2,6 +2,7 @@
 use Prim.Native.Nat.{ℕ, _*_, _/_}
 use mathlib.Core.Bool.{not, cond}
 use mathlib.Core.List.{List}
+use mathlib.Core.Path.{_≡_}
 use lib.Dec.{ltb}
 use lib.ListN.{length}
 use Rattle.section.specs.declared.Outcome.{Outcome}
@@ -9,7 +10,7 @@ use Rattle.section.specs.declared.Outcome.the-variants.{Done, Malformed, Refuse
 use Rattle.section.specs.declared.Settings.{Settings}
 use Rattle.section.specs.Fresh.{freshSection}
 use Rattle.section.specs.Numbers.{stepLength}
-use Rattle.section.specs.Outcome.{ifDone}
+use Rattle.section.specs.Outcome.{refusalNumber, refusalIndex, ifDone}
 use Rattle.section.specs.Settings.{settingsInRange}
 use Rattle.text.specs.Text.{written, firstTexts}
 use Rattle.notes.specs.Note.{noteLength, note}
@@ -38,3 +39,9 @@ dayOutcome c steps count room =
 -- the buffer afterwards: the notes at its front; a refusal leaves it untouched
 unfoldable pub notesAfter : Settings → List ℕ → ℕ → List ℕ → List ℕ
 notesAfter c steps count buffer = ifDone (dayOutcome c steps count (length buffer)) (written buffer 0 (notesOf c steps count)) buffer
+
+-- "with the index of the first malformed step for 4": 4 is not given without it
+abbrev pub IndexOfTheFirstNotWhole : Type 0
+IndexOfTheFirstNotWhole =
+    (c : Settings) (steps : List ℕ) (count room : ℕ) → refusalNumber (dayOutcome c steps count room) ≡ 4 →
+    refusalIndex (dayOutcome c steps count room) ≡ wholeSteps steps

@@ -1,34 +1,47 @@
--- A count is at most the quotient exactly where that many parts are at most the whole. The tests in their order.
+-- The tests in their order. A count is at most the quotient exactly where that many notes are at most the room.
 use Prim.Native.Nat.{_*_}
 use native.Mathlib.Omega.{arith}
 use borrow.Author.Needs.{needs}
-use borrow.Author.Tests.{le-leb, lt-leb}
-use denote.Ref.{now}
-use lib.ListN.{length}
-use Rattle.section.specs.Numbers.{stepLength}
+use borrow.Author.Tests.{lt-ltb, le-ltb}
+use Rattle.section.proofs.Told.{told-false, told-true}
 use Rattle.notes.specs.Note.{noteLength}
-use Rattle.judging_in_place.specs.Notes.{canBeNoted}
-use Rattle.judging_in_place.proofs.whole_day.can_be_noted.Statement.{statement}
-use Rattle.judging_in_place.proofs.whole_day.can_be_noted.Tie as tie
+use Rattle.judging_in_place.specs.Notes.{dayOutcome}
+use Rattle.judging_in_place.proofs.whole_day.day_outcome.Statement.{statement}
+use Rattle.judging_in_place.proofs.whole_day.day_outcome.Tie as tie
 
 returns : tie.Need-returns
-unfolding canBeNoted
-returns c =
-    let a = c .before .before .args in
-    rw (lt-leb (stepLength * a .count) (length (now (a .steps))) (omega arith))
+unfolding dayOutcome
+returns c = rw (told-false (c .before .settings-in-range .ensures) (c .if1 .taken))
 
 returns-2 : tie.Need-returns-2
-unfolding canBeNoted
+unfolding dayOutcome
 returns-2 c =
-    let a = c .before .before .before .args in
-    rw (le-leb (stepLength * a .count) (length (now (a .steps))) (omega arith), lt-leb (noteLength * a .count) (a .room) (omega arith))
+    let well = c .before in
+    rw (told-true (well .before .settings-in-range .ensures) (well .if1 .left), lt-ltb _ _ (c .if2 .taken))
 
 returns-3 : tie.Need-returns-3
-unfolding canBeNoted
+unfolding dayOutcome
 returns-3 c =
-    let a = c .before .before .before .before .args in
-    rw (le-leb (stepLength * a .count) (length (now (a .steps))) (omega arith), le-leb (noteLength * a .count) (a .room) (omega arith))
-    (c .settings-in-range .ensures)
+    let there = c .before in
+    let well = there .before in
+    let a = well .before .before .args in
+    rw (
+      told-true (well .before .settings-in-range .ensures) (well .if1 .left),
+      le-ltb _ _ (there .if2 .left),
+      lt-ltb (a .room) (noteLength * a .count) (omega arith),
+    )
 
-pub can-be-noted-spec : {M : Type 1} → statement M
-can-be-noted-spec = tie.close (tie.spec returns returns-2 (λ c κs. search needs) returns-3)
+returns-4 : tie.Need-returns-4
+unfolding dayOutcome
+returns-4 c =
+    let there = c .before in
+    let well = there .before in
+    let a = well .before .before .args in
+    rw (
+      told-true (well .before .settings-in-range .ensures) (well .if1 .left),
+      le-ltb _ _ (there .if2 .left),
+      le-ltb (a .room) (noteLength * a .count) (omega arith),
+    )
+
+pub day-outcome-spec : {M : Type 1} → statement M
+day-outcome-spec = tie.close (tie.spec (λ c κs. search needs) returns (λ c. search needs) returns-2 returns-3 returns-4)
