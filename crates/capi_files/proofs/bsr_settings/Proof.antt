@@ -50,7 +50,7 @@ returns-2 c =
     let over = c .before .before .before in
     let tail = over .before .before .before .before in
     let made = tail .before in
-    let done = made .before in
+    let done = made .before .before in
     let e = over .copy-out .ensures in
     rw (
       ← done .before .before .read .ensures,

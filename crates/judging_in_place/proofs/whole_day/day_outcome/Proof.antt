@@ -24,7 +24,7 @@ unfolding dayOutcome
 returns-3 c =
     let there = c .before in
     let well = there .before in
-    let a = well .before .before .args in
+    let a = well .before .before .before .args in
     rw (
       told-true (well .before .settings-in-range .ensures) (well .if1 .left),
       le-ltb _ _ (there .if2 .left),
@@ -36,7 +36,7 @@ unfolding dayOutcome
 returns-4 c =
     let there = c .before in
     let well = there .before in
-    let a = well .before .before .args in
+    let a = well .before .before .before .args in
     rw (
       told-true (well .before .settings-in-range .ensures) (well .if1 .left),
       le-ltb _ _ (there .if2 .left),
@@ -44,4 +44,4 @@ returns-4 c =
     )
 
 pub day-outcome-spec : {M : Type 1} → statement M
-day-outcome-spec = tie.close (tie.spec (λ c κs. search needs) returns (λ c. search needs) returns-2 returns-3 returns-4)
+day-outcome-spec = tie.close (tie.spec (λ c κs. search needs) returns returns-2 returns-3 returns-4)
