@@ -22,9 +22,10 @@ pub extern "C" fn bsr_run(bytes: &mut [u8], steps: &[u8], answers: &mut [u8]) ->
     }
     let answer = run::run(reader::section_of(bytes), steps, answers);
     let outcome = answer.outcome;
-    if let Outcome::Done(_) = outcome {
-        let after = answer.section;
-        writer::put_image(bytes, after);
-    }
+    let Outcome::Done(_) = outcome else {
+        return packed_outcome(outcome);
+    };
+    let after = answer.section;
+    writer::put_image(bytes, after);
     packed_outcome(outcome)
 }
