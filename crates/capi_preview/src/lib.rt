@@ -6,10 +6,10 @@ ghost use lib.ListN.{length};
 ghost use Rattle.text.specs.Text.{written};
 ghost use Rattle.capi_preview.specs.Preview.{lampsLength, trackLampsLength, trackLamps, lamps, previewAnswer, previewLamps};
 use image::reader;
+use indications::track::PostsShown;
+use indications::track::all_posts_dark;
 use packed::packed_verdict;
 use section::MOST_POSTS;
-use track_indications::PostsShown;
-use track_indications::all_posts_dark;
 
 const POSTS: usize = MOST_POSTS as usize;
 

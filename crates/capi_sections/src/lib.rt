@@ -68,5 +68,5 @@ pub extern "C" fn bsr_indications(bytes: &[u8], track: u8, post: u8) -> u16
 pub extern "C" fn bsr_lamp_entry(index: u8) -> u8
     ensures { λ r. ⌜ r ≡ lampEntry index ⌝ }
 {
-    lamp_table::entry(index)
+    indications::lamp_table::entry(index)
 }

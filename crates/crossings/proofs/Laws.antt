@@ -20,7 +20,7 @@ use Rattle.rules.proofs.AllOpen.{all-open-as-before}
 use Rattle.site.specs.UnusedLast.{UnusedLast}
 use Rattle.crossings.specs.declared.Sought.{Sought}
 use Rattle.crossings.specs.declared.Sought.the-variants.{AnyCrossing, WithoutZones}
-use Rattle.crossings.specs.Crossings.{isSought, soughtAhead}
+use Rattle.crossings.specs.Crossings.{isSoughtCrossing, soughtAhead}
 
 -- ## Two tests
 
@@ -71,12 +71,12 @@ module _ (test : ℕ → Bool) (l : List ℕ) where
       go k b false q = ap test (last i k (ltb-false k i q) b e) ∙ other
 
 -- a crossing that lies elsewhere is none that is looked for
-pub elsewhere : (sought : Sought) (i b : ℕ) → liesIn i b ≡ false → false ≡ isSought sought i b
+pub elsewhere : (sought : Sought) (i b : ℕ) → liesIn i b ≡ false → false ≡ isSoughtCrossing sought i b
 elsewhere AnyCrossing i b e = sym e
 elsewhere WithoutZones i b e = rw e
 
 -- an unused byte is none
-pub unused-not-sought : (sought : Sought) (i : ℕ) → isSought sought i unused ≡ false
+pub unused-not-sought : (sought : Sought) (i : ℕ) → isSoughtCrossing sought i unused ≡ false
 unused-not-sought AnyCrossing i = refl
 unused-not-sought WithoutZones i = refl
 
@@ -105,8 +105,8 @@ pub zones-lack-there : (c : Line) (e : Site) → soughtAhead c e WithoutZones �
 unfolding soughtAhead
 zones-lack-there c e h =
     let i = blockAhead c e in
-    and-implies (not (atReceivingEnd c e)) (anyOf (isSought WithoutZones i) mostCrossings (c .crossings)) (anyOf (liesIn i) mostCrossings (c .crossings))
-    (any-implies (isSought WithoutZones i) (liesIn i) (c .crossings) (λ b. and-left (liesIn i b) (lacksZones b)) mostCrossings) h
+    and-implies (not (atReceivingEnd c e)) (anyOf (isSoughtCrossing WithoutZones i) mostCrossings (c .crossings)) (anyOf (liesIn i) mostCrossings (c .crossings))
+    (any-implies (isSoughtCrossing WithoutZones i) (liesIn i) (c .crossings) (λ b. and-left (liesIn i b) (lacksZones b)) mostCrossings) h
 
 -- a line whose first byte is unused has none
 pub none-ahead : (c : Line) (e : Site) → UnusedLast (c .crossings) → byte (c .crossings) 0 ≡ unused → soughtAhead c e AnyCrossing ≡ false

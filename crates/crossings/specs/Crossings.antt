@@ -10,9 +10,9 @@ use Rattle.crossings.specs.declared.Sought.{Sought}
 use Rattle.crossings.specs.declared.Sought.the-variants.{AnyCrossing, WithoutZones}
 
 -- a byte of a crossing in block section i
-abbrev pub isSought : Sought → ℕ → ℕ → Bool
-isSought AnyCrossing i = liesIn i
-isSought WithoutZones i = λ (b : ℕ). liesIn i b && lacksZones b
+abbrev pub isSoughtCrossing : Sought → ℕ → ℕ → Bool
+isSoughtCrossing AnyCrossing i = liesIn i
+isSoughtCrossing WithoutZones i = λ (b : ℕ). liesIn i b && lacksZones b
 
 unfoldable pub soughtAhead : Line → Site → Sought → Bool
-soughtAhead c e sought = not (atReceivingEnd c e) && anyOf (isSought sought (blockAhead c e)) mostCrossings (c .crossings)
+soughtAhead c e sought = not (atReceivingEnd c e) && anyOf (isSoughtCrossing sought (blockAhead c e)) mostCrossings (c .crossings)

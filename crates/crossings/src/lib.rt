@@ -6,7 +6,7 @@ ghost use Rattle.rules.specs.Site.{anyOf, crossingAhead};
 ghost use Rattle.rules.specs.Table.{cautionNeeded, cautionHeld};
 ghost use Rattle.site.specs.OnTheLine.{OnTheLine};
 ghost use Rattle.site.specs.UnusedLast.{UnusedLast};
-ghost use Rattle.crossings.specs.Crossings.{isSought, soughtAhead};
+ghost use Rattle.crossings.specs.Crossings.{isSoughtCrossing, soughtAhead};
 use rules::Line;
 use rules::Site;
 use section::Crossings;
@@ -33,7 +33,7 @@ fn lies_in(block: usize, b: u8) -> bool
 
 // The crossing of that byte lies in the block section, and is one that is looked for.
 fn is_sought(sought: Sought, block: usize, b: u8) -> bool
-    ensures { λ r. ⌜ r ≡ isSought sought block b ⌝ }
+    ensures { λ r. ⌜ r ≡ isSoughtCrossing sought block b ⌝ }
 {
     if !lies_in(block, b) {
         return false;
@@ -47,7 +47,7 @@ fn is_sought(sought: Sought, block: usize, b: u8) -> bool
 // One that is looked for lies in the block section. The first unused byte ends the search.
 fn any_crossing(crossings: Crossings, sought: Sought, block: usize) -> bool
     requires { ⌜ UnusedLast crossings ⌝ }
-    ensures { λ r. ⌜ r ≡ anyOf (isSought sought block) mostCrossings crossings ⌝ }
+    ensures { λ r. ⌜ r ≡ anyOf (isSoughtCrossing sought block) mostCrossings crossings ⌝ }
 {
     let mut i: usize = 0;
     while i < MOST_CROSSINGS {

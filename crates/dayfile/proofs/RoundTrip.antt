@@ -14,7 +14,7 @@ use Rattle.section.specs.Bytes.{AllBytes}
 use Rattle.section.specs.Numbers.{stepLength, mostCrossings}
 use Rattle.section.specs.Outcome.{ifDone}
 use Rattle.section.specs.Settings.{settingsInRange}
-use Rattle.section.proofs.Outcomes.{tested, found, passed}
+use Rattle.section.proofs.Outcomes.{other-refusal, step-refusal, no-refusal}
 use Rattle.layout.specs.Layout.{mostSteps, settingsDistance, stepsDistance, tailOf, settingsPart, trailer, stepCount, fileOf, trailerIn, tailIn}
 use Rattle.layout.specs.Layout.{settingsIn, stepsIn, settingsOf, stepsPart}
 use Rattle.layout.proofs.Parts.{tail-of, tail-in, part-long, trailer-long, trailer-length, steps-length}
@@ -179,16 +179,16 @@ index-of-the-first = (
   λ file.
       let n = settingsOf (settingsIn file) .posts in
       let first = firstMalformed n (stepsIn file) in
-      tested first (lengthWrong (length file)) 1 _ (λ e. omega arith)
-      (tested first (not (trailerFits file)) 2 _ (λ e. omega arith)
-      (tested first (not (settingsWellFormed (settingsIn file))) 3 _ (λ e. omega arith)
-      (found first (someMalformed n (stepsIn file)) _
-      (passed first (stepCount (stepsIn file)))))),
+      other-refusal first (lengthWrong (length file)) 1 _ (λ e. omega arith)
+      (other-refusal first (not (trailerFits file)) 2 _ (λ e. omega arith)
+      (other-refusal first (not (settingsWellFormed (settingsIn file))) 3 _ (λ e. omega arith)
+      (step-refusal first (someMalformed n (stepsIn file)) _
+      (no-refusal first (stepCount (stepsIn file)))))),
   λ c steps room.
       let first = firstMalformed (c .posts) steps in
       let size = stepsDistance (tailOf c) (stepCount steps) in
-      tested first (not (settingsInRange c)) 3 _ (λ e. omega arith)
-      (found first (someMalformed (c .posts) steps) _
-      (tested first (ltb mostSteps (stepCount steps) || ltb room size) 5 _ (λ e. omega arith)
-      (passed first size))),
+      other-refusal first (not (settingsInRange c)) 3 _ (λ e. omega arith)
+      (step-refusal first (someMalformed (c .posts) steps) _
+      (other-refusal first (ltb mostSteps (stepCount steps) || ltb room size) 5 _ (λ e. omega arith)
+      (no-refusal first size))),
 )

@@ -27,14 +27,14 @@ readVerdict file =
     (Done (stepCount (stepsIn file))))))
 
 -- the settings beside a refusal
-unfoldable pub blank : Settings
-blank = record { posts = 0; form = 0; mask = 0; line = 0; crossings = noCrossings }
+unfoldable pub noSettings : Settings
+noSettings = record { posts = 0; form = 0; mask = 0; line = 0; crossings = noCrossings }
 
 unfoldable pub notRead : Outcome → ReadAnswer
-notRead refusal = record { reading = refusal; settings = blank }
+notRead refusal = record { reading = refusal; settings = noSettings }
 
 unfoldable pub readOf : List ℕ → ReadAnswer
-readOf file = record { reading = readVerdict file; settings = ifDone (readVerdict file) (settingsOf (settingsIn file)) blank }
+readOf file = record { reading = readVerdict file; settings = ifDone (readVerdict file) (settingsOf (settingsIn file)) noSettings }
 
 -- ## The writer
 

@@ -15,7 +15,7 @@ use section::STEP_LENGTH;
 use section::Settings;
 use section::UNUSED;
 
-// What the reader answers: how many steps are read, or the refusal; the settings beside a refusal are blank.
+// What the reader answers: how many steps are read, or the refusal. The settings beside a refusal are noSettings.
 pub struct ReadAnswer {
     pub reading: Outcome,
     pub settings: Settings,

@@ -1,11 +1,9 @@
 -- Laws of images: the lengths of what is written, by those of its parts; the test of the posts, from the last down;
 -- an image that is well formed is as long as what is written, so the whole of it is written over.
-use Prim.Native.Nat.{ℕ, zero, suc, _+_, _*_, _-_, _<_}
-use mathlib.Core.Bool.{true, false, _&&_}
+use Prim.Native.Nat.{ℕ, suc, _+_, _*_, _-_, _<_}
+use mathlib.Core.Bool.{Bool, true, false, _&&_}
 use mathlib.Core.List.{List, [], _∷_, _++_, append-nil}
 use mathlib.Core.Path.{_≡_, refl, ap, _∙_}
-use native.Mathlib.Nat.{not-suc-le-zero}
-use native.Mathlib.Numerals.{sub-one}
 use native.Mathlib.Omega.{arith}
 use lib.ListN.{length, drop, getD, length-append, drop-of-length-le}
 use lib.Dec.{eqb}
@@ -18,6 +16,7 @@ use Rattle.section.specs.declared.Walk.the-variants.{Settled, Turn}
 use Rattle.section.specs.Numbers.{mostPosts, mostBlocks}
 use Rattle.section.specs.Post.{blank}
 use Rattle.section.proofs.Laws.{and-left}
+use Rattle.section.proofs.Tests.{stops, goes-on}
 use Rattle.layout.specs.Layout.{le16Bytes, settingsBytes}
 use Rattle.text.specs.Text.{written}
 use Rattle.text.proofs.Laws.{first-texts-whole}
@@ -69,16 +68,16 @@ image-length s = simp length-append (omega (arith, image-head-length s, track-le
 -- ## A test that goes from the last post down
 
 module _ (l : List ℕ) (at : ℕ) where
-  last-first : (i : ℕ) → 0 < i → postsWellFormed l at i ≡ (postWellFormed l (at + postLength * (i - 1)) && postsWellFormed l at (i - 1))
+  abbrev postTest : ℕ → Bool
+  postTest i = postWellFormed l (at + postLength * i)
+
+  pub posts-stop : (i : ℕ) → 0 < i → postTest (i - 1) ≡ false → postsWellFormed l at i ≡ false
   unfolding postsWellFormed
-  last-first zero h = absurd (not-suc-le-zero h)
-  last-first (suc i) h = rw (sub-one (suc i))
+  posts-stop = stops postTest (postsWellFormed l at) (λ i. refl)
 
-  pub stops : (i : ℕ) → 0 < i → postWellFormed l (at + postLength * (i - 1)) ≡ false → postsWellFormed l at i ≡ false
-  stops i h e = last-first i h ∙ rw e
-
-  pub goes-on : (i : ℕ) → 0 < i → postWellFormed l (at + postLength * (i - 1)) ≡ true → postsWellFormed l at i ≡ postsWellFormed l at (i - 1)
-  goes-on i h e = last-first i h ∙ rw e
+  pub posts-go-on : (i : ℕ) → 0 < i → postTest (i - 1) ≡ true → postsWellFormed l at i ≡ postsWellFormed l at (i - 1)
+  unfolding postsWellFormed
+  posts-go-on = goes-on postTest (postsWellFormed l at) (λ i. refl)
 
 -- ## A well-formed image is as long as what is written
 

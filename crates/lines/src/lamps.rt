@@ -5,8 +5,8 @@ ghost use lib.ListN.{length};
 ghost use Rattle.text.specs.Text.{written};
 ghost use Rattle.lines.specs.PrintedTable.{tableRoom, tableText};
 use crate::put_number;
-use lamp_table::TABLE_LENGTH;
-use lamp_table::rule::entry_by_rule;
+use indications::lamp_table::TABLE_LENGTH;
+use indications::rule::entry_by_rule;
 
 const LINE_ROOM: usize = 6;
 

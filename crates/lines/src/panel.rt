@@ -7,9 +7,9 @@ ghost use Rattle.section.specs.Range.{inRange};
 ghost use Rattle.text.specs.Text.{written};
 ghost use Rattle.lines.specs.PanelLine.{trackName, postField, postFields, panelFields, panelLineRoom};
 use crate::put_number;
+use indications::track::track_indications;
 use section::Indications;
 use section::Section;
-use track_indications::track_indications;
 
 // Writes what a post shows, and returns the next place.
 fn put_post(buffer: &mut [u8], at: usize, l: Indications) -> usize

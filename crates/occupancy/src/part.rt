@@ -12,8 +12,8 @@ use rules::Line;
 use rules::Site;
 use section::Trains;
 use section::positions;
+use site::ends::commands;
 use site::line::is_materialised;
-use site::part::commands;
 use site::place::rank_at;
 
 // A train in it; on materialised lines it reaches to the next signalled post.

@@ -6,7 +6,7 @@ ghost use Rattle.occupancy.specs.Reach.{holdsFrom};
 use crate::trains::train_after;
 use rules::Line;
 use section::Trains;
-use site::part::ends_at;
+use site::ends::ends_at;
 
 // A train between the post of rank `from` and the next at which one ends: the next signalled post, or the next of all.
 pub fn holds_from(c: Line, signalled_only: bool, up: bool, from: u8, trains: &Trains) -> bool

@@ -9,7 +9,7 @@ use rules::Line;
 use rules::Site;
 use section::Trains;
 use section::positions;
-use site::part::ends_at;
+use site::ends::ends_at;
 use site::place::rank_at;
 
 // In CVT it reaches to the next signalled post.

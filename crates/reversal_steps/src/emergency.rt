@@ -18,7 +18,7 @@ use site::conditions::fault1_confirmed;
 use site::conditions::is_turn;
 use site::conditions::measures_suffice;
 use site::conditions::release_in_turn;
-use site::part::commands;
+use site::ends::commands;
 use site::ruling::Ruling;
 use site::ruling::keeping;
 

@@ -22,7 +22,7 @@ use Rattle.rules.specs.Site.{otherSettledOnVns, trainAt, stretchEnds}
 use Rattle.rules.specs.Demand3.{AcceptedStep, kind, post, isOfTrain, keep, All, Run, noteStep, runsFrom, runsOf}
 use Rattle.rules.specs.Demand3.{OneAfterAnother, TrainThere, Fate}
 use Rattle.rules.proofs.Facts.{by-track, beq-same, beq-other}
-use Rattle.rules.proofs.View.{View, Seen, on, shown}
+use Rattle.rules.proofs.View.{View, Seen, on, asStep}
 use Rattle.rules.proofs.Reading.{Says}
 use Rattle.rules.proofs.Accept.{AcceptedOn, trackAfterStep, line, AcceptedIn, sectionAfterStep}
 use Rattle.rules.proofs.Invariant.{Sound}
@@ -52,7 +52,7 @@ runs-last test rs (x ∷ ds) d = go (test x) (runs-last test (noteStep (kind x) 
     go false here there = there
 
 module _ (n : ℕ) (ds : List AcceptedStep) (d : AcceptedStep) where
-  module _ (t : Bool) (q : ℕ) (v : View) (h : Says n (d .bytes) (shown (on t q v))) where
+  module _ (t : Bool) (q : ℕ) (v : View) (h : Says n (d .bytes) (asStep (on t q v))) where
     -- the runs of train z on the track b, one more step noted where the test says so
     abbrev noted : Bool → ℕ → Bool → List Run
     noted b z test = cond (test && ofTrain z v) (noteView v q (runsOf b z ds)) (runsOf b z ds)
@@ -90,7 +90,7 @@ module _ (c : Settings) (n2 : 2 ≤ c .posts) (n16 : c .posts ≤ mostPosts) whe
   -- ## Kept by every accepted step
 
   module _ (ds : List AcceptedStep) (d : AcceptedStep) where
-    module _ (b : Bool) (p : ℕ) (k : View) (says : Says (c .posts) (d .bytes) (shown (on b p k))) (s : Section) where
+    module _ (b : Bool) (p : ℕ) (k : View) (says : Says (c .posts) (d .bytes) (asStep (on b p k))) (s : Section) where
       here-kept : (v : Bool) (t : Track) → AcceptedOn (line c s) v b p k t → Sound (line c s) b t → TrackRuns (line c s) b t ds
           → TrackRuns (line c s) b (trackAfterStep (line c s) b p k t) (ds ++ d ∷ [])
       here-kept v t h so m =
@@ -110,7 +110,7 @@ module _ (c : Settings) (n2 : 2 ≤ c .posts) (n16 : c .posts ≤ mostPosts) whe
         none-zero = runs-there (c .posts) ds d b p k says 0 ∙ m .none-zero;
       }
 
-    one-kept : (b : Bool) (p : ℕ) (k : View) → Says (c .posts) (d .bytes) (shown (on b p k)) → (s : Section) → AcceptedIn c s (on b p k)
+    one-kept : (b : Bool) (p : ℕ) (k : View) → Says (c .posts) (d .bytes) (asStep (on b p k)) → (s : Section) → AcceptedIn c s (on b p k)
         → ((e : Bool) → Sound (line c s) e (trackOf s e)) → SectionRuns s ds → SectionRuns (sectionAfterStep c s (on b p k)) (ds ++ d ∷ [])
     unfolding AcceptedIn
     one-kept b p k says s h so m =
@@ -118,7 +118,7 @@ module _ (c : Settings) (n2 : 2 ≤ c .posts) (n16 : c .posts ≤ mostPosts) whe
         (rw (here-after c s b p k) (here-kept b p k says s (otherSettledOnVns s b) (trackOf s b) h (so b) (m b)))
         (rw (there-after c s b p k) (there-kept b p k says s (trackOf s (not b)) (m (not b))))
 
-    pub runs-kept : (x : Seen) → Says (c .posts) (d .bytes) (shown x) → (s : Section) → AcceptedIn c s x → ((b : Bool) → Sound (line c s) b (trackOf s b))
+    pub runs-kept : (x : Seen) → Says (c .posts) (d .bytes) (asStep x) → (s : Section) → AcceptedIn c s x → ((b : Bool) → Sound (line c s) b (trackOf s b))
         → SectionRuns s ds → SectionRuns (sectionAfterStep c s x) (ds ++ d ∷ [])
     runs-kept (on b p k) says s h so m = one-kept b p k says s h so m
 

@@ -27,7 +27,7 @@ use Rattle.rules.specs.Table.{checks, effect, trackAfter}
 use Rattle.rules.specs.Demand3.{AcceptedStep, isOnTrack, keep, otherEnd, endsAt, noteReversal, reversalFrom, runs?, underWay}
 use Rattle.rules.proofs.Facts.{by-track, beq-same, beq-other, first-rank, last-rank, not-last-rank}
 use Rattle.rules.proofs.View.{order, setDevice, announce, acknowledge, key, start, pass, leave, measures, fault, caution, View, walks, runs, notes}
-use Rattle.rules.proofs.View.{releases, flat, post-flat, Seen, on, shown}
+use Rattle.rules.proofs.View.{releases, flat, post-flat, Seen, on, asStep}
 use Rattle.rules.proofs.Reading.{Says}
 use Rattle.rules.proofs.Frame.{is-turn, keepsRunning}
 use Rattle.rules.proofs.Accept.{AcceptedOn, trackAfterStep, line, AcceptedIn, sectionAfterStep}
@@ -141,7 +141,7 @@ module _ (c : Settings) where
       ∙ reversal-one (isOnTrack b d) d (reversalOn b ds)
 
   module _ (n2 : 2 ≤ c .posts) (s : Section) (ds : List AcceptedStep) (d : AcceptedStep) where
-    one-kept : (t : Bool) (q : ℕ) (k : View) → Says (c .posts) (d .bytes) (shown (on t q k)) → AcceptedIn c s (on t q k)
+    one-kept : (t : Bool) (q : ℕ) (k : View) → Says (c .posts) (d .bytes) (asStep (on t q k)) → AcceptedIn c s (on t q k)
         → Agrees s ds → Agrees (sectionAfterStep c s (on t q k)) (ds ++ d ∷ [])
     unfolding AcceptedIn
     one-kept t q k h ok a =
@@ -163,7 +163,7 @@ module _ (c : Settings) where
             ≡ cond w (noteReversal (c .posts) d (reversalOn b ds)) (reversalOn b ds)
         whether b e = ap (λ w. cond w (noteReversal (c .posts) d (reversalOn b ds)) (reversalOn b ds)) (track-test (c .posts) d t q k h b ∙ e)
 
-    pub agrees-kept : (x : Seen) → Says (c .posts) (d .bytes) (shown x) → AcceptedIn c s x → Agrees s ds
+    pub agrees-kept : (x : Seen) → Says (c .posts) (d .bytes) (asStep x) → AcceptedIn c s x → Agrees s ds
         → Agrees (sectionAfterStep c s x) (ds ++ d ∷ [])
     agrees-kept (on t q k) h ok a = one-kept t q k h ok a
 

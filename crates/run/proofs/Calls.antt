@@ -22,7 +22,7 @@ use Rattle.judging_in_place.specs.declared.Entries.the-variants.{Answers}
 use Rattle.judging_in_place.specs.Offered.{sectionBefore}
 use Rattle.judging_in_place.proofs.Laws.{in-range-before, settings-before, state-append, steps-are-offered}
 use Rattle.run.specs.Run.{outcomeOf, runOf}
-use Rattle.run.specs.Calls.{TwoCallsAreOne, OneCallIsTwo, Call, sectionAfterCalls, stepsTaken, stepsOfCalls, Demand3OfCalls}
+use Rattle.run.specs.Calls.{TwoCallsAreOne, OneCallIsTwo, Call, sectionAfterCalls, stepsOfCall, stepsOfCalls, Demand3OfCalls}
 use Rattle.run.proofs.Outcomes.{IsDone, is-done, done}
 use Rattle.run.proofs.Parts.{count-of-one, count-of-both, both-well, each-well, section-in-other, kept-of-both}
 
@@ -97,8 +97,8 @@ one-call-is-two s one other room rest whole k m e long here there =
 
 left-is-offered :
     (s : Section) (steps : List ℕ) (outcome : Outcome)
-    → ifDone outcome (sectionBefore s steps (stepCount steps)) s ≡ stateAfter s (stepsTaken outcome steps)
-unfolding ifDone stepsTaken stateAfter
+    → ifDone outcome (sectionBefore s steps (stepCount steps)) s ≡ stateAfter s (stepsOfCall outcome steps)
+unfolding ifDone stepsOfCall stateAfter
 left-is-offered s steps (Done count) = steps-are-offered s steps (stepCount steps)
 left-is-offered s steps (Malformed index) = refl
 left-is-offered s steps (Refused number) = refl
@@ -111,7 +111,7 @@ calls-are-offered s (call ∷ calls) =
     let left = runOf s (call .steps) (call .room) .section in
     calls-are-offered left calls
     ∙ (ap (λ (t : Section). stateAfter t (stepsOfCalls left calls)) (left-is-offered s (call .steps) outcome)
-    ∙ sym (state-append s (stepsTaken outcome (call .steps)) (stepsOfCalls left calls)))
+    ∙ sym (state-append s (stepsOfCall outcome (call .steps)) (stepsOfCalls left calls)))
 
 pub demand3-of-calls : Demand3OfCalls
 unfolding Demand3

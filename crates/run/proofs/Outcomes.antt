@@ -13,7 +13,7 @@ use Rattle.section.specs.declared.Section.{Section}
 use Rattle.section.specs.Numbers.{stepLength}
 use Rattle.section.specs.Outcome.{ifDone}
 use Rattle.section.specs.Range.{inRange}
-use Rattle.section.proofs.Outcomes.{tested, found, passed, past-refusal, past-steps, same-figure}
+use Rattle.section.proofs.Outcomes.{other-refusal, step-refusal, no-refusal, past-refusal, past-steps, same-figure}
 use Rattle.layout.specs.Layout.{mostSteps, stepCount}
 use Rattle.file_tests.specs.Tests.{wellAt, leading, firstMalformed, someMalformed}
 use Rattle.file_tests.proofs.Laws.{neither, all-pass, all-whole}
@@ -127,7 +127,7 @@ pub index-of-the-first : IndexOfTheFirst
 unfolding outcomeOf
 index-of-the-first s steps room =
     let first = firstMalformed (s .settings .posts) steps in
-    tested first (not (inRange s)) 6 _ (λ e. omega arith)
-    (found first (someMalformed (s .settings .posts) steps) _
-    (tested first (tooMuch (stepCount steps) room) 5 _ (λ e. omega arith)
-    (passed first (stepCount steps))))
+    other-refusal first (not (inRange s)) 6 _ (λ e. omega arith)
+    (step-refusal first (someMalformed (s .settings .posts) steps) _
+    (other-refusal first (tooMuch (stepCount steps) room) 5 _ (λ e. omega arith)
+    (no-refusal first (stepCount steps))))

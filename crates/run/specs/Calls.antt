@@ -53,13 +53,13 @@ sectionAfterCalls s [] = s
 sectionAfterCalls s (call ∷ calls) = sectionAfterCalls (runOf s (call .steps) (call .room) .section) calls
 
 -- the steps that a call offers: none if it is refused
-unfoldable pub stepsTaken : Outcome → List ℕ → List (List ℕ)
-stepsTaken outcome steps = ifDone outcome (offeredOf steps (stepCount steps)) []
+unfoldable pub stepsOfCall : Outcome → List ℕ → List (List ℕ)
+stepsOfCall outcome steps = ifDone outcome (offeredOf steps (stepCount steps)) []
 
 unfoldable pub stepsOfCalls : Section → List Call → List (List ℕ)
 stepsOfCalls s [] = []
 stepsOfCalls s (call ∷ calls) =
-    stepsTaken (outcomeOf s (call .steps) (call .room)) (call .steps) ++ stepsOfCalls (runOf s (call .steps) (call .room) .section) calls
+    stepsOfCall (outcomeOf s (call .steps) (call .room)) (call .steps) ++ stepsOfCalls (runOf s (call .steps) (call .room) .section) calls
 
 -- demand 3 speaks of calls from fresh, refused ones too, as of their steps
 abbrev pub Demand3OfCalls : Type 0

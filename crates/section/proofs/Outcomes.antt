@@ -25,20 +25,20 @@ module _ (index : ℕ) where
   FourHasIt outcome = refusalNumber outcome ≡ 4 → refusalIndex outcome ≡ index
 
   -- a test that refuses by another number
-  pub tested : (b : Bool) (number : ℕ) (rest : Outcome) → (number ≡ 4 → ⊥) → FourHasIt rest → FourHasIt (cond b (Refused number) rest)
+  pub other-refusal : (b : Bool) (number : ℕ) (rest : Outcome) → (number ≡ 4 → ⊥) → FourHasIt rest → FourHasIt (cond b (Refused number) rest)
   unfolding refusalNumber
-  tested true number rest other later e = absurd (other e)
-  tested false number rest other later e = later e
+  other-refusal true number rest other later e = absurd (other e)
+  other-refusal false number rest other later e = later e
 
   -- that of the steps
-  pub found : (b : Bool) (rest : Outcome) → FourHasIt rest → FourHasIt (cond b (Malformed index) rest)
+  pub step-refusal : (b : Bool) (rest : Outcome) → FourHasIt rest → FourHasIt (cond b (Malformed index) rest)
   unfolding refusalIndex
-  found true rest later e = refl
-  found false rest later e = later e
+  step-refusal true rest later e = refl
+  step-refusal false rest later e = later e
 
-  pub passed : (figure : ℕ) → FourHasIt (Done figure)
+  pub no-refusal : (figure : ℕ) → FourHasIt (Done figure)
   unfolding refusalNumber
-  passed figure e = absurd (omega arith)
+  no-refusal figure e = absurd (omega arith)
 
 -- ## A call that is done has passed its tests
 

@@ -6,5 +6,5 @@ use Rattle.rules.specs.declared.Line.{Line}
 use Rattle.section.specs.Geometry.{rank}
 use Rattle.section.specs.Settings.{isSignalled}
 
-abbrev pub endsAt : Line → Bool → Bool → ℕ → Bool
-endsAt c signalledOnly up j = not signalledOnly || isSignalled (c .mask) (rank (c .posts) up j)
+abbrev pub endsAtRank : Line → Bool → Bool → ℕ → Bool
+endsAtRank c signalledOnly up j = not signalledOnly || isSignalled (c .mask) (rank (c .posts) up j)

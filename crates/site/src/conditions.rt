@@ -4,7 +4,7 @@ ghost use mathlib.Core.Path.{_≡_};
 ghost use Rattle.rules.specs.Site.{isSettled, sameAct, isTurn, atSendingEnd, atReceivingEnd};
 ghost use Rattle.rules.specs.Table.{orderAllowed, releaseInTurn, measuresSuffice, fault1Confirmed};
 ghost use Rattle.site.specs.OnTheLine.{OnTheLine};
-use crate::part::commands;
+use crate::ends::commands;
 use crate::place::at_receiving_end;
 use crate::place::at_sending_end;
 use rules::Line;

@@ -1,15 +1,19 @@
 -- The section is in its ranges or not, the bytes say a step or none, and the step is judged on its own track, beside the other.
 use denote.Ref.{now}
 use mathlib.Core.Bool.{true, false, not}
-use mathlib.Core.Path.{_≡_, _∙_, ap, sym}
+use mathlib.Core.Path.{_≡_, _∙_, ap, sym, subst}
 use Rattle.section.specs.declared.Decoded.the-variants.{Well}
+use Rattle.section.specs.declared.Track.{Track}
 use Rattle.section.specs.Range.{inRange}
-use Rattle.section.specs.Step.{decoded}
+use Rattle.section.specs.Step.{decoded, postOf}
 use Rattle.section.specs.Store.{trackOf}
 use Rattle.section.proofs.Told.{told-false, told-true}
 use Rattle.rules.specs.Judge.{judge}
+use Rattle.rules.specs.declared.Line.{Line}
 use Rattle.rules.specs.Line.{lineIn}
+use Rattle.rules.specs.Site.{siteOn}
 use Rattle.rules.proofs.RangeLaw.{judged-in-range}
+use Rattle.site.specs.InItsRanges.{InItsRanges}
 use Rattle.site.specs.Running.{runningOf}
 use Rattle.judging.proofs.at_post.OnTrack.{malformed, in-ranges}
 use Rattle.judging.proofs.on_track.OnTrack.{judged}
@@ -68,8 +72,14 @@ judge-on-track-requires : tie.Need-judge-on-track-requires
 judge-on-track-requires c κs =
     let x = well c .d .given .0 .0 in
     let entry = start (decode c) in
-    rw (line-is c, own-track c)
-    (in-ranges (entry .args .s) (now (entry .args .bytes)) x (says c) (in-range (decode c)))
+    let fits = in-ranges (entry .args .s) (now (entry .args .bytes)) x (says c) (in-range (decode c)) in
+    subst
+    (λ (l : Line). InItsRanges l (siteOn (x .track) (postOf (x .step)) (c .before .before .track-of .result)))
+    (sym (line-is c))
+    (subst
+    (λ (t : Track). InItsRanges (lineIn (entry .args .s)) (siteOn (x .track) (postOf (x .step)) t))
+    (sym (own-track c))
+    fits)
 
 returns-3 : tie.Need-returns-3
 returns-3 c =

@@ -1,30 +1,26 @@
 use borrow.Author.Tests.{le-leb, lt-leb}
+use Rattle.section.proofs.Tests.{Passed, first, _then_}
 use Rattle.image.specs.Image.{trackWellFormed}
 use borrow.Author.Needs.{needs}
 use Rattle.image.proofs.track_well_formed.Statement.{statement}
 use Rattle.image.proofs.track_well_formed.Tie as tie
 
-returns : tie.Need-returns
-unfolding trackWellFormed
-returns c = rw (lt-leb _ _ (c .if1 .taken))
+abbrev direction : tie.Else1 → Passed
+direction c = first (le-leb _ _ (c .if1 .left))
 
-returns-2 : tie.Need-returns-2
-unfolding trackWellFormed
-returns-2 c = rw (le-leb _ _ (c .before .before .if1 .left), lt-leb _ _ (c .if2 .taken))
-
-returns-3 : tie.Need-returns-3
-unfolding trackWellFormed
-returns-3 c = rw (le-leb _ _ (c .before .before .before .if1 .left), le-leb _ _ (c .before .if2 .left)) (c .posts-well-formed .ensures)
+abbrev act : tie.Else2 → Passed
+act c = direction (c .before .before) then le-leb _ _ (c .if2 .left)
 
 pub track-well-formed-spec : {M : Type 1} → statement M
+unfolding trackWellFormed
 track-well-formed-spec =
     tie.close
     (tie.spec
     (λ c. search needs)
-    returns
+    (λ c. rw (lt-leb _ _ (c .if1 .taken)))
     (λ c. search needs)
     (λ c. search needs)
-    returns-2
+    (λ c. rw (direction (c .before .before) .say, lt-leb _ _ (c .if2 .taken)))
     (λ c. search needs)
     (λ c κs. search needs)
-    returns-3)
+    (λ c. rw (act (c .before) .say) (c .posts-well-formed .ensures)))

@@ -17,7 +17,7 @@ use Rattle.section.specs.Outcome.{ifDone}
 use Rattle.section.specs.Range.{inRange}
 use Rattle.section.specs.Settings.{settingsInRange}
 use Rattle.section.proofs.Laws.{fresh-in-range}
-use Rattle.section.proofs.Outcomes.{tested, found, passed, past-refusal, past-steps}
+use Rattle.section.proofs.Outcomes.{other-refusal, step-refusal, no-refusal, past-refusal, past-steps}
 use Rattle.text.specs.Text.{written, firstTexts}
 use Rattle.text.proofs.Laws.{at-front, first-texts-whole, same-texts}
 use Rattle.notes.specs.Note.{noteLength, note}
@@ -115,7 +115,7 @@ pub index-of-the-first-not-whole : IndexOfTheFirstNotWhole
 unfolding dayOutcome
 index-of-the-first-not-whole c steps count room =
     let first = wholeSteps steps in
-    tested first (not (settingsInRange c)) 6 _ (λ e. omega arith)
-    (found first (ltb first count) _
-    (tested first (ltb room (noteLength * count)) 5 _ (λ e. omega arith)
-    (passed first count)))
+    other-refusal first (not (settingsInRange c)) 6 _ (λ e. omega arith)
+    (step-refusal first (ltb first count) _
+    (other-refusal first (ltb room (noteLength * count)) 5 _ (λ e. omega arith)
+    (no-refusal first count)))

@@ -14,9 +14,10 @@ use Rattle.section.specs.Numbers.{mostPosts}
 use Rattle.section.specs.Range.{inRange}
 use Rattle.section.specs.Store.{trackOf}
 use Rattle.section.proofs.Laws.{posts-right, settings-in-range}
+use Rattle.rules.specs.Line.{lineIn}
 use Rattle.rules.specs.Site.{siteOn}
 use Rattle.rules.specs.Indications.{Lamps, lampsAt, circulation, troncon, shown, dark, indicationsOn, indications, trackIndications}
-use Rattle.track_indications.proofs.Laws.{at-its-place}
+use Rattle.indications.proofs.track.Laws.{at-its-place}
 use Rattle.text.proofs.Laws.{decimal-length, first-texts-length, same-texts}
 use Rattle.text.specs.Text.{firstTexts}
 use Rattle.lines.specs.PanelLine.{postField, postFields, panelFields, panelLine, panelLineRoom}
@@ -49,7 +50,7 @@ pub one-digit : (s : Section) (track p : ℕ) → OneDigit (indications s track 
 unfolding indications indicationsOn
 one-digit s track p =
     chosen (inRange s && (ltb track 2 && ltb p (s .settings .posts)))
-    (lampsAt (s .settings) (siteOn (eqb track 1) p (trackOf s (eqb track 1))) (trackOf s (eqb track 1) .trains))
+    (lampsAt (lineIn s) (siteOn (eqb track 1) p (trackOf s (eqb track 1))) (trackOf s (eqb track 1) .trains))
 
 -- at its place in the list of a track's posts too
 pub one-digit-at : (s : Section) (track p : ℕ) → OneDigit (getD (trackIndications s track) p dark)

@@ -18,20 +18,11 @@ abbrev μ-loop : tie.MeasureT-loop
 loop-holds : tie.Need-loop-holds Inv-loop μ-loop
 loop-holds c = (omega arith, refl)
 
-sub-i : tie.Need-sub-i Inv-loop μ-loop
-sub-i c = omega arith
-
-byte-in-range-requires : tie.Need-byte-in-range-requires Inv-loop μ-loop
-byte-in-range-requires c κs = (omega arith, omega arith)
-
 returns : tie.Need-returns Inv-loop μ-loop
 returns c =
     let b = c .before .before in
     let failed = told-false (c .before .byte-in-range .ensures) (c .if1 .taken) in
     sym (b .before .loop .inv .1 ∙ crossings-stop _ _ (b .before .loop .i) (b .loop-test .taken) failed)
-
-loop-less : tie.Need-loop-less Inv-loop μ-loop
-loop-less c = omega arith
 
 loop-again : tie.Need-loop-again Inv-loop μ-loop
 loop-again c =
@@ -52,9 +43,9 @@ crossings-in-range-spec =
     Inv-loop
     μ-loop
     loop-holds
-    sub-i
-    byte-in-range-requires
+    (λ c. omega arith)
+    (λ c κs. (omega arith, omega arith))
     returns
-    loop-less
+    (λ c. omega arith)
     loop-again
     returns-2)
