@@ -11,7 +11,7 @@ use listing::sheets::PANEL_ROOM;
 use listing::sheets::Sheet;
 use listing::sheets::panel_room;
 use listing::sheets::print;
-use text::Copied;
+use section::Outcome;
 
 const SHEET_ROOM: usize = PANEL_ROOM + 1;
 
@@ -29,8 +29,8 @@ pub fn agrees(sheet: Sheet, file: &[u8], stored: &[u8]) -> bool
 {
     let mut buffer = panel_room();
     let copied = print(sheet, file, &mut buffer);
-    match copied {
-        Copied::Bytes(length) => check::same(&buffer[0..length], stored),
-        Copied::TooShort => false,
-    }
+    let Outcome::Done(length) = copied else {
+        return false;
+    };
+    check::same(&buffer[0..length], stored)
 }

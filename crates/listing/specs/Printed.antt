@@ -2,13 +2,13 @@
 use Prim.Native.Nat.{ℕ}
 use mathlib.Core.List.{List, _++_}
 use Rattle.section.specs.declared.Answer.{Answer}
+use Rattle.section.specs.declared.Outcome.{Outcome}
 use Rattle.section.specs.declared.Section.{Section}
 use Rattle.section.specs.declared.Settings.{Settings}
 use Rattle.section.specs.Fresh.{freshSection}
+use Rattle.section.specs.Outcome.{refusalNumber, refusalIndex, told, ifDone}
 use Rattle.layout.specs.Layout.{stepAt, stepsIn}
 use Rattle.dayfile.specs.Answers.{readOf}
-use Rattle.dayfile.specs.declared.Reading.{Reading}
-use Rattle.dayfile.specs.declared.Reading.the-variants.{Day, Refused}
 use Rattle.text.specs.Text.{firstTexts}
 use Rattle.lines.specs.Lines.{refusedLine, header}
 use Rattle.judging_in_place.specs.Offered.{answerTo}
@@ -17,10 +17,12 @@ use Rattle.judging_in_place.specs.Offered.{answerTo}
 unfoldable pub lines : (ℕ → List ℕ → Answer → List ℕ) → Section → List ℕ → ℕ → List ℕ
 lines line first steps count = firstTexts (λ i. line i (stepAt steps i) (answerTo first steps i)) count
 
--- "A refused file gives one line. Else a header, then a line per step."
-unfoldable pub printedRead : (ℕ → List ℕ → Answer → List ℕ) → Reading → Settings → List ℕ → List ℕ
-printedRead line (Refused number index) c steps = refusedLine number index
-printedRead line (Day count) c steps = header (c .posts) count ++ lines line (freshSection c) steps count
+-- "A refused file gives one line, `refused K I` (number, index). Else a header, then a line per step"
+unfoldable pub printedRead : (ℕ → List ℕ → Answer → List ℕ) → Outcome → Settings → List ℕ → List ℕ
+printedRead line reading c steps =
+    ifDone reading
+    (header (c .posts) (told reading) ++ lines line (freshSection c) steps (told reading))
+    (refusedLine (refusalNumber reading) (refusalIndex reading))
 
 -- what is printed of a file
 unfoldable pub printed : (ℕ → List ℕ → Answer → List ℕ) → List ℕ → List ℕ

@@ -12,7 +12,7 @@ ghost use Rattle.listing.specs.Panel.{panel};
 use crate::sheets::Sheet;
 use crate::sheets::print;
 use layout::LONGEST_FILE;
-use text::Copied;
+use section::Outcome;
 
 // A byte more than the longest day file has.
 const FILE_ROOM: usize = LONGEST_FILE + 1;
@@ -25,7 +25,7 @@ pub fn file_room() -> [u8; FILE_ROOM]
 }
 
 // The bench listing of a file.
-pub fn listing(file: &[u8], buffer: &mut [u8]) -> Copied
+pub fn listing(file: &[u8], buffer: &mut [u8]) -> Outcome
     ensures { λ r. ⌜ r ≡ copied (listing (now (file .entry))) (now (buffer .entry)) ⌝ }
     ensures { λ _. ⌜ now (buffer .exit) ≡ copiedOut (listing (now (file .entry))) (now (buffer .entry)) ⌝ }
 {
@@ -33,7 +33,7 @@ pub fn listing(file: &[u8], buffer: &mut [u8]) -> Copied
 }
 
 // The panel of a file.
-pub fn panel(file: &[u8], buffer: &mut [u8]) -> Copied
+pub fn panel(file: &[u8], buffer: &mut [u8]) -> Outcome
     ensures { λ r. ⌜ r ≡ copied (panel (now (file .entry))) (now (buffer .entry)) ⌝ }
     ensures { λ _. ⌜ now (buffer .exit) ≡ copiedOut (panel (now (file .entry))) (now (buffer .entry)) ⌝ }
 {

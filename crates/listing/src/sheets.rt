@@ -3,11 +3,11 @@ ghost use mathlib.Core.Bool.{true};
 ghost use mathlib.Core.Path.{_≡_};
 ghost use Prim.Native.Nat.{_+_, _*_, _≤_};
 ghost use lib.ListN.{length, replicate};
+ghost use Rattle.section.specs.declared.Outcome.{Outcome};
 ghost use Rattle.section.specs.Fresh.{freshSection};
 ghost use Rattle.section.specs.Numbers.{stepLength};
 ghost use Rattle.section.specs.Settings.{settingsInRange};
 ghost use Rattle.layout.specs.Layout.{mostSteps};
-ghost use Rattle.dayfile.specs.declared.Reading.{Reading};
 ghost use Rattle.text.specs.Text.{written};
 ghost use Rattle.text.specs.Copied.{copied, copiedOut};
 ghost use Rattle.lines.specs.Lines.{stepLineRoom};
@@ -16,7 +16,6 @@ ghost use Rattle.lines.specs.PanelLine.{panelLineRoom};
 ghost use Rattle.listing.specs.declared.sheets.Sheet.{Sheet};
 ghost use Rattle.listing.specs.Printed.{lines, printedRead, printed};
 ghost use Rattle.listing.specs.Sheet.{lineOn, lineRoom, room};
-use dayfile::Reading;
 use judging_in_place::Entries;
 use judging_in_place::judge_steps;
 use judging_in_place::whole_day::note_day;
@@ -28,8 +27,8 @@ use lines::put_header;
 use lines::put_refused;
 use notes::ANSWER_LENGTH;
 use notes::NOTE_LENGTH;
+use section::Outcome;
 use section::Settings;
-use text::Copied;
 use text::copy_out;
 
 // What is printed of each step: what it did, or what the posts show after it.
@@ -140,8 +139,8 @@ fn put_lines(
 fn put_day(sheet: Sheet, buffer: &mut [u8], c: Settings, steps: &[u8], count: usize) -> usize
     requires { ⌜ (room sheet count ≤ length (now buffer)) × (count ≤ mostSteps) ⌝ }
     requires { ⌜ (stepLength * count ≤ length (now steps)) × (settingsInRange c ≡ true) ⌝ }
-    ensures { λ r. ⌜ r ≡ length (printedRead (lineOn sheet) (Reading.Day count) c (now (steps .entry))) ⌝ }
-    ensures { λ _. ⌜ now (buffer .exit) ≡ written (now (buffer .entry)) 0 (printedRead (lineOn sheet) (Reading.Day count) c (now (steps .entry))) ⌝ }
+    ensures { λ r. ⌜ r ≡ length (printedRead (lineOn sheet) (Outcome.Done count) c (now (steps .entry))) ⌝ }
+    ensures { λ _. ⌜ now (buffer .exit) ≡ written (now (buffer .entry)) 0 (printedRead (lineOn sheet) (Outcome.Done count) c (now (steps .entry))) ⌝ }
 {
     let next = put_header(buffer, 0, c.posts, count);
     put_lines(sheet, buffer, next, c, steps, count)
@@ -156,8 +155,9 @@ fn put_sheet(sheet: Sheet, file: &[u8], buffer: &mut [u8]) -> usize
     let answer = dayfile::read(file);
     let reading = answer.reading;
     match reading {
-        Reading::Refused(number, index) => put_refused(buffer, 0, number, index),
-        Reading::Day(count) => put_day(
+        Outcome::Refused(number) => put_refused(buffer, 0, number, 0),
+        Outcome::Malformed(index) => put_refused(buffer, 0, 4, index),
+        Outcome::Done(count) => put_day(
             sheet,
             buffer,
             answer.settings,
@@ -168,12 +168,12 @@ fn put_sheet(sheet: Sheet, file: &[u8], buffer: &mut [u8]) -> usize
 }
 
 // What is printed of a file, at the front of the buffer, if it is long enough. A buffer that any sheet fits is written to at once.
-pub fn print(sheet: Sheet, file: &[u8], buffer: &mut [u8]) -> Copied
+pub fn print(sheet: Sheet, file: &[u8], buffer: &mut [u8]) -> Outcome
     ensures { λ r. ⌜ r ≡ copied (printed (lineOn sheet) (now (file .entry))) (now (buffer .entry)) ⌝ }
     ensures { λ _. ⌜ now (buffer .exit) ≡ copiedOut (printed (lineOn sheet) (now (file .entry))) (now (buffer .entry)) ⌝ }
 {
     if room_for(sheet) <= buffer.len() {
-        return Copied::Bytes(put_sheet(sheet, file, buffer));
+        return Outcome::Done(put_sheet(sheet, file, buffer));
     }
     let mut space = panel_room();
     let length = put_sheet(sheet, file, &mut space);

@@ -1,20 +1,23 @@
 -- The notes of a day.
 use Prim.Native.Nat.{ℕ, zero, suc, _*_, _≤_, _<_}
-use mathlib.Core.Bool.{Bool, true, false, _&&_}
+use mathlib.Core.Bool.{Bool, true, false, not}
 use mathlib.Core.List.{List, _++_, append-assoc}
 use mathlib.Core.Path.{_≡_, refl, _∙_, ap}
 use native.Mathlib.Omega.{arith}
-use borrow.Author.Tests.{ltb-true, ltb-false, leb-true, le-leb}
-use lib.Dec.{ltb, leb}
+use borrow.Author.Tests.{ltb-true, ltb-false, le-ltb, not-false}
+use lib.Dec.{ltb}
 use lib.ListN.{length, take, drop}
 use lib.Seq.{take-at, drop-at}
+use Rattle.section.specs.declared.Outcome.the-variants.{Done}
 use Rattle.section.specs.declared.Section.{Section}
 use Rattle.section.specs.declared.Settings.{Settings}
 use Rattle.section.specs.Fresh.{freshSection}
 use Rattle.section.specs.Numbers.{stepLength}
+use Rattle.section.specs.Outcome.{ifDone}
 use Rattle.section.specs.Range.{inRange}
 use Rattle.section.specs.Settings.{settingsInRange}
-use Rattle.section.proofs.Laws.{and-left, and-right, fresh-in-range}
+use Rattle.section.proofs.Laws.{fresh-in-range}
+use Rattle.section.proofs.Outcomes.{other-refusal, step-refusal, no-refusal, past-refusal, past-steps}
 use Rattle.text.specs.Text.{written, firstTexts}
 use Rattle.text.proofs.Laws.{at-front, first-texts-whole, same-texts}
 use Rattle.notes.specs.Note.{noteLength, note}
@@ -22,7 +25,7 @@ use Rattle.notes.proofs.Laws.{note-length}
 use Rattle.judging_in_place.specs.declared.Entries.the-variants.{Notes}
 use Rattle.judging_in_place.specs.Offered.{answerTo}
 use Rattle.judging_in_place.specs.Entries.{entryWith, entryOf, entryOn, entriesOf}
-use Rattle.judging_in_place.specs.Notes.{noteOn, notesOf, canBeNoted, notesAfter}
+use Rattle.judging_in_place.specs.Notes.{noteOn, notesOf, wholeSteps, dayOutcome, notesAfter, IndexOfTheFirstNotWhole}
 
 -- ## A day begins in its ranges
 
@@ -82,27 +85,37 @@ pub record DayFits (c : Settings) (steps : List ℕ) (count room : ℕ) : Type 0
   pub steps-there : stepLength * count ≤ length steps
   pub notes-fit : noteLength * count ≤ room
 
-pub day-fits : (c : Settings) (steps : List ℕ) (count room : ℕ) → canBeNoted c steps count room ≡ true → DayFits c steps count room
-unfolding canBeNoted
-day-fits c steps count room e =
-    let there = leb (stepLength * count) (length steps) in
-    let fit = leb (noteLength * count) room in
-    let rest = and-right there (fit && settingsInRange c) e in
+pub day-fits : (c : Settings) (steps : List ℕ) (count room figure : ℕ) → dayOutcome c steps count room ≡ Done figure → DayFits c steps count room
+unfolding dayOutcome
+day-fits c steps count room figure e =
+    let a = past-refusal (not (settingsInRange c)) 6 figure _ e in
+    let b = past-steps (ltb (wholeSteps steps) count) (wholeSteps steps) figure _ (a .1) in
+    let d = past-refusal (ltb room (noteLength * count)) 5 figure (Done count) (b .1) in
     record {
-      settings-well = and-right fit (settingsInRange c) rest;
-      steps-there = leb-true _ _ (and-left there (fit && settingsInRange c) e);
-      notes-fit = leb-true _ _ (and-left fit (settingsInRange c) rest);
+      settings-well = not-false _ (a .0);
+      steps-there = omega (arith, ltb-false (wholeSteps steps) count (b .0));
+      notes-fit = ltb-false room (noteLength * count) (d .0);
     }
 
-pub can-be-noted : (c : Settings) (steps : List ℕ) (count room : ℕ) → DayFits c steps count room → canBeNoted c steps count room ≡ true
-unfolding canBeNoted
-can-be-noted c steps count room h = rw (le-leb _ _ (h .steps-there), le-leb _ _ (h .notes-fit)) (h .settings-well)
+pub day-done : (c : Settings) (steps : List ℕ) (count room : ℕ) → DayFits c steps count room → dayOutcome c steps count room ≡ Done count
+unfolding dayOutcome
+day-done c steps count room h =
+    let there : count ≤ wholeSteps steps = omega (arith, h .steps-there) in
+    rw (h .settings-well, le-ltb (wholeSteps steps) count there, le-ltb room (noteLength * count) (h .notes-fit))
 
-module _ (c : Settings) (steps : List ℕ) (count : ℕ) (lent : List ℕ) where
-  pub notes-written : canBeNoted c steps count (length lent) ≡ true → notesAfter c steps count lent ≡ written lent 0 (notesOf c steps count)
-  unfolding notesAfter
-  notes-written e = rw e
+pub notes-written :
+    (c : Settings) (steps : List ℕ) (count figure : ℕ) (lent : List ℕ) → dayOutcome c steps count (length lent) ≡ Done figure
+    → notesAfter c steps count lent ≡ written lent 0 (notesOf c steps count)
+unfolding notesAfter ifDone
+notes-written c steps count figure lent e = rw e
 
-  pub notes-untouched : canBeNoted c steps count (length lent) ≡ false → notesAfter c steps count lent ≡ lent
-  unfolding notesAfter
-  notes-untouched e = rw e
+-- ## 4 comes with the index of the first step that is not there whole
+
+pub index-of-the-first-not-whole : IndexOfTheFirstNotWhole
+unfolding dayOutcome
+index-of-the-first-not-whole c steps count room =
+    let first = wholeSteps steps in
+    other-refusal first (not (settingsInRange c)) 6 _ (λ e. omega arith)
+    (step-refusal first (ltb first count) _
+    (other-refusal first (ltb room (noteLength * count)) 5 _ (λ e. omega arith)
+    (no-refusal first count)))

@@ -3,12 +3,13 @@ use Prim.Native.Nat.{ℕ, _-_, _≤_}
 use mathlib.Core.Path.{_≡_, refl, sym, _∙_, ap}
 use mathlib.Core.List.{List}
 use native.Mathlib.Omega.{arith}
-use borrow.Author.Tests.{le-leb}
 use lib.ListN.{length, take, drop, length-append}
 use lib.Seq.{take-at}
+use Rattle.section.specs.declared.Outcome.the-variants.{Done}
+use Rattle.section.specs.Outcome.{ifDone}
 use Rattle.text.specs.Text.{written}
+use Rattle.text.proofs.CopiedOut.{copied-whole}
 use Rattle.text.proofs.Laws.{at-front}
-use Rattle.text.specs.declared.Copied.the-variants.{Bytes}
 use Rattle.text.specs.Copied.{copied, copiedOut}
 
 -- ## At the front of a buffer
@@ -28,8 +29,8 @@ module _ (l m s : List ℕ) (r : ℕ) (put : (r ≡ length s) × (m ≡ written 
 -- a text put at its front
 pub put-at-once :
     (l m s : List ℕ) (r : ℕ) → (r ≡ length s) × (m ≡ written l 0 s) → length m ≡ length l
-    → (Bytes r ≡ copied s l) × (m ≡ copiedOut s l)
-unfolding copied copiedOut
+    → (Done r ≡ copied s l) × (m ≡ copiedOut s l)
+unfolding copiedOut ifDone
 put-at-once l m s r put e =
     let h : length s ≤ length l = omega (arith, put .0, front-fits l m s r put e) in
-    rw (le-leb (length s) (length l) h) (ap Bytes (put .0), put .1 ∙ at-front l s)
+    rw (copied-whole s l h) (ap Done (put .0), put .1 ∙ at-front l s)

@@ -8,11 +8,14 @@ use native.Mathlib.Nat.{mul-suc, mul-le-mul-left}
 use lib.ListN.{length, take, drop, length-drop, length-append}
 use lib.Seq.{length-take-le, take-length}
 use Rattle.section.specs.declared.Answer.{Answer}
+use Rattle.section.specs.declared.Outcome.{Outcome}
+use Rattle.section.specs.declared.Outcome.the-variants.{Done, Malformed, Refused}
 use Rattle.section.specs.declared.Section.{Section}
 use Rattle.section.specs.declared.Settings.{Settings}
 use Rattle.section.specs.Bytes.{byte}
 use Rattle.section.specs.Fresh.{freshSection}
 use Rattle.section.specs.Numbers.{mostPosts, stepLength}
+use Rattle.section.specs.Outcome.{refusalNumber, refusalIndex, told, ifDone}
 use Rattle.section.specs.Range.{inRange}
 use Rattle.section.specs.Settings.{settingsInRange}
 use Rattle.section.proofs.Laws.{and-left, fresh-in-range}
@@ -20,9 +23,7 @@ use Rattle.rules.specs.Judge.{judge}
 use Rattle.rules.proofs.RangeLaw.{ranges-kept}
 use Rattle.layout.specs.Layout.{mostSteps, settingsOf, settingsIn, stepAt, stepsIn, stepsPart}
 use Rattle.file_tests.specs.Tests.{settingsWellFormed}
-use Rattle.dayfile.specs.Answers.{readOf, refusalNumber}
-use Rattle.dayfile.specs.declared.Reading.{Reading}
-use Rattle.dayfile.specs.declared.Reading.the-variants.{Day, Refused}
+use Rattle.dayfile.specs.Answers.{readOf}
 use Rattle.file_tests.proofs.Laws.{few-steps, all-whole}
 use Rattle.dayfile.proofs.Reader.{day-read}
 use Rattle.dayfile.proofs.RoundTrip.{gives-its-steps}
@@ -127,7 +128,7 @@ one-step first steps i {s} {after} {part} es ep long walked =
 
 -- ## A file that is read
 
-module _ (file : List ℕ) (count : ℕ) (e : readOf file .reading ≡ Day count) where
+module _ (file : List ℕ) (count : ℕ) (e : readOf file .reading ≡ Done count) where
   pub few-steps-read : count ≤ mostSteps
   unfolding readOf
   few-steps-read = let d = day-read file count e in omega (arith, few-steps file (d .trailer-well .most), d .counted)
@@ -139,7 +140,7 @@ module _ (file : List ℕ) (count : ℕ) (e : readOf file .reading ≡ Day count
       rw (gives-its-steps file count e) (omega (arith, all-whole (settingsOf (settingsIn file) .posts) (stepsIn file) (d .steps-well), d .counted))
 
   pub settings-read-right : settingsInRange (readOf file .settings) ≡ true
-  unfolding readOf refusalNumber settingsWellFormed
+  unfolding readOf ifDone settingsWellFormed
   settings-read-right =
       let d = day-read file count e in
       rw e (and-left (settingsInRange (settingsOf (settingsIn file))) _ (d .settings-well))
@@ -147,11 +148,12 @@ module _ (file : List ℕ) (count : ℕ) (e : readOf file .reading ≡ Day count
 -- ## How long what is printed of a file is
 
 read-fits :
-    (sheet : Sheet) (file : List ℕ) (reading : Reading) → readOf file .reading ≡ reading
+    (sheet : Sheet) (file : List ℕ) (reading : Outcome) → readOf file .reading ≡ reading
     → length (printedRead (lineOn sheet) reading (readOf file .settings) (stepsIn file)) ≤ room sheet mostSteps
-unfolding printedRead room
-read-fits sheet file (Refused number index) e = omega (arith, refused-length number index)
-read-fits sheet file (Day count) e =
+unfolding printedRead told ifDone room
+read-fits sheet file (Refused number) e = let r = Refused number in omega (arith, refused-length (refusalNumber r) (refusalIndex r))
+read-fits sheet file (Malformed index) e = let r = Malformed index in omega (arith, refused-length (refusalNumber r) (refusalIndex r))
+read-fits sheet file (Done count) e =
     let c = readOf file .settings in
     let range = fresh-in-range c (settings-read-right file count e) in
     let all = lines-fit (freshSection c) (stepsIn file) range sheet count in
@@ -165,14 +167,18 @@ printed-fits sheet file = read-fits sheet file (readOf file .reading) refl
 -- ## What is printed of a file
 
 pub printed-refused :
-    (sheet : Sheet) (file : List ℕ) (number index : ℕ) → readOf file .reading ≡ Refused number index
-    → refusedLine number index ≡ printed (lineOn sheet) file
-unfolding printed printedRead
-printed-refused sheet file number index e = rw e
+    (sheet : Sheet) (file : List ℕ) (number : ℕ) → readOf file .reading ≡ Refused number → refusedLine number 0 ≡ printed (lineOn sheet) file
+unfolding printed printedRead refusalNumber refusalIndex ifDone
+printed-refused sheet file number e = rw e
+
+pub printed-malformed :
+    (sheet : Sheet) (file : List ℕ) (index : ℕ) → readOf file .reading ≡ Malformed index → refusedLine 4 index ≡ printed (lineOn sheet) file
+unfolding printed printedRead refusalNumber refusalIndex ifDone
+printed-malformed sheet file index e = rw e
 
 pub printed-day :
-    (sheet : Sheet) (file : List ℕ) (count : ℕ) (c : Settings) (steps : List ℕ) → readOf file .reading ≡ Day count
-    → c ≡ readOf file .settings → steps ≡ stepsPart file count → printedRead (lineOn sheet) (Day count) c steps ≡ printed (lineOn sheet) file
+    (sheet : Sheet) (file : List ℕ) (count : ℕ) (c : Settings) (steps : List ℕ) → readOf file .reading ≡ Done count
+    → c ≡ readOf file .settings → steps ≡ stepsPart file count → printedRead (lineOn sheet) (Done count) c steps ≡ printed (lineOn sheet) file
 unfolding printed
 printed-day sheet file count c steps e f g = rw (e, f, g, gives-its-steps file count e)
 

@@ -5,6 +5,7 @@ use mathlib.Core.Path.{_∙_}
 use native.Mathlib.Nat.{zero-add}
 use denote.Ref.{now}
 use Rattle.section.specs.Fresh.{freshSection}
+use Rattle.section.specs.Outcome.{told, ifDone}
 use Rattle.lines.specs.Lines.{header}
 use Rattle.text.proofs.Laws.{then}
 use Rattle.lines.proofs.Puts.{header-length}
@@ -24,7 +25,7 @@ put-lines-requires c κs =
     let a = entry .args in (omega (arith, header-length (a .c .posts) (a .count)), entry .pre .1)
 
 returns : tie.Need-returns
-unfolding printedRead room
+unfolding printedRead told ifDone room
 returns c =
     let at-put-lines = c .before .before in
     let at-put-header = at-put-lines .before .before .before .before in

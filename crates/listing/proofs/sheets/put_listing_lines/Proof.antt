@@ -3,7 +3,7 @@ use borrow.Author.Needs.{needs}
 use native.Mathlib.Omega.{arith}
 use denote.Ref.{now}
 use lib.ListN.{length}
-use Rattle.judging_in_place.proofs.whole_day.Laws.{DayFits, can-be-noted, notes-written}
+use Rattle.judging_in_place.proofs.whole_day.Laws.{DayFits, day-done, notes-written}
 use Rattle.listing.proofs.sheets.Laws.{lines-noted}
 use Rattle.listing.proofs.sheets.put_listing_lines.Statement.{statement}
 use Rattle.listing.proofs.sheets.put_listing_lines.Tie as tie
@@ -28,8 +28,8 @@ returns c =
       steps-there = entry .pre .1 .0;
       notes-fit = omega (arith, room .room-for-notes .ensures, entry .pre .0 .1);
     } in
-    let so = can-be-noted (a .c) (now (a .steps)) (a .count) _ fits in
-    rw (noted .note-day .ensures .1, notes-written (a .c) (now (a .steps)) (a .count) _ so, lines-noted (a .c) (now (a .steps)) _ (a .count))
+    let so = day-done (a .c) (now (a .steps)) (a .count) _ fits in
+    rw (noted .note-day .ensures .1, notes-written (a .c) (now (a .steps)) (a .count) _ _ so, lines-noted (a .c) (now (a .steps)) _ (a .count))
     at (put .put-noted-lines .ensures)
 
 pub put-listing-lines-spec : {M : Type 1} → statement M
