@@ -75,7 +75,6 @@ bsr-day-singly-spec =
     (λ c κs. search needs)
     (λ c. search needs)
     (λ c κs. search needs)
-    (λ c. search needs)
     returns-2
     note-singly-requires
     (λ c κs. search needs)
