@@ -53,7 +53,7 @@ module _ (image steps buffer : List ℕ) where
     unfolding runImage ifDone
     taken o ew = (
       told,
-      (rw (← outcome-is, o, ← section-is) (ew ∙ whole-written image (a .section) (well-formed-length image e)), answers-are),
+      (rw (← outcome-is, o) (ew ∙ (whole-written image (a .section) (well-formed-length image e) ∙ ap imageOf section-is)), answers-are),
     )
 
     pub refused : OneOf (1 ∷ 2 ∷ []) (tagOf the-type (a .outcome)) → Ran n image answers

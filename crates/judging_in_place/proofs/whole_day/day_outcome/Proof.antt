@@ -3,9 +3,10 @@ use Prim.Native.Nat.{_*_}
 use native.Mathlib.Omega.{arith}
 use borrow.Author.Needs.{needs}
 use borrow.Author.Tests.{lt-ltb, le-ltb}
+use denote.Ref.{now}
 use Rattle.section.proofs.Told.{told-false, told-true}
 use Rattle.notes.specs.Note.{noteLength}
-use Rattle.judging_in_place.specs.Notes.{dayOutcome}
+use Rattle.judging_in_place.specs.Notes.{wholeSteps, dayOutcome}
 use Rattle.judging_in_place.proofs.whole_day.day_outcome.Statement.{statement}
 use Rattle.judging_in_place.proofs.whole_day.day_outcome.Tie as tie
 
@@ -17,7 +18,11 @@ returns-2 : tie.Need-returns-2
 unfolding dayOutcome
 returns-2 c =
     let well = c .before in
-    rw (told-true (well .before .settings-in-range .ensures) (well .if1 .left), lt-ltb _ _ (c .if2 .taken))
+    let a = well .before .before .before .args in
+    rw (
+      told-true (well .before .settings-in-range .ensures) (well .if1 .left),
+      lt-ltb (wholeSteps (now (a .steps))) (a .count) (c .if2 .taken),
+    )
 
 returns-3 : tie.Need-returns-3
 unfolding dayOutcome
@@ -27,7 +32,7 @@ returns-3 c =
     let a = well .before .before .before .args in
     rw (
       told-true (well .before .settings-in-range .ensures) (well .if1 .left),
-      le-ltb _ _ (there .if2 .left),
+      le-ltb (wholeSteps (now (a .steps))) (a .count) (there .if2 .left),
       lt-ltb (a .room) (noteLength * a .count) (omega arith),
     )
 
@@ -39,7 +44,7 @@ returns-4 c =
     let a = well .before .before .before .args in
     rw (
       told-true (well .before .settings-in-range .ensures) (well .if1 .left),
-      le-ltb _ _ (there .if2 .left),
+      le-ltb (wholeSteps (now (a .steps))) (a .count) (there .if2 .left),
       le-ltb (a .room) (noteLength * a .count) (omega arith),
     )
 
