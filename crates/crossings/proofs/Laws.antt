@@ -105,7 +105,8 @@ pub zones-lack-there : (c : Line) (e : Site) → soughtAhead c e WithoutZones �
 unfolding soughtAhead
 zones-lack-there c e h =
     let i = blockAhead c e in
-    and-implies (not (atReceivingEnd c e)) (anyOf (isSoughtCrossing WithoutZones i) mostCrossings (c .crossings)) (anyOf (liesIn i) mostCrossings (c .crossings))
+    and-implies (not (atReceivingEnd c e)) (anyOf (isSoughtCrossing WithoutZones i) mostCrossings (c .crossings))
+    (anyOf (liesIn i) mostCrossings (c .crossings))
     (any-implies (isSoughtCrossing WithoutZones i) (liesIn i) (c .crossings) (λ b. and-left (liesIn i b) (lacksZones b)) mostCrossings) h
 
 -- a line whose first byte is unused has none

@@ -15,7 +15,8 @@ use Rattle.judging.specs.AtPost.{asBefore, judgedOf, judgedAtPost, train
 
 module _ (c : Line) (otherOnVns : Bool) (x : Step) (e : Site) (trains last : List ℕ) {r : Ruling} (told : r ≡ rulingAt c otherOnVns x e trains last) where
   pub accepted : {f : Effect} → r ≡ Accepted f
-      → record { verdict = verdict.Accepted (f .said); own = f .own; running = record { cvt = f .cvt; walk = f .walk } } ≡ judgedAtPost c otherOnVns x e trains last
+      → record { verdict = verdict.Accepted (f .said); own = f .own; running = record { cvt = f .cvt; walk = f .walk } }
+      ≡ judgedAtPost c otherOnVns x e trains last
   unfolding judgedAtPost judgedOf
   accepted a = ap (λ (q : Ruling). judgedOf q e) (sym a ∙ told)
 

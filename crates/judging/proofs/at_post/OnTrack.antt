@@ -71,7 +71,8 @@ module _ (s : Section) (x : TrackStep) where
   abbrev after : Section
   after = withTrack s (x .track) (trackAt (lineIn s) (otherSettledOnVns s (x .track)) (x .step) (siteOf s x) own)
 
-  by-ruling : Ruled (rowAt (lineIn s) (otherSettledOnVns s (x .track)) (x .step) (siteOf s x) (own .trains) (own .last)) (effect (lineIn s) (x .step) (siteOf s x))
+  by-ruling : Ruled (rowAt (lineIn s) (otherSettledOnVns s (x .track)) (x .step) (siteOf s x) (own .trains) (own .last))
+      (effect (lineIn s) (x .step) (siteOf s x))
       → record { verdict = judged-here .verdict; section = after } ≡ answerOf (verdictOn s x) s (sectionAfter s x)
   unfolding verdictOn answerOf trackAt judgedAtPost trainsAt lastAt judgedOf trackAfter
   by-ruling (accepts r v) =

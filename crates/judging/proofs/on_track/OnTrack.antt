@@ -45,7 +45,8 @@ put-back c x t other ep er ej et el = rw (ej, et, el, ep, er)
 -- the section with the track that is put back
 pub judged :
     (s : Section) (bytes : List ℕ) (x : TrackStep) → decoded (s .settings .posts) bytes ≡ Well x → (k : Bool) → x .track ≡ k
-    → {line : Line} {t : Track} {other : Running} {w : TrackAnswer} → line ≡ lineIn s → t ≡ trackOf s (x .track) → other ≡ runningOf (trackOf s (not (x .track)))
+    → {line : Line} {t : Track} {other : Running} {w : TrackAnswer} → line ≡ lineIn s
+    → t ≡ trackOf s (x .track) → other ≡ runningOf (trackOf s (not (x .track)))
     → w ≡ judgedOnTrack line x t other → record { verdict = w .verdict; section = withTrack s k (w .track) } ≡ judgeInRange s bytes
 unfolding judgedOnTrack
 judged s bytes x well k ek el et eo ew = rw (sym ek, ew, el, et, eo) (on-track.step-judged s x ∙ on-track.judged s bytes x well)
