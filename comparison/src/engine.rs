@@ -1,7 +1,6 @@
 //! The engine, on sections of any kind and along days.
 
 pub mod cautions;
-pub mod closed;
 pub mod days;
 pub mod judging;
 pub mod lamps;

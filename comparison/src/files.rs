@@ -128,7 +128,7 @@ fn day_around(rng: &mut Rng, n: u8, step: [u8; STEP_LENGTH]) -> (Settings, Vec<u
 
 /// A well-formed step of any kind.
 pub fn sound_step(rng: &mut Rng, n: u8) -> [u8; STEP_LENGTH] {
-    let kind = 1 + rng.below(16) as u8;
+    let kind = 1 + rng.below(14) as u8;
     let fault = match kind {
         10 | 11 => rng.fault(),
         _ => 0,
@@ -140,11 +140,7 @@ pub fn sound_step(rng: &mut Rng, n: u8) -> [u8; STEP_LENGTH] {
     };
     let [low, high] = number.to_le_bytes();
     let post = rng.post(n);
-    let track = match kind {
-        15 | 16 => 0,
-        _ => rng.flag(),
-    };
-    [kind, track, post, fault, low, high, 0, 0]
+    [kind, rng.flag(), post, fault, low, high, 0, 0]
 }
 
 /// Steps any of which may be malformed, and incomplete at the end.

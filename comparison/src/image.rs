@@ -1,19 +1,17 @@
-//! The image of a section, 482 bytes, in which the proved engine takes and gives a state.
+//! The image of a section, 466 bytes, in which the proved engine takes and gives a state.
 
 use reference::generate::Rng;
 use reference::section::{Post, Section, Track, NO_REVERSAL};
-use reference::settings::{Crossings, Settings, MOST_POSTS};
+use reference::settings::{Crossings, Settings};
 
-pub const IMAGE_LENGTH: usize = 482;
-/// The earlier layouts' numbers, and the lengths of their images.
-pub const EARLIER_LAYOUTS: [(u16, usize); 2] = [(1, 394), (2, 466)];
+pub const IMAGE_LENGTH: usize = 466;
+/// The length of an image of layout 1.
+pub const LENGTH_OF_LAYOUT_1: usize = 394;
 /// The layout's number, in the first two bytes.
-const LAYOUT: u16 = 3;
+const LAYOUT: u16 = 2;
 const SETTINGS: usize = 2;
 const CROSSINGS: usize = 10;
-/// A byte a post.
-const CLOSED: usize = 18;
-const TRACKS: [usize; 2] = [34, 258];
+const TRACKS: [usize; 2] = [18, 242];
 const TURN: usize = 2;
 const POSTS: usize = 4;
 const TRAINS: usize = 164;
@@ -26,8 +24,7 @@ pub fn image_of(section: &Section) -> [u8; IMAGE_LENGTH] {
     let mut image = [0; IMAGE_LENGTH];
     put_layout(LAYOUT, &mut image);
     image[SETTINGS..CROSSINGS].copy_from_slice(&section.settings.encode());
-    image[CROSSINGS..CLOSED].copy_from_slice(&section.settings.crossings);
-    image[CLOSED..TRACKS[0]].copy_from_slice(&section.closed);
+    image[CROSSINGS..TRACKS[0]].copy_from_slice(&section.settings.crossings);
     for (track, start) in section.tracks.iter().zip(TRACKS) {
         put_track(track, &mut image[start..]);
     }
@@ -37,7 +34,7 @@ pub fn image_of(section: &Section) -> [u8; IMAGE_LENGTH] {
 /// Makes an image one of another layout.
 pub fn put_other_layout(rng: &mut Rng, image: &mut [u8; IMAGE_LENGTH]) {
     let number = match rng.below(4) {
-        0 => rng.pick(&EARLIER_LAYOUTS).0,
+        0 => 1,
         1 => rng.pick(&[0, LAYOUT + 1, LAYOUT << 8, LAYOUT | 1 << 8, u16::MAX]),
         2 => LAYOUT ^ 1 << rng.below(16),
         _ => LAYOUT.wrapping_add(1 + rng.below(u64::from(u16::MAX)) as u16),
@@ -108,17 +105,10 @@ pub fn section_of(image: &[u8]) -> Option<Section> {
         line: word(&image[SETTINGS + 4..]),
         crossings: crossings_of(&image[CROSSINGS..]),
     };
-    let section = Section {
-        settings,
-        closed: closed_of(&image[CLOSED..]),
-        tracks,
-    };
-    let flags = section.closed.iter().all(|&flag| flag <= 1);
-    (flags && section.tracks.iter().all(has_values)).then_some(section)
-}
-
-fn closed_of(image: &[u8]) -> [u8; MOST_POSTS] {
-    std::array::from_fn(|post| image[post])
+    tracks
+        .iter()
+        .all(has_values)
+        .then_some(Section { settings, tracks })
 }
 
 fn crossings_of(image: &[u8]) -> Crossings {
@@ -189,9 +179,6 @@ pub fn make_representable(section: &mut Section) {
         post.mark &= 1;
         post.faults &= ALL_FAULTS;
     }
-    for flag in section.closed.iter_mut().skip(n) {
-        *flag &= 1;
-    }
 }
 
 /// Where the bytes stand that say nothing and are zero: of the settings, of a track's head, the
@@ -224,8 +211,7 @@ pub fn cell_name(place: usize) -> String {
         return match place {
             0..SETTINGS => "layout's number".to_string(),
             SETTINGS..CROSSINGS => format!("settings byte {}", place - SETTINGS),
-            CROSSINGS..CLOSED => format!("crossing byte {}", place - CROSSINGS),
-            _ => format!("whether post {} is closed", place - CLOSED),
+            _ => format!("crossing byte {}", place - CROSSINGS),
         };
     };
     let cell = match place - start {
@@ -291,18 +277,6 @@ mod tests {
     }
 
     #[test]
-    fn flags_are_tested() {
-        let mut rng = Rng::new(4);
-        let mut section = random_in_range_section(&mut rng);
-        make_representable(&mut section);
-        for place in CLOSED..TRACKS[0] {
-            let mut image = image_of(&section);
-            image[place] = 2;
-            assert_eq!(section_of(&image), None);
-        }
-    }
-
-    #[test]
     fn other_layouts_are_no_sections() {
         let mut rng = Rng::new(2);
         for _ in 0..2_000 {
@@ -321,14 +295,12 @@ mod tests {
             (6, "settings byte 4"),
             (10, "crossing byte 0"),
             (17, "crossing byte 7"),
-            (18, "whether post 0 is closed"),
-            (33, "whether post 15 is closed"),
-            (34, "track A direction"),
-            (260, "track B turn"),
-            (38 + 10 * 15 + 7, "track A post 15 seals"),
-            (258 + 163, "track B post 15 caution form"),
-            (258 + 164, "track B train of block section 0"),
-            (481, "track B last train of block section 14"),
+            (18, "track A direction"),
+            (244, "track B turn"),
+            (22 + 10 * 15 + 7, "track A post 15 seals"),
+            (242 + 163, "track B post 15 caution form"),
+            (242 + 164, "track B train of block section 0"),
+            (465, "track B last train of block section 14"),
         ] {
             assert_eq!(cell_name(place), name);
         }

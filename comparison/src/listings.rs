@@ -4,21 +4,14 @@ use crate::files::lengths::shapes_at_bounds;
 use crate::files::refusals::{Case, Refusals};
 use crate::lent::{same_buffers, Lent};
 use crate::proved;
-use crate::report::{fail_if_any, hex, same, Comparison, Outcome};
-use reference::dayfile::{self, Day, MOST_STEPS};
-use reference::engine::judge_in_place;
+use crate::report::{hex, same, Comparison, Outcome};
+use reference::dayfile::{self, MOST_STEPS};
 use reference::generate::{damage, random_day, Rng};
 use reference::listing;
-use reference::section::Section;
-use reference::step::STEP_LENGTH;
-
-const GREATEST_KIND: usize = 16;
 
 pub struct ListingComparison {
     rng: Rng,
     pub seen: Refusals,
-    /// By kind.
-    accepted: [u64; GREATEST_KIND + 1],
 }
 
 /// A listing as either side makes it.
@@ -46,7 +39,6 @@ impl Comparison for ListingComparison {
         ListingComparison {
             rng,
             seen: Refusals::default(),
-            accepted: [0; GREATEST_KIND + 1],
         }
     }
 
@@ -93,34 +85,10 @@ impl ListingComparison {
                 kind.compare(file, &text, room)?;
             }
         }
-        let refusal = match dayfile::read(file) {
-            Ok(day) => {
-                self.count_accepted(&day);
-                0
-            }
-            Err(refusal) => usize::from(refusal.number),
-        };
+        let refusal = dayfile::read(file).map_or_else(|refusal| refusal.number, |_| 0);
+        let refusal = usize::from(refusal);
         self.seen.count(refusal, Case::of_file(file, refusal));
         Ok(())
-    }
-
-    fn count_accepted(&mut self, day: &Day) {
-        let mut section = Section::fresh(day.settings);
-        for step in day.steps.chunks_exact(STEP_LENGTH) {
-            let (refusal, _) = judge_in_place(&mut section, step);
-            self.accepted[usize::from(step[0])] += u64::from(refusal == 0);
-        }
-    }
-
-    /// A step of every kind was accepted.
-    pub fn have_all_kinds(&self) -> Outcome {
-        println!(
-            "listings, steps accepted by kind, 1 to {GREATEST_KIND}: {:?}",
-            &self.accepted[1..]
-        );
-        let missing = (1..=GREATEST_KIND).filter(|&kind| self.accepted[kind] == 0);
-        let named = missing.map(|kind| format!("kind {kind} accepted"));
-        fail_if_any("NEVER SEEN, listings", &named.collect::<Vec<_>>())
     }
 }
 

@@ -23,11 +23,6 @@ impl Run {
         Rng::new(self.seed.wrapping_add(number))
     }
 
-    /// The same, for days in which no post closes.
-    pub fn rng_of_open_posts(&self, number: u64) -> Rng {
-        Rng::of_open_posts(self.seed.wrapping_add(number))
-    }
-
     /// The comparison, made as often as the arguments say.
     pub fn compare<C: Comparison>(&self, number: u64) -> Result<C, Failure> {
         let mut comparison = C::new(self.rng(number));

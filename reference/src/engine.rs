@@ -4,9 +4,9 @@ use crate::section::{
     holds_train, Post, Section, Track, ACKNOWLEDGE, ANNOUNCE, FAULT_1, FAULT_2, FAULT_4,
     MOST_SEALS, NO_REVERSAL, SET,
 };
-use crate::settings::TELEPHONE;
+use crate::settings::{Settings, TELEPHONE};
 use crate::step::{self, Step, STEP_LENGTH};
-use crate::way::{opposite, Line, Way, CVT, VNS};
+use crate::way::{ends_stretch, opposite, Way, CVT, VNS};
 
 pub const SAID_NOTHING: u8 = 0;
 pub const SAID_CVT: u8 = 1;
@@ -57,12 +57,7 @@ pub fn judge_well_formed(section: &mut Section, step_bytes: &[u8; STEP_LENGTH]) 
 
 #[inline]
 fn take(section: &mut Section, track: u8, step: Step) -> (u8, u8) {
-    let taken = match step {
-        Step::Close { post } => close(section, post),
-        Step::Open { post } => open(section, post),
-        _ => JudgedTrack::of(section, usize::from(track)).take(step),
-    };
-    match taken {
+    match JudgedTrack::of(section, usize::from(track)).take(step) {
         Ok(said) => (0, said),
         Err(refusal) => (refusal, SAID_NOTHING),
     }
@@ -76,41 +71,9 @@ fn refuse_if(hindered: bool, refusal: u8) -> Result<(), u8> {
     }
 }
 
-// The steps for both tracks.
-
-fn close(section: &mut Section, post: u8) -> Result<u8, u8> {
-    may_change_hands(section, post, 1)?;
-    let place = usize::from(post);
-    let measures_missing = |track: &Track| track.posts[place].measures == 0;
-    refuse_if(section.tracks.iter().any(measures_missing), 16)?;
-    section.closed[place] = 1;
-    for track in &mut section.tracks {
-        track.posts[place].form_for = 0;
-    }
-    Ok(SAID_NOTHING)
-}
-
-fn open(section: &mut Section, post: u8) -> Result<u8, u8> {
-    may_change_hands(section, post, 0)?;
-    let place = usize::from(post);
-    section.closed[place] = 0;
-    for track in &mut section.tracks {
-        track.posts[place].device = track.direction;
-    }
-    Ok(SAID_NOTHING)
-}
-
-/// The checks that closing and opening have in common.
-fn may_change_hands(section: &Section, post: u8, closed: u8) -> Result<(), u8> {
-    refuse_if(section.way(0).is_end(post), 12)?;
-    refuse_if(section.closed[usize::from(post)] == closed, 21)?;
-    refuse_if((0..2).any(|track| holds_train(section.trains(track))), 13)?;
-    refuse_if(section.tracks.iter().any(Track::reversal_under_way), 11)
-}
-
 /// The track a step is for, with what its checks need beside it.
 struct JudgedTrack<'a> {
-    line: Line<'a>,
+    settings: Settings,
     way: Way,
     other_settled_on_vns: bool,
     track: &'a mut Track,
@@ -119,12 +82,9 @@ struct JudgedTrack<'a> {
 impl JudgedTrack<'_> {
     fn of(section: &mut Section, track: usize) -> JudgedTrack<'_> {
         JudgedTrack {
+            settings: section.settings,
             way: section.way(track),
             other_settled_on_vns: section.tracks[1 - track].settled_on(VNS),
-            line: Line {
-                settings: &section.settings,
-                closed: &section.closed,
-            },
             track: &mut section.tracks[track],
         }
     }
@@ -145,7 +105,6 @@ impl JudgedTrack<'_> {
             Step::Release { post, train } => self.release(post, train)?,
             Step::Key { post } => self.key(post)?,
             Step::Form { post, train } => self.form(post, train)?,
-            Step::Close { .. } | Step::Open { .. } => unreachable!("a step for both tracks"),
         }
         Ok(SAID_NOTHING)
     }
@@ -167,7 +126,6 @@ impl JudgedTrack<'_> {
     }
 
     fn set(&mut self, post: u8) -> Result<(), u8> {
-        refuse_if(self.is_closed(post), 23)?;
         refuse_if(!self.is_turn(post, SET), 15)?;
         refuse_if(self.train_in_part(post), 13)?;
         refuse_if(self.unconfirmed_fault_1(post), 18)?;
@@ -178,7 +136,6 @@ impl JudgedTrack<'_> {
     }
 
     fn key(&mut self, post: u8) -> Result<(), u8> {
-        refuse_if(self.is_closed(post), 23)?;
         refuse_if(!self.is_turn(post, SET), 15)?;
         refuse_if(!self.has_fault(post, FAULT_2), 21)?;
         refuse_if(self.train_in_part(post), 13)?;
@@ -191,9 +148,8 @@ impl JudgedTrack<'_> {
     }
 
     fn announce(&mut self, post: u8) -> Result<u8, u8> {
-        refuse_if(self.is_closed(post), 23)?;
         refuse_if(!self.is_turn(post, ANNOUNCE), 15)?;
-        self.track.turn = self.way.next_open_post(self.line, post);
+        self.track.turn = self.way.next_post(post);
         self.track.act = ACKNOWLEDGE;
         Ok(if self.new_direction() == CVT {
             SAID_CVT
@@ -203,7 +159,6 @@ impl JudgedTrack<'_> {
     }
 
     fn acknowledge(&mut self, post: u8) -> Result<u8, u8> {
-        refuse_if(self.is_closed(post), 23)?;
         refuse_if(!self.is_turn(post, ACKNOWLEDGE), 15)?;
         self.track.act = SET;
         Ok(if self.new_direction() == CVT {
@@ -265,14 +220,12 @@ impl JudgedTrack<'_> {
     // Measures, faults, the release mark and the form.
 
     fn measures_on(&mut self, post: u8) -> Result<(), u8> {
-        refuse_if(self.is_closed(post), 23)?;
         refuse_if(self.post(post).measures == 1, 21)?;
         self.post(post).measures = 1;
         Ok(())
     }
 
     fn measures_off(&mut self, post: u8) -> Result<(), u8> {
-        refuse_if(self.is_closed(post), 23)?;
         refuse_if(self.post(post).measures == 0, 21)?;
         refuse_if(self.post(post).device == CVT, 16)?;
         self.post(post).measures = 0;
@@ -298,7 +251,6 @@ impl JudgedTrack<'_> {
     }
 
     fn release(&mut self, post: u8, train: u16) -> Result<(), u8> {
-        refuse_if(self.is_closed(post), 23)?;
         refuse_if(!self.in_turn_for_release(post), 15)?;
         refuse_if(!self.commands_part(post), 12)?;
         refuse_if(!self.has_fault(post, FAULT_1), 21)?;
@@ -309,7 +261,6 @@ impl JudgedTrack<'_> {
     }
 
     fn form(&mut self, post: u8, train: u16) -> Result<(), u8> {
-        refuse_if(self.is_closed(post), 23)?;
         refuse_if(!self.crossing_ahead(post), 12)?;
         self.post(post).form_for = train;
         Ok(())
@@ -319,10 +270,6 @@ impl JudgedTrack<'_> {
 
     fn post(&mut self, post: u8) -> &mut Post {
         &mut self.track.posts[usize::from(post)]
-    }
-
-    fn is_closed(&self, post: u8) -> bool {
-        !self.line.is_open(post)
     }
 
     fn has_fault(&self, post: u8, bit: u8) -> bool {
@@ -347,7 +294,7 @@ impl JudgedTrack<'_> {
     }
 
     /// Fault 1 without a mark. The last post has nothing to control, and a post of a
-    /// materialised line "without signals ... disregards fault 1". Those that ask are open.
+    /// materialised line "without signals ... disregards fault 1".
     fn unconfirmed_fault_1(&self, post: u8) -> bool {
         let marked = self.track.posts[usize::from(post)].mark == 1;
         self.has_fault(post, FAULT_1) && !marked && self.commands_part(post)
@@ -358,11 +305,11 @@ impl JudgedTrack<'_> {
     }
 
     fn trains(&self) -> &[u16] {
-        &self.track.trains[..usize::from(self.way.n) - 1]
+        &self.track.trains[..usize::from(self.settings.n) - 1]
     }
 
     fn order_finds_train(&self, post: u8) -> bool {
-        if self.line.settings.form == TELEPHONE {
+        if self.settings.form == TELEPHONE {
             holds_train(self.trains())
         } else {
             self.train_in_part(post)
@@ -370,13 +317,13 @@ impl JudgedTrack<'_> {
     }
 
     fn commands_part(&self, post: u8) -> bool {
-        self.way.commands_part(self.line, post)
+        self.way.commands_part(&self.settings, post)
     }
 
     /// A post that commands no part "checks no track".
     fn train_in_part(&self, post: u8) -> bool {
         self.way
-            .part(self.line, post)
+            .part(&self.settings, post)
             .is_some_and(|part| holds_train(&self.track.trains[part]))
     }
 
@@ -393,11 +340,11 @@ impl JudgedTrack<'_> {
     }
 
     fn begins_stretch(&self, post: u8) -> bool {
-        self.line.ends_stretch(self.track.direction, post)
+        ends_stretch(&self.settings, self.track.direction, post)
     }
 
     fn train_in_stretch(&self, post: u8) -> bool {
-        let stretch = self.way.stretch(self.line, self.track.direction, post);
+        let stretch = self.way.stretch(&self.settings, self.track.direction, post);
         holds_train(&self.track.trains[stretch])
     }
 
@@ -410,23 +357,16 @@ impl JudgedTrack<'_> {
         zones_not_adapted || self.track.direction == CVT && self.crossing_without_zones_ahead(post)
     }
 
-    /// In the block sections up to the next open post; nothing lies ahead of a closed post.
     fn crossing_ahead(&self, post: u8) -> bool {
-        let mut ahead = self
-            .way
-            .up_to_next_open(self.line, post)
-            .into_iter()
-            .flatten();
-        ahead.any(|section| self.line.settings.crossing_in(section))
+        self.way
+            .ahead(post)
+            .is_some_and(|ahead| self.settings.crossing_in(ahead))
     }
 
     fn crossing_without_zones_ahead(&self, post: u8) -> bool {
-        let mut ahead = self
-            .way
-            .up_to_next_open(self.line, post)
-            .into_iter()
-            .flatten();
-        ahead.any(|section| self.line.settings.crossing_without_zones_in(section))
+        self.way
+            .ahead(post)
+            .is_some_and(|ahead| self.settings.crossing_without_zones_in(ahead))
     }
 
     /// The train's form at the post is used up, needed or not.

@@ -1,15 +1,12 @@
 //! Seeded random settings, sections, steps and days, for tests and comparisons.
 
-use crate::books;
 use crate::dayfile::{self, Mark, GREATEST_LENGTH, MOST_STEPS, SETTINGS_LENGTH, TRAILER_LENGTH};
 use crate::engine;
 use crate::section::{
-    holds_train, Post, Section, Track, ACKNOWLEDGE, ANNOUNCE, FAULT_1, FAULT_2, FAULT_3, FAULT_4,
-    MOST_SEALS, NO_REVERSAL, SET,
+    Post, Section, Track, ACKNOWLEDGE, ANNOUNCE, FAULT_1, FAULT_2, FAULT_3, FAULT_4, MOST_SEALS,
+    NO_REVERSAL, SET,
 };
-use crate::settings::{
-    Crossings, Settings, MOST_CROSSINGS, MOST_POSTS, NO_CROSSINGS, UNUSED, WITHOUT_ZONES,
-};
+use crate::settings::{Crossings, Settings, MOST_CROSSINGS, NO_CROSSINGS, UNUSED, WITHOUT_ZONES};
 use crate::step::{self, Step, GREATEST_FAULT, GREATEST_TRAIN, STEP_LENGTH};
 use crate::way::{Way, CVT, VNS};
 
@@ -23,11 +20,6 @@ const NUMBERS_AT_THE_BOUNDS: [u16; 3] = [
     GREATEST_TRAIN,
 ];
 
-/// The greatest kind of step before request 8.
-const FORM_KIND: u8 = 14;
-/// The greatest kind of all.
-const GREATEST_KIND: u8 = 16;
-
 /// Numbers that no train has.
 const TOO_GREAT: [u16; 2] = [GREATEST_TRAIN + 1, u16::MAX];
 
@@ -37,10 +29,6 @@ pub struct Rng {
     state: u64,
     /// No train of a greater number is drawn.
     greatest_train: u16,
-    /// No step of a greater kind is drawn, and no state that only such steps lead to.
-    greatest_kind: u8,
-    /// For a while the steps drawn bring the section to rest, so that posts can close and open.
-    quiet: bool,
 }
 
 impl Rng {
@@ -50,16 +38,6 @@ impl Rng {
         Rng {
             state: spread | 1,
             greatest_train: GREATEST_TRAIN,
-            greatest_kind: GREATEST_KIND,
-            quiet: false,
-        }
-    }
-
-    /// Draws as before request 8: no post is closed.
-    pub fn of_open_posts(seed: u64) -> Rng {
-        Rng {
-            greatest_kind: FORM_KIND,
-            ..Rng::new(seed)
         }
     }
 
@@ -67,12 +45,8 @@ impl Rng {
     pub fn of_four_figures(seed: u64) -> Rng {
         Rng {
             greatest_train: GREATEST_OF_FOUR_FIGURES,
-            ..Rng::of_open_posts(seed)
+            ..Rng::new(seed)
         }
-    }
-
-    fn closes_posts(&self) -> bool {
-        self.greatest_kind > FORM_KIND
     }
 
     pub fn next_u64(&mut self) -> u64 {
@@ -204,11 +178,7 @@ pub fn sensible_step(rng: &mut Rng, section: &Section) -> [u8; STEP_LENGTH] {
         return rng.next_u64().to_le_bytes();
     }
     let track = rng.flag();
-    let may_close = rng.closes_posts() && (section.settings.n > 2 || rng.chance(1, 10));
-    let (track, step) = match may_close && calm(rng) {
-        true => calming_step(rng, section),
-        false => (track, likely_step(rng, section, usize::from(track))),
-    };
+    let step = likely_step(rng, section, usize::from(track));
     let bytes = step::encode(track, &step);
     if rng.chance(1, 12) {
         nudged(rng, bytes, section.settings.n)
@@ -227,63 +197,6 @@ pub fn furthering_step(rng: &mut Rng, section: &Section, track: u8) -> [u8; STEP
         false => movement_or_its_form(rng, section, kept),
     };
     step::encode(track, &step)
-}
-
-/// Whether the next step is one that calms. Quiet times come and go.
-fn calm(rng: &mut Rng) -> bool {
-    let changes = match rng.quiet {
-        true => rng.chance(1, 40),
-        false => rng.chance(1, 60),
-    };
-    rng.quiet ^= changes;
-    match rng.quiet {
-        true => rng.chance(5, 6),
-        false => rng.chance(1, 20),
-    }
-}
-
-/// With its track: ends a reversal or brings a train on its way. At rest a post closes or opens.
-fn calming_step(rng: &mut Rng, section: &Section) -> (u8, Step) {
-    if rng.chance(1, 10) {
-        return closing_step(rng, section);
-    }
-    let first = rng.flag();
-    for track in [first, 1 - first] {
-        let kept = usize::from(track);
-        let has_train = holds_train(section.trains(kept));
-        if section.tracks[kept].reversal_under_way() && (!has_train || rng.chance(1, 2)) {
-            return (track, turn_step(rng, section, kept));
-        }
-        if has_train {
-            return (track, movement_or_its_form(rng, section, kept));
-        }
-    }
-    closing_step(rng, section)
-}
-
-/// A closing or an opening, or mostly the measures that a closing lacks, with their track.
-fn closing_step(rng: &mut Rng, section: &Section) -> (u8, Step) {
-    let n = section.settings.n;
-    let post = match n > 2 && rng.chance(9, 10) {
-        true => 1 + rng.post(n - 2),
-        false => rng.post(n),
-    };
-    let place = usize::from(post);
-    let lacks_measures = |track: &u8| {
-        let kept = &section.tracks[usize::from(*track)];
-        kept.posts[place].measures == 0
-    };
-    if section.closed[place] == 1 {
-        return match rng.below(6) {
-            0 => (0, Step::Close { post }),
-            _ => (0, Step::Open { post }),
-        };
-    }
-    match (rng.below(10), [0, 1].into_iter().find(lacks_measures)) {
-        (0, _) => (0, Step::Open { post }),
-        (1..=8, Some(track)) => (track, Step::MeasuresOn { post }),
-        _ => (0, Step::Close { post }),
-    }
 }
 
 fn likely_step(rng: &mut Rng, section: &Section, track: usize) -> Step {
@@ -361,8 +274,7 @@ fn lacks_form(section: &Section, track: usize, post: u8, train: u16) -> bool {
     let settings = &section.settings;
     let kept = &section.tracks[track];
     let record = &kept.posts[usize::from(post)];
-    let ahead = section.way(track).up_to_next_open(section.line(), post);
-    ahead.into_iter().flatten().any(|ahead| {
+    section.way(track).ahead(post).is_some_and(|ahead| {
         let under_fault_4 = record.faults & FAULT_4 != 0 && settings.crossing_in(ahead);
         let without_zones = kept.direction == CVT && settings.crossing_without_zones_in(ahead);
         record.form_for != train && (under_fault_4 || without_zones)
@@ -461,7 +373,7 @@ fn random_step(rng: &mut Rng, n: u8) -> Step {
     let post = rng.post(n);
     let train = 1 + rng.below(30) as u16;
     let fault = rng.fault();
-    match rng.below(u64::from(rng.greatest_kind)) {
+    match rng.below(14) {
         0 => Step::Order { post },
         1 => Step::Set { post },
         2 => Step::Announce { post },
@@ -478,9 +390,7 @@ fn random_step(rng: &mut Rng, n: u8) -> Step {
             train: train - 1,
         },
         12 => Step::Key { post },
-        13 => Step::Form { post, train },
-        14 => Step::Close { post },
-        _ => Step::Open { post },
+        _ => Step::Form { post, train },
     }
 }
 
@@ -512,46 +422,7 @@ pub fn random_in_range_section(rng: &mut Rng) -> Section {
         random_track(rng, &settings, 0),
         random_track(rng, &settings, 1),
     ];
-    let mut section = Section {
-        settings,
-        closed: [0; MOST_POSTS],
-        tracks,
-    };
-    if rng.closes_posts() {
-        section.closed = random_closed(rng, settings.n);
-        if rng.chance(1, 4) {
-            put_at_rest(rng, &mut section);
-        }
-    }
-    section
-}
-
-/// None, few or most of the posts between the ends.
-fn random_closed(rng: &mut Rng, n: u8) -> [u8; MOST_POSTS] {
-    let density = rng.pick(&[0, 2, 5, 8]);
-    let mut closed = [0; MOST_POSTS];
-    for (post, flag) in closed.iter_mut().enumerate() {
-        let post = post as u8;
-        *flag = match post {
-            0 => 0,
-            _ if post >= n => rng.byte(),
-            _ => u8::from(post != n - 1 && rng.chance(density, 10)),
-        };
-    }
-    closed
-}
-
-/// Mostly without a train and without a reversal on either track, as closing demands.
-fn put_at_rest(rng: &mut Rng, section: &mut Section) {
-    for track in &mut section.tracks {
-        if rng.chance(5, 6) {
-            track.trains[..usize::from(section.settings.n) - 1].fill(0);
-        }
-        if rng.chance(5, 6) {
-            track.act = NO_REVERSAL;
-            track.turn = 0;
-        }
-    }
+    Section { settings, tracks }
 }
 
 fn random_track(rng: &mut Rng, settings: &Settings, track: usize) -> Track {
@@ -665,7 +536,7 @@ pub fn put_out_of_range(rng: &mut Rng, section: &mut Section) {
     let block_section = rng.below(u64::from(n) - 1) as usize;
     let way = section.way(number);
     let track = &mut section.tracks[number];
-    match rng.below(22) {
+    match rng.below(20) {
         0 => section.settings.n = rng.pick(&[0, 1, 17, 18, 255]),
         1 => section.settings.form = 2 + rng.below(254) as u8,
         2 => section.settings.mask &= !(1 << rng.pick(&[0, n - 1])),
@@ -684,8 +555,6 @@ pub fn put_out_of_range(rng: &mut Rng, section: &mut Section) {
         15 => track.trains[block_section] = rng.pick(&TOO_GREAT),
         16 => track.last[block_section] = rng.pick(&TOO_GREAT),
         17 => track.posts[post].form_for = rng.pick(&TOO_GREAT),
-        18 => section.closed[usize::from(rng.pick(&[0, n - 1]))] = 1,
-        19 => section.closed[post] = rng.pick(&[2, 128, 255]),
         _ => section.settings.crossings = wrong_crossings(rng, n),
     }
 }
@@ -826,69 +695,4 @@ fn cell_near_end<'a>(rng: &mut Rng, file: &'a mut [u8], within: usize) -> Option
     let from_end = 1 + rng.below(reach as u64) as usize;
     let place = file.len() - from_end;
     Some(&mut file[place])
-}
-
-// Books.
-
-/// Two posts' books of a day. Mostly they match but for what `damage_books` does; delays and clocks
-/// are at times just inside or outside what is allowed.
-pub fn random_books(rng: &mut Rng) -> [Vec<u8>; 2] {
-    let offset = match rng.below(4) {
-        0 => rng.pick(&[-121, -120, -61, -60, 0, 60, 61, 119, 120, 121]),
-        1 => rng.between(0, 600) as i64 - 300,
-        _ => rng.between(0, 240) as i64 - 120,
-    };
-    let longest_delay = rng.pick(&[0, 1, 30, 60, 60, 60, 61, 70]);
-    let mut records = [Vec::new(), Vec::new()];
-    let mut second = rng.below(2_000) as i64;
-    for _ in 0..rng.pick(&[0, 1, 2, 5, 20, 60]) {
-        second += rng.pick(&[0, 1, 30, 60, 61, 500]);
-        let announcement = 1 + rng.below(4) as u8;
-        let track = rng.flag();
-        let delay = rng.between(0, longest_delay) as i64;
-        let sender = usize::from(rng.flag());
-        records[sender].push((second, [announcement, 0, track]));
-        records[1 - sender].push((second + delay, [announcement, 1, track]));
-    }
-    let [first, second] = records;
-    [book_of(first, 0), book_of(second, -offset)]
-}
-
-/// In the order of their times, on a clock that is so much ahead; as far as the day goes.
-fn book_of(mut records: Vec<(i64, [u8; 3])>, ahead: i64) -> Vec<u8> {
-    records.sort_by_key(|&(second, _)| second);
-    let last = i64::from(books::LAST_SECOND);
-    let bytes = records
-        .into_iter()
-        .map(|(second, [announcement, way, track])| {
-            let time = (second + ahead).clamp(0, last) as u32;
-            let [a, b, c, d] = time.to_le_bytes();
-            [announcement, way, track, 0, a, b, c, d]
-        });
-    bytes.collect::<Vec<_>>().concat()
-}
-
-/// Changes one of them in one place.
-pub fn damage_books(rng: &mut Rng, books: &mut [Vec<u8>; 2]) {
-    let book = &mut books[usize::from(rng.flag())];
-    let records = book.len() / books::RECORD_LENGTH;
-    if records == 0 {
-        book.extend_from_slice(&[1, rng.flag(), 0, 0, 5, 0, 0, 0]);
-        return;
-    }
-    let place = books::RECORD_LENGTH * rng.below(records as u64) as usize;
-    match rng.below(9) {
-        0 => book[place] = 1 + rng.below(4) as u8,
-        1 => book[place + 1] ^= 1,
-        2 => book[place + 2] ^= 1,
-        3 => book
-            .drain(place..place + books::RECORD_LENGTH)
-            .for_each(drop),
-        4 => book.truncate(book.len() - rng.between(1, 7)),
-        5 => book[place] = rng.pick(&[0, 5, 255]),
-        6 => book[place + rng.between(1, 3)] = 2 + rng.below(254) as u8,
-        7 => book[place + 4..place + 8]
-            .copy_from_slice(&rng.pick(&[0, 86_399, 86_400, u32::MAX]).to_le_bytes()),
-        _ => book[place + 4] = rng.byte(),
-    }
 }

@@ -2,7 +2,7 @@
 
 use crate::section::{holds_train, Post, Section, Track, ANNOUNCE, FAULT_1, FAULT_3};
 use crate::settings::MATERIALISED;
-use crate::way::{Line, Way, VNS};
+use crate::way::{Way, VNS};
 
 pub const DARK: u8 = 0;
 pub const STEADY_VNS: u8 = 1;
@@ -23,10 +23,9 @@ pub fn indications(section: &Section, track: u8, post: u8) -> (u8, u8, u8) {
     let way = section.way(usize::from(track));
     let kept = &section.tracks[usize::from(track)];
     let record = &kept.posts[usize::from(post)];
-    let line = section.line();
-    let part = way.part(line, post);
+    let part = way.part(&section.settings, post);
     let trains = part.map(|part| &kept.trains[part]);
-    let awaited = section.settings.form == MATERIALISED && awaits_set(kept, way, line, post);
+    let awaited = section.settings.form == MATERIALISED && awaits_set(kept, way, post);
     (
         circulation(record, awaited),
         troncon(record, trains),
@@ -45,19 +44,15 @@ fn circulation(post: &Post, awaited: bool) -> u8 {
     }
 }
 
-/// The last open post before has set in this reversal and this one hasn't; never for a closed
-/// post.
-pub(crate) fn awaits_set(track: &Track, way: Way, line: Line, post: u8) -> bool {
-    let set = ranks_that_have_set(track, way);
-    let before = way.open_post_before(line, post);
-    line.is_open(post)
-        && way.rank(post) >= set
-        && before.is_some_and(|before| way.rank(before) < set)
+/// The post before has set in this reversal and this one hasn't.
+pub(crate) fn awaits_set(track: &Track, way: Way, post: u8) -> bool {
+    let set = posts_that_have_set(track, way);
+    let rank = way.rank(post);
+    set > 0 && rank == set
 }
 
-/// The open posts below this rank, from the old sending end on, have set in the reversal under
-/// way.
-fn ranks_that_have_set(track: &Track, way: Way) -> u8 {
+/// As many posts, from the old sending end on, have set in the reversal under way.
+fn posts_that_have_set(track: &Track, way: Way) -> u8 {
     if !track.reversal_under_way() {
         0
     } else if track.act == ANNOUNCE {

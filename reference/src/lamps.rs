@@ -12,12 +12,12 @@ pub const ENTRIES: usize = 256;
 /// The bits of an index.
 pub const ON_MATERIALISED: u8 = 1;
 pub const DEVICE_CVT: u8 = 2;
-/// The previous open post has set in this reversal and this one, open too, hasn't.
+/// The previous post has set in this reversal and this one hasn't.
 pub const AWAITS_SET: u8 = 4;
 pub const HAS_FAULT_1: u8 = 8;
 pub const HAS_FAULT_3: u8 = 16;
 pub const PART_OCCUPIED: u8 = 32;
-/// By telephone, any open post but the receiving end.
+/// By telephone, any post but the receiving end.
 pub const COMMANDS_PART: u8 = 64;
 pub const HAS_PERMISSION: u8 = 128;
 
@@ -78,14 +78,13 @@ pub fn index(section: &Section, track: u8, post: u8) -> u8 {
     let way = section.way(usize::from(track));
     let kept = &section.tracks[usize::from(track)];
     let record = &kept.posts[usize::from(post)];
-    let line = section.line();
-    let part = way.part(line, post);
+    let part = way.part(&section.settings, post);
     let commands_part = part.is_some();
     let occupied = part.is_some_and(|part| holds_train(&kept.trains[part]));
     [
         (ON_MATERIALISED, section.settings.form == MATERIALISED),
         (DEVICE_CVT, record.device == CVT),
-        (AWAITS_SET, awaits_set(kept, way, line, post)),
+        (AWAITS_SET, awaits_set(kept, way, post)),
         (HAS_FAULT_1, record.faults & FAULT_1 != 0),
         (HAS_FAULT_3, record.faults & FAULT_3 != 0),
         (PART_OCCUPIED, occupied),

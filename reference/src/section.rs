@@ -2,7 +2,7 @@
 
 use crate::settings::{Settings, MOST_POSTS};
 use crate::step::GREATEST_TRAIN;
-use crate::way::{Line, Way, CVT};
+use crate::way::{Way, CVT};
 
 pub const MOST_SECTIONS: usize = MOST_POSTS - 1;
 pub const MOST_SEALS: u16 = 999;
@@ -47,8 +47,6 @@ pub struct Track {
 #[derive(Clone, Copy, Debug, PartialEq, Eq, Hash)]
 pub struct Section {
     pub settings: Settings,
-    /// 1 for a closed post, for both tracks.
-    pub closed: [u8; MOST_POSTS],
     pub tracks: [Track; 2],
 }
 
@@ -57,7 +55,6 @@ impl Section {
     pub fn fresh(settings: Settings) -> Section {
         let mut section = Section {
             settings,
-            closed: [0; MOST_POSTS],
             tracks: [Track::default(); 2],
         };
         section.tracks[0].posts[0].permission = 1;
@@ -71,20 +68,12 @@ impl Section {
     /// The range test of refusal 6.
     pub fn in_range(&self) -> bool {
         self.settings.well_formed()
-            && closed_in_range(&self.closed[..usize::from(self.settings.n)])
             && self.tracks[0].in_range(0, self.settings.n)
             && self.tracks[1].in_range(1, self.settings.n)
     }
 
     pub fn way(&self, track: usize) -> Way {
         Way::of(track, self.tracks[track].direction, self.settings.n)
-    }
-
-    pub fn line(&self) -> Line<'_> {
-        Line {
-            settings: &self.settings,
-            closed: &self.closed,
-        }
     }
 
     /// The train in each block section of the track, 0 for none; n from 2 to 16.
@@ -126,12 +115,6 @@ impl Track {
 /// One of the block sections has a train in it.
 pub fn holds_train(trains: &[u16]) -> bool {
     trains.iter().any(|&train| train != 0)
-}
-
-/// Of the posts that the section has, at least two: the ends are never closed.
-fn closed_in_range(closed: &[u8]) -> bool {
-    let highest = closed.iter().fold(0, |highest, &flag| flag.max(highest));
-    highest <= 1 && closed[0] == 0 && closed[closed.len() - 1] == 0
 }
 
 // Both tests below gather first and compare once: they run before every step.

@@ -1,4 +1,4 @@
-//! One step of a day: sixteen kinds, eight bytes each.
+//! One step of a day: fourteen kinds, eight bytes each.
 
 pub const STEP_LENGTH: usize = 8;
 pub const GREATEST_TRAIN: u16 = 59_999;
@@ -20,15 +20,6 @@ pub enum Step {
     Release { post: u8, train: u16 },
     Key { post: u8 },
     Form { post: u8, train: u16 },
-    Close { post: u8 },
-    Open { post: u8 },
-}
-
-impl Step {
-    /// Closing and opening.
-    pub fn is_for_both_tracks(&self) -> bool {
-        matches!(self, Step::Close { .. } | Step::Open { .. })
-    }
 }
 
 pub fn start(post: u8, train: u16) -> Step {
@@ -74,7 +65,7 @@ pub fn well_formed(bytes: &[u8; STEP_LENGTH], n: u8) -> bool {
     let Some(ranges) = RANGES.get(usize::from(kind)) else {
         return false;
     };
-    (track <= ranges.greatest_track)
+    (track <= 1)
         & (post < n)
         & (ranges.least_fault <= fault)
         & (fault <= ranges.greatest_fault)
@@ -83,9 +74,8 @@ pub fn well_formed(bytes: &[u8; STEP_LENGTH], n: u8) -> bool {
         & (zero_6 | zero_7 == 0)
 }
 
-/// What the track, the fault and the number of a kind may be.
+/// What the fault and the number of a kind may be.
 struct Ranges {
-    greatest_track: u8,
     least_fault: u8,
     greatest_fault: u8,
     least_train: u16,
@@ -93,7 +83,6 @@ struct Ranges {
 }
 
 const NO_FIELDS: Ranges = Ranges {
-    greatest_track: 1,
     least_fault: 0,
     greatest_fault: 0,
     least_train: 0,
@@ -113,10 +102,6 @@ const WITH_TRAIN_OR_0: Ranges = Ranges {
     greatest_train: GREATEST_TRAIN,
     ..NO_FIELDS
 };
-const FOR_BOTH_TRACKS: Ranges = Ranges {
-    greatest_track: 0,
-    ..NO_FIELDS
-};
 /// No fault is at least 1 and at most 0.
 const NO_SUCH_KIND: Ranges = Ranges {
     least_fault: 1,
@@ -124,7 +109,7 @@ const NO_SUCH_KIND: Ranges = Ranges {
 };
 
 /// By kind.
-static RANGES: [Ranges; 17] = [
+static RANGES: [Ranges; 15] = [
     NO_SUCH_KIND,
     NO_FIELDS,
     NO_FIELDS,
@@ -140,8 +125,6 @@ static RANGES: [Ranges; 17] = [
     WITH_TRAIN_OR_0,
     NO_FIELDS,
     WITH_TRAIN,
-    FOR_BOTH_TRACKS,
-    FOR_BOTH_TRACKS,
 ];
 
 /// The track and the step of well-formed bytes; no range is tested again.
@@ -164,14 +147,11 @@ pub fn decode_well_formed(bytes: &[u8; STEP_LENGTH]) -> (u8, Step) {
         12 => Step::Release { post, train },
         13 => Step::Key { post },
         14 => Step::Form { post, train },
-        15 => Step::Close { post },
-        16 => Step::Open { post },
         _ => unreachable!("the kind of a well-formed step"),
     };
     (track, step)
 }
 
-/// The track of a step for both is 0.
 pub fn encode(track: u8, step: &Step) -> [u8; STEP_LENGTH] {
     let (kind, post, fault, train) = match *step {
         Step::Order { post } => (1, post, 0, 0),
@@ -188,10 +168,7 @@ pub fn encode(track: u8, step: &Step) -> [u8; STEP_LENGTH] {
         Step::Release { post, train } => (12, post, 0, train),
         Step::Key { post } => (13, post, 0, 0),
         Step::Form { post, train } => (14, post, 0, train),
-        Step::Close { post } => (15, post, 0, 0),
-        Step::Open { post } => (16, post, 0, 0),
     };
-    let track = if step.is_for_both_tracks() { 0 } else { track };
     let [train_low, train_high] = u16::to_le_bytes(train);
     [kind, track, post, fault, train_low, train_high, 0, 0]
 }
@@ -211,7 +188,7 @@ mod tests {
             12 => train <= 59_999,
             _ => train == 0,
         };
-        (1..=16).contains(&kind) && fault_fits && train_fits
+        (1..=14).contains(&kind) && fault_fits && train_fits
     }
 
     #[test]
@@ -222,15 +199,12 @@ mod tests {
                     0u16, 1, 255, 256, 9_999, 10_000, 32_768, 59_999, 60_000, 65_535,
                 ] {
                     let [low, high] = train.to_le_bytes();
-                    for track in [0, 1] {
-                        let bytes = [kind, track, 4, fault, low, high, 0, 0];
-                        let decoded = decode(&bytes, 5);
-                        let track_fits = track == 0 || ![15, 16].contains(&kind);
-                        let expected = track_fits && fields_fit(kind, fault, train);
-                        assert_eq!(decoded.is_some(), expected, "{bytes:?}");
-                        if let Some((track, step)) = decoded {
-                            assert_eq!(encode(track, &step), bytes);
-                        }
+                    let bytes = [kind, 1, 4, fault, low, high, 0, 0];
+                    let decoded = decode(&bytes, 5);
+                    let expected = fields_fit(kind, fault, train);
+                    assert_eq!(decoded.is_some(), expected, "{bytes:?}");
+                    if let Some((track, step)) = decoded {
+                        assert_eq!(encode(track, &step), bytes);
                     }
                 }
             }
@@ -264,11 +238,8 @@ mod tests {
             [14, 0, 0, 0, 0, 0, 0, 0],
             [14, 0, 0, 1, 1, 0, 0, 0],
             [14, 0, 0, 0, 0x60, 0xea, 0, 0],
-            [15, 1, 0, 0, 0, 0, 0, 0],
+            [15, 0, 0, 0, 0, 0, 0, 0],
             [15, 0, 0, 0, 1, 0, 0, 0],
-            [16, 1, 0, 0, 0, 0, 0, 0],
-            [16, 0, 0, 1, 0, 0, 0, 0],
-            [17, 0, 0, 0, 0, 0, 0, 0],
             [1, 2, 0, 0, 0, 0, 0, 0],
             [1, 0, 2, 0, 0, 0, 0, 0],
             [1, 0, 0, 1, 0, 0, 0, 0],

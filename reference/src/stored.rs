@@ -2,7 +2,6 @@
 //! and answered by this implementation.
 
 mod bench;
-mod closed;
 mod coverage;
 mod crossings;
 mod every_refusal;
@@ -41,7 +40,7 @@ const FORMS: [(u8, &str); 2] = [(TELEPHONE, "telephone"), (MATERIALISED, "materi
 const TRACKS: [(u8, &str); 2] = [(A, "a"), (B, "b")];
 
 /// Days kept as text in the folder `days`.
-const WRITTEN: [(&str, &str); 15] = [
+const WRITTEN: [(&str, &str); 14] = [
     ("worked_example", include_str!("../days/worked_example.txt")),
     ("annex_1", include_str!("../days/annex_1.txt")),
     ("annex_2", include_str!("../days/annex_2.txt")),
@@ -71,7 +70,6 @@ const WRITTEN: [(&str, &str); 15] = [
         "same_number_on_both_tracks",
         include_str!("../days/same_number_on_both_tracks.txt"),
     ),
-    ("closed_sunday", include_str!("../days/closed_sunday.txt")),
 ];
 
 /// All of them. Panics where this implementation does not answer as a day demands, or where
@@ -86,8 +84,6 @@ pub fn days() -> Vec<StoredDay> {
     add_trains(&mut days);
     add_drawn(&mut days);
     add_drawn_of_five_figures(&mut days);
-    add_closed(&mut days);
-    add_drawn_closed(&mut days);
     add_lengths(&mut days);
     for (name, file) in refused::files() {
         add(&mut days, name, file);
@@ -213,53 +209,8 @@ fn add_drawn_of_five_figures(days: &mut Vec<StoredDay>) {
                 (with_crossings(without), "_crossings", 300),
             ] {
                 let name = format!("drawn_five_figures_{n}_{form_name}{ending}");
-                let rng = Rng::of_open_posts(u64::from(n) * 2 + u64::from(form) + more);
-                add(days, &name, lengths::drawn(settings, 250, rng));
-            }
-        }
-    }
-}
-
-fn add_closed(days: &mut Vec<StoredDay>) {
-    for (form, form_name) in FORMS {
-        for (track, track_name) in TRACKS {
-            let place = format!("{form_name}_{track_name}");
-            for (line, n, mask, posts) in closed::LINES {
-                let name = format!("closed_sunday_{line}_{place}");
-                add(days, &name, closed::sunday(form, track, n, mask, posts));
-            }
-            for n in [2, 3, 16] {
-                let name = format!("closed_every_answer_{n}_{place}");
-                add(days, &name, closed::every_answer(n, form, track));
-            }
-            for (name, file) in [
-                (
-                    "closed_crossings_beyond",
-                    closed::beyond_closed_posts(form, track),
-                ),
-                ("closed_faults", closed::faults(form, track)),
-                (
-                    "closed_watched_past",
-                    closed::watched_past_closed_post(form, track),
-                ),
-            ] {
-                add(days, &format!("{name}_{place}"), file);
-            }
-        }
-    }
-}
-
-fn add_drawn_closed(days: &mut Vec<StoredDay>) {
-    for (n, mask) in [(3, 0x5), (4, 0xb), (7, 0x49), (16, 0x9249)] {
-        for (form, form_name) in FORMS {
-            let without = settings(n, form, mask);
-            for (settings, ending, more) in [
-                (without, "", 800),
-                (with_crossings(without), "_crossings", 900),
-            ] {
-                let name = format!("drawn_closed_{n}_{form_name}{ending}");
                 let rng = Rng::new(u64::from(n) * 2 + u64::from(form) + more);
-                add(days, &name, lengths::drawn(settings, 400, rng));
+                add(days, &name, lengths::drawn(settings, 250, rng));
             }
         }
     }

@@ -26,23 +26,21 @@ fn refusals_of_each_kind_are_those_of_the_table() {
                 .or_default() += 1;
         }
     }
-    let table: [&[u8]; 16] = [
+    let table: [&[u8]; 14] = [
         &[0, 11, 12, 13, 14],
-        &[0, 13, 15, 16, 18, 19, 23],
-        &[0, 15, 23],
-        &[0, 15, 23],
+        &[0, 13, 15, 16, 18, 19],
+        &[0, 15],
+        &[0, 15],
         &[0, 11, 12, 13, 17, 18, 22],
         &[0, 12, 13, 17, 22],
         &[0, 12, 17],
-        &[0, 21, 23],
-        &[0, 16, 21, 23],
+        &[0, 21],
+        &[0, 16, 21],
         &[0, 21],
         &[0, 21],
-        &[0, 12, 13, 15, 17, 21, 23],
-        &[0, 13, 15, 16, 18, 20, 21, 23],
-        &[0, 12, 23],
-        &[0, 11, 12, 13, 16, 21],
-        &[0, 11, 12, 13, 21],
+        &[0, 12, 13, 15, 17, 21],
+        &[0, 13, 15, 16, 18, 20, 21],
+        &[0, 12],
     ];
     println!("kind: refusal: times {met:?}");
     for (kind, refusals) in (1..).zip(table) {
@@ -138,23 +136,19 @@ fn fresh_never_panics() {
     }
 }
 
-type FarCells = (Vec<Post>, Vec<u16>, Vec<u16>);
-
-fn far_cells(section: &Section) -> (Vec<u8>, [FarCells; 2]) {
+fn far_cells(section: &Section) -> [(Vec<Post>, Vec<u16>, Vec<u16>); 2] {
     let n = usize::from(section.settings.n);
-    let of_tracks = section.tracks.map(|track| {
+    section.tracks.map(|track| {
         (
             track.posts[n..].to_vec(),
             track.trains[n - 1..].to_vec(),
             track.last[n - 1..].to_vec(),
         )
-    });
-    (section.closed[n..].to_vec(), of_tracks)
+    })
 }
 
 fn clear_far_cells(section: &mut Section) {
     let n = usize::from(section.settings.n);
-    section.closed[n..].fill(0);
     for track in &mut section.tracks {
         track.posts[n..].fill(Post::default());
         track.trains[n - 1..].fill(0);

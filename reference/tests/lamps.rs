@@ -234,13 +234,12 @@ fn bits_of(section: &Section, track: u8, post: u8) -> Bits {
     let record = &kept.posts[usize::from(post)];
     let settings = &section.settings;
     let upward = (track == A) == (kept.direction == 0);
-    let part = part_of(section, upward, post);
+    let part = part_of(settings, upward, post);
     Bits {
         materialised: settings.form == MATERIALISED,
         device_cvt: record.device == 1,
-        previous_set_and_this_not: section.closed[usize::from(post)] == 0
-            && previous(section, upward, post)
-                .is_some_and(|previous| has_set(kept, upward, previous))
+        previous_set_and_this_not: previous(settings.n, upward, post)
+            .is_some_and(|previous| has_set(kept, upward, previous))
             && !has_set(kept, upward, post),
         fault_1: record.faults & 1 != 0,
         fault_3: record.faults & 4 != 0,
@@ -250,12 +249,10 @@ fn bits_of(section: &Section, track: u8, post: u8) -> Bits {
     }
 }
 
-/// "the post before, for another's lamp, is the last open one".
-fn previous(section: &Section, upward: bool, post: u8) -> Option<u8> {
-    let is_open = |post: &u8| section.closed[usize::from(*post)] == 0;
+fn previous(n: u8, upward: bool, post: u8) -> Option<u8> {
     match upward {
-        true => (0..post).rev().find(is_open),
-        false => (post + 1..section.settings.n).find(is_open),
+        true => post.checked_sub(1),
+        false => (post + 1 < n).then_some(post + 1),
     }
 }
 
@@ -272,22 +269,21 @@ fn has_set(kept: &Track, upward: bool, post: u8) -> bool {
 }
 
 /// The block sections of the part that the post commands; none where it commands no part.
-fn part_of(section: &Section, upward: bool, post: u8) -> Vec<usize> {
-    let settings = &section.settings;
+fn part_of(settings: &Settings, upward: bool, post: u8) -> Vec<usize> {
     let signalled = |post: u8| settings.mask & 1 << post != 0;
-    let bounds = |post: u8| {
-        section.closed[usize::from(post)] == 0 && (settings.form == TELEPHONE || signalled(post))
-    };
     let ahead: Vec<u8> = match upward {
         true => (post + 1..settings.n).collect(),
         false => (0..post).rev().collect(),
     };
-    if !bounds(post) {
+    if settings.form == MATERIALISED && !signalled(post) {
         return Vec::new();
     }
-    let reach = match ahead.iter().position(|&post| bounds(post)) {
-        Some(place) => place + 1,
-        None => 0,
+    let reach = match settings.form {
+        TELEPHONE => ahead.len().min(1),
+        _ => match ahead.iter().position(|&post| signalled(post)) {
+            Some(place) => place + 1,
+            None => 0,
+        },
     };
     ahead[..reach]
         .iter()

@@ -1,4 +1,4 @@
-//! Sentences of request 3 of document 02, "Who watches which part", with all posts open.
+//! Sentences of request 3 of document 02, "Who watches which part".
 
 use reference::engine::{judge, SAID_CVT, SAID_NOTHING, SAID_VNS};
 use reference::generate::{self, Rng};
@@ -676,7 +676,7 @@ fn expected_troncon(section: &Section, track: u8, post: u8, watched: Watched) ->
 /// Refusals and lamps of random states, mostly unreachable, of those settings. How many of them
 /// the other rule would have answered otherwise.
 fn check_states(seed: u64, of: fn(&Settings) -> bool, rule: Watched, other: Watched) -> [usize; 2] {
-    let mut rng = Rng::of_open_posts(seed);
+    let mut rng = Rng::new(seed);
     let mut otherwise = [0; 2];
     for _ in 0..30_000 {
         let section = generate::random_in_range_section(&mut rng);
@@ -743,7 +743,7 @@ fn with_every_post_signalled_nothing_changes() {
 /// section ahead, the rest of its part and all before it are free.
 #[test]
 fn voie_occupee_is_never_said() {
-    let mut rng = Rng::of_open_posts(34);
+    let mut rng = Rng::new(34);
     // Announcements with trains still on the track: by signalled posts, by the others.
     let mut behind_trains = [0; 2];
     for _ in 0..3_000 {

@@ -157,7 +157,7 @@ fn run_from_any_state_equals_single_steps() {
         .collect();
     assert_eq!(
         refusals,
-        [0, 11, 12, 13, 14, 15, 16, 17, 18, 19, 20, 21, 22, 23]
+        [0, 11, 12, 13, 14, 15, 16, 17, 18, 19, 20, 21, 22]
     );
     let words: Vec<u8> = met
         .iter()
@@ -340,7 +340,7 @@ fn order_of_the_refusals_is_6_4_5() {
     let mut bad_step = many(3);
     bad_step[16] = 0;
     let mut bad_far_step = many(4_098);
-    bad_far_step[8 * 4_097] = 21;
+    bad_far_step[8 * 4_097] = 15;
     let incomplete = &many(3)[..23];
     let too_many = many(4_097);
     for steps in [&bad_step[..], incomplete] {

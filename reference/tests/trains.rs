@@ -46,15 +46,14 @@ fn refusal(section: &Section, track: u8, step: Step) -> u8 {
 
 fn step_bytes(kind: u8, number: u16) -> [u8; 8] {
     let fault = u8::from(kind == 10 || kind == 11);
-    let track = u8::from(kind < 15);
     let [low, high] = number.to_le_bytes();
-    [kind, track, 2, fault, low, high, 0, 0]
+    [kind, 1, 2, fault, low, high, 0, 0]
 }
 
 /// 1 to 59,999 in kinds 5 to 7 and 14, 0 to 59,999 in kind 12, else 0: every number there is.
 #[test]
 fn every_number_in_every_kind() {
-    for kind in 1..=16 {
+    for kind in 1..=14 {
         for number in 0..=u16::MAX {
             let fits = match kind {
                 5 | 6 | 7 | 14 => number != 0 && number < 60_000,

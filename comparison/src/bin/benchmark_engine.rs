@@ -23,8 +23,6 @@ use std::process::ExitCode;
 const CALLS: u32 = 4;
 const CALLS_FOR_LAMPS: u32 = 200;
 const STEPS_TRIED: usize = 256;
-/// The kind of a step that closes a post.
-const CLOSING: u8 = 15;
 const LAMPS_LENGTH: usize = 96;
 
 fn main() -> ExitCode {
@@ -32,7 +30,7 @@ fn main() -> ExitCode {
 }
 
 fn benchmark_engine(run: &Run) -> Outcome {
-    for (n, mask, closes) in [(3, 0b111, false), (16, 0x9249, false), (16, 0x9249, true)] {
+    for (n, mask) in [(3, 0b111), (16, 0x9249)] {
         for form in [0, 1] {
             let settings = Settings {
                 n,
@@ -41,18 +39,14 @@ fn benchmark_engine(run: &Run) -> Outcome {
                 line: 42,
                 crossings: NO_CROSSINGS,
             };
-            let mut rng = match closes {
-                true => run.rng(6),
-                false => run.rng_of_open_posts(6),
-            };
-            time_day(run, &settings, &mut rng)?;
+            time_day(run, &settings)?;
         }
     }
     Ok(())
 }
 
-fn time_day(run: &Run, settings: &Settings, rng: &mut Rng) -> Outcome {
-    let steps = busy_day(rng, settings);
+fn time_day(run: &Run, settings: &Settings) -> Outcome {
+    let steps = busy_day(&mut run.rng(6), settings);
     let mut notes = vec![0; room_for(&steps)];
     let mut expected = notes.clone();
     let bytes = settings.encode();
@@ -65,12 +59,8 @@ fn time_day(run: &Run, settings: &Settings, rng: &mut Rng) -> Outcome {
     println!("{}", kinds_accepted(settings, &steps));
     let form = ["telephone", "materialised"][usize::from(settings.form)];
     let accepted = notes.chunks_exact(NOTE_LENGTH).filter(|note| note[0] == 0);
-    let closes = steps
-        .chunks_exact(STEP_LENGTH)
-        .any(|step| step[0] == CLOSING);
-    let posts = ["all posts open", "posts that close"][usize::from(closes)];
     let what = format!(
-        "n = {}, {form}, {posts}, {MOST_STEPS} steps, {} accepted",
+        "n = {}, {form}, {MOST_STEPS} steps, {} accepted",
         settings.n,
         accepted.count()
     );
@@ -207,7 +197,7 @@ fn time_previews(run: &Run, settings: &Settings, steps: &[u8]) -> Times {
     )
 }
 
-/// Trains both ways, reversals, faults and, as the generator draws them, posts that close; few steps are refused.
+/// Trains both ways, reversals and faults; few steps are refused.
 fn busy_day(rng: &mut Rng, settings: &Settings) -> Vec<u8> {
     let mut section = Section::fresh(*settings);
     let mut steps = Vec::new();
@@ -229,11 +219,11 @@ fn busy_day(rng: &mut Rng, settings: &Settings) -> Vec<u8> {
 
 fn kinds_accepted(settings: &Settings, steps: &[u8]) -> String {
     let mut section = Section::fresh(*settings);
-    let mut accepted = [0; 17];
+    let mut accepted = [0; 15];
     for step in steps.chunks_exact(STEP_LENGTH) {
         if judge_in_place(&mut section, step).0 == 0 {
             accepted[usize::from(step[0])] += 1;
         }
     }
-    format!("accepted by kind, 1 to 16: {:?}", &accepted[1..])
+    format!("accepted by kind, 1 to 14: {:?}", &accepted[1..])
 }

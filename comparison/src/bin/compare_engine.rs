@@ -31,8 +31,6 @@ fn compare_engine(run: &Run) -> Outcome {
     runs.tally.fits_table("runs", &[])?;
     sections.tally.fits_parts("sections", &OF_SECTIONS)?;
     days.tally.fits_parts("days", &OF_DAYS)?;
-    sections.tally.has_all_by_closed("sections")?;
-    days.tally.has_all_by_closed("days")?;
     sections.previews.cases.have(&CASES, "sections")?;
     days.previews.cases.have(&CASES_OF_DAYS, "days")?;
     runs.cases.have_all()?;

@@ -12,15 +12,14 @@ pub enum Fate {
     Replaced,
     UsedUp,
     UsedUpUnneeded,
-    /// No crossing lies ahead of the post, or it is closed.
+    /// No crossing lies in the block section that is entered.
     UsedUpElsewhere,
     LeftByAnotherTrain,
     RemovedBySet,
     RemovedByKey,
-    DroppedByClosing,
 }
 
-pub const FATES: [Fate; 9] = [
+pub const FATES: [Fate; 8] = [
     Fate::HandedOut,
     Fate::Replaced,
     Fate::UsedUp,
@@ -29,7 +28,6 @@ pub const FATES: [Fate; 9] = [
     Fate::LeftByAnotherTrain,
     Fate::RemovedBySet,
     Fate::RemovedByKey,
-    Fate::DroppedByClosing,
 ];
 
 impl Fate {
@@ -43,9 +41,6 @@ impl Fate {
             Step::Form { .. } => Some(Fate::Replaced),
             Step::Set { post } if lies_at(post) != 0 => Some(Fate::RemovedBySet),
             Step::Key { post } if lies_at(post) != 0 => Some(Fate::RemovedByKey),
-            Step::Close { post } if lies_on_either_track(before, post) => {
-                Some(Fate::DroppedByClosing)
-            }
             Step::Start { post, train } | Step::Pass { post, train } => match lies_at(post) {
                 0 => None,
                 number if number != train => Some(Fate::LeftByAnotherTrain),
@@ -67,23 +62,13 @@ impl Fate {
             Fate::LeftByAnotherTrain => "left by another train",
             Fate::RemovedBySet => "removed by set",
             Fate::RemovedByKey => "removed by key",
-            Fate::DroppedByClosing => "dropped by closing",
         }
     }
 }
 
 fn lies_before_crossing(section: &Section, track: u8, post: u8) -> bool {
-    let way = section.way(usize::from(track));
-    let mut ahead = way
-        .up_to_next_open(section.line(), post)
-        .into_iter()
-        .flatten();
-    ahead.any(|block_section| section.settings.crossing_in(block_section))
-}
-
-fn lies_on_either_track(section: &Section, post: u8) -> bool {
-    let form_for = |track: usize| section.tracks[track].posts[usize::from(post)].form_for;
-    form_for(0) != 0 || form_for(1) != 0
+    let ahead = section.way(usize::from(track)).ahead(post);
+    ahead.is_some_and(|ahead| section.settings.crossing_in(ahead))
 }
 
 /// The step would be refused without the form at the post.

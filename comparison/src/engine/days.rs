@@ -7,15 +7,15 @@ use super::previews::Previews;
 use super::tally::Tally;
 use crate::files::bounds::settings_bytes_at_bounds;
 use crate::files::{settings_bytes, settings_lent, settings_of_other_lengths, sound_step};
-use crate::image::{image_of, EARLIER_LAYOUTS, IMAGE_LENGTH};
+use crate::image::{image_of, IMAGE_LENGTH, LENGTH_OF_LAYOUT_1};
 use crate::lent::{same_buffers, Lent};
 use crate::proved::{self, engine::Way};
 use crate::report::{hex, same, Comparison, Failure, Outcome};
 use reference::engine::judge_in_place;
 use reference::generate::{furthering_step, random_settings, Rng};
 use reference::section::{Section, MOST_SEALS};
-use reference::settings::{Settings, MATERIALISED, NO_CROSSINGS};
-use reference::step::{encode, pass, start, Step, GREATEST_TRAIN, STEP_LENGTH};
+use reference::settings::{Settings, NO_CROSSINGS};
+use reference::step::{encode, Step, GREATEST_TRAIN, STEP_LENGTH};
 
 const DAYS: u32 = 800;
 const MOST_STEPS_OF_DAY: u64 = 500;
@@ -54,8 +54,7 @@ impl Comparison for DayComparison {
             self.random_day()?;
         }
         self.day_of_keys()?;
-        self.day_of_a_late_caution()?;
-        self.day_behind_a_train()
+        self.day_of_a_late_caution()
     }
 }
 
@@ -75,8 +74,7 @@ impl DayComparison {
     fn fresh_and_noted(&mut self, settings: &[u8]) -> Outcome {
         for room in [
             0,
-            EARLIER_LAYOUTS[0].1,
-            EARLIER_LAYOUTS[1].1,
+            LENGTH_OF_LAYOUT_1,
             IMAGE_LENGTH - 1,
             IMAGE_LENGTH,
             IMAGE_LENGTH + 40,
@@ -140,24 +138,6 @@ impl DayComparison {
         let train = 1 + self.rng.below(u64::from(GREATEST_TRAIN)) as u16;
         let mut day = self.begin(settings)?;
         for step in late_caution(2 * track, train) {
-            self.take(&mut day, &encode(track, &step))?;
-        }
-        self.same_notes(&settings_bytes(&settings), &day.steps)
-    }
-
-    /// A reversal that comes up to a train in the part of its second post, and goes on behind it under faults 1 and 2.
-    fn day_behind_a_train(&mut self) -> Outcome {
-        let track = self.rng.flag();
-        let settings = Settings {
-            n: 4,
-            form: MATERIALISED,
-            mask: [0b1011, 0b1101][usize::from(track)],
-            line: 1,
-            crossings: NO_CROSSINGS,
-        };
-        let train = 1 + self.rng.below(u64::from(GREATEST_TRAIN)) as u16;
-        let mut day = self.begin(settings)?;
-        for step in behind_a_train(|rank| rank.abs_diff(3 * track), train) {
             self.take(&mut day, &encode(track, &step))?;
         }
         self.same_notes(&settings_bytes(&settings), &day.steps)
@@ -277,54 +257,6 @@ fn late_caution(sending_end: u8, train: u16) -> [Step; 15] {
             train,
         },
     ]
-}
-
-/// For four posts by rank, the third without signals.
-fn behind_a_train(at: impl Fn(u8) -> u8, train: u16) -> Vec<Step> {
-    let [first, second, third, last] = [0, 1, 2, 3].map(at);
-    let another = train % GREATEST_TRAIN + 1;
-    let release = |train| Step::Release {
-        post: second,
-        train,
-    };
-    let mut steps = [first, second, third, last]
-        .map(|post| Step::MeasuresOn { post })
-        .to_vec();
-    steps.extend([start(first, train), pass(second, train), pass(third, train)]);
-    steps.extend([
-        Step::Order { post: first },
-        Step::Set { post: first },
-        Step::Announce { post: first },
-        Step::Acknowledge { post: second },
-    ]);
-    steps.extend([1, 2].map(|fault| Step::FaultOn {
-        post: second,
-        fault,
-    }));
-    let attempts = [
-        Step::Set { post: second },
-        Step::Key { post: second },
-        release(train),
-    ];
-    steps.extend(attempts);
-    steps.push(Step::Leave { post: last, train });
-    steps.extend(&attempts[..2]);
-    steps.extend([release(another), release(train)]);
-    steps.extend([
-        Step::Key { post: second },
-        Step::Announce { post: second },
-        Step::Acknowledge { post: third },
-        Step::FaultOn {
-            post: third,
-            fault: 1,
-        },
-        Step::Release { post: third, train },
-        Step::Set { post: third },
-        Step::Announce { post: third },
-        Step::Acknowledge { post: last },
-        Step::Set { post: last },
-    ]);
-    steps
 }
 
 /// For two posts.

@@ -1,7 +1,6 @@
 //! One step tried and then judged by both engines, and what all posts show after it.
 
 use crate::engine::cautions::Fate;
-use crate::engine::closed::ByClosed;
 use crate::engine::parts::ByPart;
 use crate::engine::previews::{Previews, Tried};
 use crate::engine::tally::Tally;
@@ -48,7 +47,6 @@ impl Both {
         tally.count(step, refusal, said);
         if let Some(section) = section_before {
             tally.count_by_part(ByPart::of(&section, step, refusal));
-            tally.count_by_closed(ByClosed::of(&section, step));
             if refusal == 0 {
                 tally.count_fate(Fate::of(&section, step));
             }
@@ -98,7 +96,7 @@ impl Both {
         self.same_indications(track, post, tried, input)
     }
 
-    /// What the posts' lamps show of the parts and of closed posts, and that the lamp table has it.
+    /// What the posts' lamps show of the parts, and that the lamp table has it.
     fn count_lamps(&self, tally: &mut Tally, input: &dyn Fn() -> String) -> Outcome {
         let Some(section) = self.section.filter(Section::in_range) else {
             return Ok(());
@@ -109,7 +107,6 @@ impl Both {
                 let looked_up = tally.entries.look_up(&section, track, post);
                 same("what the lamp table has", looked_up, shown, input)?;
                 tally.count_by_part(ByPart::shown(&section, track, post, shown.1));
-                tally.count_by_closed(ByClosed::shown(&section, track, post));
             }
         }
         Ok(())

@@ -4,7 +4,7 @@ use super::offers::step_of_turn;
 use super::sections::{section_in_range, spoil};
 use crate::files::sound_step;
 use crate::image::{image_of, put_other_layout, section_of, spoil_zero};
-use crate::image::{EARLIER_LAYOUTS, IMAGE_LENGTH};
+use crate::image::{IMAGE_LENGTH, LENGTH_OF_LAYOUT_1};
 use crate::report::hex;
 use reference::engine::judge_in_range;
 use reference::generate::{furthering_step, random_settings, sensible_step, Rng};
@@ -115,8 +115,7 @@ pub fn no_image(rng: &mut Rng, section: &Section) -> Vec<u8> {
 }
 
 fn with_other_length(rng: &mut Rng, image: &[u8]) -> Vec<u8> {
-    let (_, earlier_length) = rng.pick(&EARLIER_LAYOUTS);
-    let length = rng.pick(&[0, 1, earlier_length, IMAGE_LENGTH - 1, IMAGE_LENGTH + 1]);
+    let length = rng.pick(&[0, 1, LENGTH_OF_LAYOUT_1, IMAGE_LENGTH - 1, IMAGE_LENGTH + 1]);
     let mut image = image.to_vec();
     image.resize(length, 0);
     image

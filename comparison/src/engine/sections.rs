@@ -6,7 +6,7 @@ use super::previews::Previews;
 use super::tally::Tally;
 use crate::files::bounds::crossings_at_bounds;
 use crate::image::{image_of, make_representable, put_layout, put_other_layout, section_of};
-use crate::image::{spoil_zero, zero_places, EARLIER_LAYOUTS, IMAGE_LENGTH};
+use crate::image::{spoil_zero, zero_places, IMAGE_LENGTH, LENGTH_OF_LAYOUT_1};
 use crate::lent::Lent;
 use crate::report::{Comparison, Outcome};
 use reference::generate::{put_out_of_range, random_in_range_section, Rng};
@@ -22,8 +22,6 @@ const AT_BOUNDS: u32 = 20;
 /// The faults' byte, and the number of a train, a last train and a caution form, at and beside their bounds.
 const FAULTS: [u8; 7] = [0, 7, 8, 15, 16, 128, 255];
 const NUMBERS: [u16; 9] = [0, 1, 9_999, 10_000, 59_998, 59_999, 60_000, 60_001, 65_535];
-/// Whether a post is closed.
-const FLAGS: [u8; 5] = [0, 1, 2, 128, 255];
 
 pub struct SectionComparison {
     rng: Rng,
@@ -54,7 +52,6 @@ impl Comparison for SectionComparison {
         for _ in 0..AT_BOUNDS {
             self.posts_at_bounds()?;
             self.trains_at_bounds()?;
-            self.closed_at_bounds()?;
             self.zeros_set()?;
         }
         for _ in 0..CHANGED {
@@ -131,20 +128,6 @@ impl SectionComparison {
         Ok(())
     }
 
-    /// At the end posts, beside them, in the cell past them and in the last one.
-    fn closed_at_bounds(&mut self) -> Outcome {
-        let section = section_in_range(&mut self.rng);
-        let n = usize::from(section.settings.n);
-        for post in [0, 1, n - 2, n - 1, n.min(15), 15] {
-            for flag in FLAGS {
-                let mut spoiled = section;
-                spoiled.closed[post] = flag;
-                self.compare_section(&spoiled)?;
-            }
-        }
-        Ok(())
-    }
-
     fn compare_section(&mut self, section: &Section) -> Outcome {
         self.compare(&image_of(section), section)
     }
@@ -176,19 +159,18 @@ impl SectionComparison {
         self.compare(&image, &section)
     }
 
-    /// At times with the number of an earlier layout.
+    /// At times with the number of layout 1.
     fn image_of_other_length(&mut self) -> Outcome {
         let section = section_in_range(&mut self.rng);
         let mut image = image_of(&section);
-        let (layout, earlier_length) = self.rng.pick(&EARLIER_LAYOUTS);
         if self.rng.chance(1, 4) {
-            put_layout(layout, &mut image);
+            put_layout(1, &mut image);
         }
         let mut image = image.to_vec();
         let length = match self.rng.below(4) {
             0 => self.rng.below(IMAGE_LENGTH as u64) as usize,
             1 => IMAGE_LENGTH - 1,
-            2 => earlier_length,
+            2 => LENGTH_OF_LAYOUT_1,
             _ => IMAGE_LENGTH + 1 + self.rng.below(20) as usize,
         };
         image.resize(length, 0);

@@ -1,7 +1,6 @@
 //! How often each kind of step was answered how.
 
 use super::cautions::{Fate, FATES};
-use super::closed::{ByClosed, ALL};
 use super::lamps::Entries;
 use super::numbers::{self, Numbers};
 use super::parts::{ByPart, OF_SECTIONS};
@@ -9,7 +8,7 @@ use crate::report::{fail_if_any, Outcome};
 use reference::step::STEP_LENGTH;
 use reference::stored::table::ANSWERS_BY_KIND;
 
-const KINDS: [&str; 17] = [
+const KINDS: [&str; 15] = [
     "other bytes",
     "order",
     "set",
@@ -25,13 +24,11 @@ const KINDS: [&str; 17] = [
     "release",
     "key",
     "caution form",
-    "close",
-    "open",
 ];
 
 const SAID: [&str; 5] = ["nothing", "CVT", "CVTz", "VNS", "VNSz"];
-const ANSWERS: [u8; 16] = [0, 4, 6, 11, 12, 13, 14, 15, 16, 17, 18, 19, 20, 21, 22, 23];
-const LAST_REFUSAL: u8 = 23;
+const ANSWERS: [u8; 15] = [0, 4, 6, 11, 12, 13, 14, 15, 16, 17, 18, 19, 20, 21, 22];
+const LAST_REFUSAL: u8 = 22;
 
 #[derive(Default)]
 pub struct Tally {
@@ -40,7 +37,6 @@ pub struct Tally {
     said: [u64; 5],
     fates: [u64; FATES.len()],
     by_part: [u64; OF_SECTIONS.len()],
-    by_closed: [u64; ALL.len()],
     numbers: Numbers,
     pub entries: Entries,
 }
@@ -66,12 +62,6 @@ impl Tally {
         }
     }
 
-    pub fn count_by_closed(&mut self, by_closed: Option<ByClosed>) {
-        if let Some(by_closed) = by_closed {
-            self.by_closed[by_closed as usize] += 1;
-        }
-    }
-
     pub fn total(&self) -> u64 {
         self.answers.iter().flatten().sum()
     }
@@ -86,10 +76,9 @@ impl Tally {
     pub fn print(&self, part: &str) {
         self.print_steps(part);
         self.print_by_part();
-        self.print_by_closed();
     }
 
-    /// Without what the parts and the closed posts decided.
+    /// Without what the parts decided.
     pub fn print_steps(&self, part: &str) {
         self.print_answers(part);
         self.print_fates();
@@ -131,24 +120,6 @@ impl Tally {
             print!("  {} {times}", by_part.name());
         }
         println!();
-    }
-
-    fn print_by_closed(&self) {
-        print!("by closed posts:");
-        for (by_closed, times) in ALL.iter().zip(self.by_closed) {
-            print!("  {} {times}", by_closed.name());
-        }
-        println!();
-    }
-
-    /// All that closed posts decide came up.
-    pub fn has_all_by_closed(&self, part: &str) -> Outcome {
-        let missing = ALL
-            .iter()
-            .zip(self.by_closed)
-            .filter(|&(_, times)| times == 0);
-        let named = missing.map(|(by_closed, _)| by_closed.name().to_string());
-        fail_if_any(&format!("NEVER SEEN, {part}"), &named.collect::<Vec<_>>())
     }
 
     /// Each of these came up, and no other.
@@ -232,7 +203,7 @@ impl Tally {
 /// 0 for bytes that are no step of a kind.
 fn kind_of(step: &[u8]) -> usize {
     match step.first() {
-        Some(&kind @ 1..=16) if step.len() == STEP_LENGTH => usize::from(kind),
+        Some(&kind @ 1..=14) if step.len() == STEP_LENGTH => usize::from(kind),
         _ => 0,
     }
 }

@@ -1,5 +1,5 @@
--- A search from the first byte on; a search over block sections. When a caution form is needed.
-use Prim.Native.Nat.{ℕ, zero, suc, ◌-◌, ◌<◌}
+-- A search from the first byte on. When a caution form is needed.
+use Prim.Native.Nat.{ℕ, zero, suc, ◌<◌}
 use mathlib.Core.Bool.{Bool, true, false, not, ◌&&◌, ◌||◌, false≢true}
 use mathlib.Core.List.{List}
 use mathlib.Core.Path.{◌≡◌, refl, sym, ◌∙◌, ap}
@@ -12,16 +12,15 @@ use borrow.Author.Tests.{ltb-true, ltb-false}
 use Rattle.rules.specs.declared.Line.{Line}
 use Rattle.section.specs.Bytes.{byte}
 use Rattle.section.specs.Crossings.{lies_in, lacks_zones}
-use Rattle.section.specs.Geometry.{block}
 use Rattle.section.specs.Numbers.{most_crossings, unused}
 use Rattle.section.proofs.Laws.{and_left}
 use Rattle.rules.specs.declared.Site.{Site}
-use Rattle.rules.specs.Line.{is_open}
-use Rattle.rules.specs.Site.{any_of, reach, up_at, rank_at, open_at, lies_ahead, crossing_ahead, zones_lack_ahead}
+use Rattle.rules.specs.Site.{any_of, at_receiving_end, block_ahead, crossing_ahead, zones_lack_ahead}
+use Rattle.rules.proofs.AllOpen.{all_open_as_before}
 use Rattle.site.specs.UnusedLast.{UnusedLast}
 use Rattle.crossings.specs.declared.Sought.{Sought}
 use Rattle.crossings.specs.declared.Sought.TheVariants.{AnyCrossing, WithoutZones}
-use Rattle.crossings.specs.Crossings.{is_sought_crossing, sought_in, sought_ahead}
+use Rattle.crossings.specs.Crossings.{is_sought_crossing, sought_ahead}
 
 -- ## Two tests
 
@@ -91,61 +90,31 @@ any_implies test other l f zero h = h
 any_implies test other l f (suc m) h =
     or_implies (test (byte l m)) (any_of test m l) (other (byte l m)) (any_of other m l) (f (byte l m)) (any_implies test other l f m) h
 
--- where every rank that passes the one test passes the other
-reach_implies :
-    (ends test other : ℕ → Bool) → ((j : ℕ) → test j ≡ true → other j ≡ true) → (f j : ℕ) → reach ends test f j ≡ true
-    → reach ends other f j ≡ true
-unfolding reach
-reach_implies ends test other g zero j h = h
-reach_implies ends test other g (suc f) j h =
-    or_implies (test j) (not (ends (suc j)) && reach ends test f (suc j)) (other j) (not (ends (suc j)) && reach ends other f (suc j)) (g j)
-    (and_implies (not (ends (suc j))) (reach ends test f (suc j)) (reach ends other f (suc j)) (reach_implies ends test other g f (suc j))) h
-
-reach_none : (ends test : ℕ → Bool) → ((j : ℕ) → test j ≡ false) → (f j : ℕ) → reach ends test f j ≡ false
-unfolding reach
-reach_none ends test g zero j = refl
-reach_none ends test g (suc f) j =
-    or-false (test j) (not (ends (suc j)) && reach ends test f (suc j)) (g j)
-    (and_second (not (ends (suc j))) (reach ends test f (suc j)) (reach_none ends test g f (suc j)))
-
-module _ (c : Line) (e : Site) where
+-- every post is in service, so what lies ahead lies in the block section ahead
+module _ (c : Line) (e : Site) (below : e.post < c.posts) where
   pub crossing_sought : sought_ahead c e AnyCrossing ≡ crossing_ahead c e
-  unfolding sought_ahead crossing_ahead
-  crossing_sought = refl
+  unfolding sought_ahead
+  crossing_sought = sym (all_open_as_before c e below).crossings
 
   pub zones_sought : sought_ahead c e WithoutZones ≡ zones_lack_ahead c e
-  unfolding sought_ahead zones_lack_ahead
-  zones_sought = refl
+  unfolding sought_ahead
+  zones_sought = sym (all_open_as_before c e below).zones
 
-  abbrev ends : ℕ → Bool
-  ends = open_at c e.track e.cvt
+-- where one without zones lies ahead, a crossing does
+pub zones_lack_there : (c : Line) (e : Site) → sought_ahead c e WithoutZones ≡ true → sought_ahead c e AnyCrossing ≡ true
+unfolding sought_ahead
+zones_lack_there c e h =
+    let i = block_ahead c e in
+    and_implies (not (at_receiving_end c e)) (any_of (is_sought_crossing WithoutZones i) most_crossings c.crossings)
+    (any_of (lies_in i) most_crossings c.crossings)
+    (any_implies (is_sought_crossing WithoutZones i) (lies_in i) c.crossings (λ b. and_left (lies_in i b) (lacks_zones b)) most_crossings) h
 
-  abbrev found : Sought → ℕ → Bool
-  found sought j = sought_in c sought (block c.posts (up_at c e) j)
-
-  abbrev ranks : ℕ
-  ranks = c.posts - suc (rank_at c e)
-
-  -- where one without zones lies ahead, a crossing does
-  pub zones_lack_there : sought_ahead c e WithoutZones ≡ true → sought_ahead c e AnyCrossing ≡ true
-  unfolding sought_ahead lies_ahead
-  zones_lack_there h =
-      and_implies (is_open c e.post) (reach ends (found WithoutZones) ranks (rank_at c e)) (reach ends (found AnyCrossing) ranks (rank_at c e))
-      (reach_implies ends (found WithoutZones) (found AnyCrossing) (λ j. there (block c.posts (up_at c e) j)) ranks (rank_at c e)) h
-    where
-      there : (i : ℕ) → sought_in c WithoutZones i ≡ true → sought_in c AnyCrossing i ≡ true
-      there i =
-          any_implies (is_sought_crossing WithoutZones i) (lies_in i) c.crossings (λ b. and_left (lies_in i b) (lacks_zones b)) most_crossings
-
-  -- a line whose first byte is unused has none
-  pub none_ahead : UnusedLast c.crossings → byte c.crossings 0 ≡ unused → sought_ahead c e AnyCrossing ≡ false
-  unfolding sought_ahead lies_ahead
-  none_ahead last h =
-      and_second (is_open c e.post) (reach ends (found AnyCrossing) ranks (rank_at c e))
-      (reach_none ends (found AnyCrossing) (λ j. nowhere (block c.posts (up_at c e) j)) ranks (rank_at c e))
-    where
-      nowhere : (i : ℕ) → sought_in c AnyCrossing i ≡ false
-      nowhere i = none_ended (lies_in i) c.crossings last refl 0 (λ k b. absurd (not-suc-le-zero b)) h
+-- a line whose first byte is unused has none
+pub none_ahead : (c : Line) (e : Site) → UnusedLast c.crossings → byte c.crossings 0 ≡ unused → sought_ahead c e AnyCrossing ≡ false
+unfolding sought_ahead
+none_ahead c e last h =
+    and_second (not (at_receiving_end c e)) (any_of (lies_in (block_ahead c e)) most_crossings c.crossings)
+    (none_ended (lies_in (block_ahead c e)) c.crossings last refl 0 (λ k b. absurd (not-suc-le-zero b)) h)
 
 -- a crossing lies ahead, fault 4 stands, the running direction is CVT, one without zones lies ahead
 pub needed_by_fault : (crossing four cvt lack : Bool) → four ≡ true → crossing ≡ (crossing && (four || (cvt && lack)))

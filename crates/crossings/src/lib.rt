@@ -1,18 +1,16 @@
-// Level crossings ahead of a post, up to the next open one, and the caution form (E.S. 379) that a train needs there.
-ghost use Rattle.std.specs.Prelude.{◌≡◌, ◌<◌, ◌≤◌};
+// Level crossings in the block section ahead, and the caution form (E.S. 379) that a train needs there.
+ghost use Rattle.std.specs.Prelude.{◌≡◌};
 ghost use Rattle.section.specs.Crossings.{lies_in};
-ghost use Rattle.section.specs.Numbers.{most_crossings, most_posts};
+ghost use Rattle.section.specs.Numbers.{most_crossings};
 ghost use Rattle.rules.specs.Site.{any_of, crossing_ahead};
 ghost use Rattle.rules.specs.Table.{caution_needed, caution_held};
 ghost use Rattle.site.specs.OnTheLine.{OnTheLine};
 ghost use Rattle.site.specs.UnusedLast.{UnusedLast};
-ghost use Rattle.crossings.specs.Crossings.{is_sought_crossing, sought_from, sought_ahead};
+ghost use Rattle.crossings.specs.Crossings.{is_sought_crossing, sought_ahead};
 
 use rules::{Line, Site};
-use section::{Crossings, MOST_CROSSINGS, NO_ZONES, UNUSED, positions};
-use site::conditions::post_open;
-use site::open_posts::open_at;
-use site::place::rank_at;
+use section::{Crossings, MOST_CROSSINGS, NO_ZONES, UNUSED};
+use site::place::{at_receiving_end, block_ahead};
 
 // What is looked for: any crossing, or one without counter-direction announcing zones.
 #[derive(Drop)]
@@ -31,7 +29,7 @@ fn lies_in(block: usize, b: u8) -> bool
 }
 
 // The crossing of that byte lies in the block section, and is one that is looked for.
-fn is_sought_crossing(sought: Sought, block: usize, b: u8) -> bool
+fn is_sought(sought: Sought, block: usize, b: u8) -> bool
     ensures { result ≡ is_sought_crossing sought block b }
 {
     if !lies_in(block, b) {
@@ -54,7 +52,7 @@ fn any_crossing(crossings: Crossings, sought: Sought, block: usize) -> bool
         if b == UNUSED {
             return false;
         }
-        if is_sought_crossing(sought, block, b) {
+        if is_sought(sought, block, b) {
             return true;
         }
         i += 1;
@@ -62,39 +60,19 @@ fn any_crossing(crossings: Crossings, sought: Sought, block: usize) -> bool
     false
 }
 
-// One that is looked for lies between the post of rank `from` and the next open one.
-fn sought_from(c: Line, sought: Sought, up: bool, from: u8) -> bool
-    requires { (from < c.posts) × (c.posts ≤ most_posts) × (UnusedLast c.crossings) }
-    ensures { result ≡ sought_from c sought up from }
-{
-    let n = c.posts;
-    let crossings = c.crossings;
-    let mut j = from;
-    while j + 1 < n {
-        if any_crossing(crossings, sought, positions::block(n, up, j) as usize) {
-            return true;
-        }
-        j += 1;
-        if open_at(c, up, j) {
-            return false;
-        }
-    }
-    false
-}
-
-// One that is looked for lies ahead of the post; a closed post and the receiving end have none ahead.
+// One that is looked for lies in the block section ahead; the receiving end has none ahead.
 fn sought_ahead(c: Line, e: Site, sought: Sought) -> bool
     requires { OnTheLine c e }
     ensures { result ≡ sought_ahead c e sought }
 {
-    if !post_open(c, e) {
+    if at_receiving_end(c, e) {
         return false;
     }
-    let up = positions::is_upward(e.track, e.cvt);
-    sought_from(c, sought, up, rank_at(c, e))
+    let crossings = c.crossings;
+    any_crossing(crossings, sought, block_ahead(c, e))
 }
 
-// 12 of a caution form: a crossing lies ahead.
+// 12 of a caution form: a crossing lies in the block section ahead.
 pub fn crossing_ahead(c: Line, e: Site) -> bool
     requires { OnTheLine c e }
     ensures { result ≡ crossing_ahead c e }

@@ -8,9 +8,7 @@ ghost use Rattle.rules.specs.Judge.{judge};
 ghost use Rattle.section.specs.Store.{track_of};
 
 pub use indications::indications;
-use judging::both_tracks::judge_on_both;
 use judging::on_track::judge_on_track;
-use post_steps::closing::{beside, stands_on_both};
 pub use previews::{Previewed, preview};
 use section::{Answer, Decoded, Section, Track, Verdict};
 use site::line::line_of;
@@ -49,16 +47,11 @@ pub fn judge(s: Section, bytes: &[u8]) -> Answer
     let Decoded::Well(x) = d else {
         return refused(4, s);
     };
-    let step = x.step;
-    if stands_on_both(step) {
-        return judge_on_both(s, step);
-    }
-    let closed = s.closed;
-    let line = line_of(c, closed);
+    let line = line_of(c);
     let track = x.track;
     let own = track_of(s, track);
     let other = track_of(s, !track);
-    let answer = judge_on_track(line, x, own, beside(running_of(other)));
+    let answer = judge_on_track(line, x, own, running_of(other));
     let verdict = answer.verdict;
     let after = answer.track;
     // Put together in each branch: one that is put together after them is copied once more.
@@ -68,7 +61,6 @@ pub fn judge(s: Section, bytes: &[u8]) -> Answer
             verdict: verdict,
             section: Section {
                 settings: c,
-                closed: closed,
                 a: a,
                 b: after,
             },
@@ -79,7 +71,6 @@ pub fn judge(s: Section, bytes: &[u8]) -> Answer
         verdict: verdict,
         section: Section {
             settings: c,
-            closed: closed,
             a: after,
             b: b,
         },

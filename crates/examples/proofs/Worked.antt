@@ -22,7 +22,7 @@ use Rattle.listing.specs.Listing.{listing}
 use Rattle.listing.specs.Panel.{panel}
 use Rattle.examples.specs.Worked.{settings, steps, day, worked_listing, worked_panel, listing_of_nothing}
 
-unfoldable pub listing_of : List ℕ → List ℕ
+unfoldable listing_of : List ℕ → List ℕ
 unfolding refused_line header verdict_fields fields step_line section_before answer_to lines printed_read printed listing first_texts word letter track_letter
     decimal_digits decimal
     refusals fresh said_by read_of read_verdict refusal_number refusal_index told if_done length_wrong length_suits trailer_fits trailer_well_formed has_mark mark_of

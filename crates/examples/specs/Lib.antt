@@ -3,4 +3,3 @@ pub mod Annex5
 pub mod Worked
 pub mod Marked
 pub mod CrossingFiles
-pub mod Sunday

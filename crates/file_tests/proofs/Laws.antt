@@ -16,7 +16,6 @@ use Rattle.layout.specs.Layout.{most_steps, settings_length, settings_distance, 
 use Rattle.layout.proofs.Parts.{steps_length}
 use Rattle.file_tests.specs.Tests.{length_suits, trailer_well_formed, trailer_fits, zeros_well_formed, settings_well_formed}
 use Rattle.file_tests.specs.Tests.{leading, well_at, first_malformed, some_malformed}
-use Rattle.file_tests.specs.FirstMalformed.{FirstMalformedIs}
 
 -- ## Tests passed one after another
 
@@ -76,45 +75,21 @@ leading_is t (suc m) (suc r) h below at =
     (ap suc
     (leading_is (λ (k : ℕ). t (suc k)) m r (omega arith) (λ k q. below (suc k) (omega arith)) (λ q. at (omega arith))))
 
--- all before it pass
-pub passes_before : (t : ℕ → Bool) (m k : ℕ) → k < leading t m → t k ≡ true
-unfolding leading
-passes_before t zero k h = absurd (not-suc-le-zero h)
-passes_before t (suc m) k h = go (t 0) refl k h (passes_before (λ (j : ℕ). t (suc j)) m)
-  where
-    go :
-        (b : Bool) → t 0 ≡ b → (k : ℕ) → k < cond b (suc (leading (λ (j : ℕ). t (suc j)) m)) 0 →
-        ((j : ℕ) → j < leading (λ (j : ℕ). t (suc j)) m → t (suc j) ≡ true) → t k ≡ true
-    go false e k h later = absurd (not-suc-le-zero h)
-    go true e zero h later = e
-    go true e (suc k) h later = later k (omega arith)
-
--- and it fails, unless it is m
-pub fails_there : (t : ℕ → Bool) (m : ℕ) → leading t m < m → t (leading t m) ≡ false
-unfolding leading
-fails_there t zero h = absurd (not-suc-le-zero h)
-fails_there t (suc m) h = go (t 0) refl h (fails_there (λ (j : ℕ). t (suc j)) m)
-  where
-    go :
-        (b : Bool) → t 0 ≡ b → cond b (suc (leading (λ (j : ℕ). t (suc j)) m)) 0 < suc m →
-        (leading (λ (j : ℕ). t (suc j)) m < m → t (suc (leading (λ (j : ℕ). t (suc j)) m)) ≡ false) →
-        t (cond b (suc (leading (λ (j : ℕ). t (suc j)) m)) 0) ≡ false
-    go false e h later = e
-    go true e h later = later (omega arith)
-
 -- where none of the first m fails, all pass
 pub all_pass : (t : ℕ → Bool) (m : ℕ) → m ≤ leading t m → (k : ℕ) → k < m → t k ≡ true
-all_pass t m h k q = passes_before t m k (omega arith)
+unfolding leading
+all_pass t zero h = λ k q. absurd (not-suc-le-zero q)
+all_pass t (suc m) h = go (t 0) refl h (all_pass (λ (j : ℕ). t (suc j)) m)
+  where
+    go :
+        (b : Bool) → t 0 ≡ b → suc m ≤ cond b (suc (leading (λ (j : ℕ). t (suc j)) m)) 0 →
+        (m ≤ leading (λ (j : ℕ). t (suc j)) m → (k : ℕ) → k < m → t (suc k) ≡ true) →
+        (k : ℕ) → k < suc m → t k ≡ true
+    go false e h later k q = absurd (not-suc-le-zero h)
+    go true e h later zero q = e
+    go true e h later (suc k) q = later (omega arith) k (omega arith)
 
 -- ## Steps
-
--- the index of the first malformed step, in plain words
-pub first_malformed_is : (n : ℕ) (steps : List ℕ) → FirstMalformedIs n steps (first_malformed n steps)
-unfolding first_malformed
-first_malformed_is n steps = record {
-  before = passes_before (well_at n steps) (step_count steps);
-  there = fails_there (well_at n steps) (step_count steps);
-}
 
 -- what a test said of the bytes of a step is said of the step
 pub well_here : (n : ℕ) (s part : List ℕ) {v : Bool} (i : ℕ) → part ≡ step_at s i → well_formed n part ≡ v → well_at n s i ≡ v

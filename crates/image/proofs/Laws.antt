@@ -6,25 +6,23 @@ use mathlib.Core.List.{List, [], ◌∷◌, ◌++◌, append-nil}
 use mathlib.Core.Path.{◌≡◌, refl, ap, ◌∙◌}
 use native.Mathlib.Omega.{arith}
 use lib.ListN.{length, drop, get_or, length-append, drop_of_length-le}
-use lib.Dec.{eqb, leb}
+use lib.Dec.{eqb}
 use borrow.Author.Tests.{eqb-true}
 use Rattle.section.specs.declared.Post.{Post}
 use Rattle.section.specs.declared.Section.{Section}
 use Rattle.section.specs.declared.Track.{Track}
 use Rattle.section.specs.declared.Walk.{Walk}
 use Rattle.section.specs.declared.Walk.TheVariants.{Settled, Turn}
-use Rattle.section.specs.Bytes.{byte, truth_number}
 use Rattle.section.specs.Numbers.{most_posts, most_blocks}
 use Rattle.section.specs.Post.{blank}
-use Rattle.section.specs.Store.{is_closed}
 use Rattle.section.proofs.Laws.{and_parts}
 use Rattle.section.proofs.Tests.{stops, goes_on}
 use Rattle.layout.specs.Layout.{le16_bytes, settings_bytes}
 use Rattle.text.specs.Text.{written}
 use Rattle.text.proofs.Laws.{first_texts_whole}
-use Rattle.image.specs.Image.{number_length, post_length, head_length, track_length, settings_zeros, closed_place, track_a, track_b, image_length}
-use Rattle.image.specs.Image.{layout_number, post_image, posts_image, numbers_image, walk_image, track_head, track_image, image_head, closed_image}
-use Rattle.image.specs.Image.{image_of, number_at, post_well_formed, posts_well_formed, track_well_formed, closed_well_formed, image_well_formed}
+use Rattle.image.specs.Image.{number_length, post_length, head_length, track_length, settings_zeros, track_a, track_b, image_length, layout_number}
+use Rattle.image.specs.Image.{post_image, posts_image, numbers_image, walk_image, track_head, track_image, image_head, image_of}
+use Rattle.image.specs.Image.{number_at, post_well_formed, posts_well_formed, track_well_formed, image_well_formed}
 
 -- ## Lengths
 
@@ -44,11 +42,7 @@ pub numbers_length_lem : (m : ℕ) (l : List ℕ) → length (numbers_image m l)
 unfolding numbers_image
 numbers_length_lem m l = omega (arith, first_texts_whole (λ (i : ℕ). le16_bytes (get_or l i 0)) number_length m (λ i. le16_length (get_or l i 0)))
 
-pub closed_length : (m : ℕ) (closed : List Bool) → length (closed_image m closed) ≡ m
-unfolding closed_image
-closed_length m closed = omega (arith, first_texts_whole (λ (p : ℕ). truth_number (is_closed closed p) ∷ []) 1 m (λ p. refl))
-
-pub image_head_length : (s : Section) → length (image_head s) ≡ closed_place
+pub image_head_length : (s : Section) → length (image_head s) ≡ track_a
 unfolding image_head settings_bytes le16_bytes
 image_head_length s = refl
 
@@ -69,11 +63,9 @@ track_length_lem t =
 
 pub image_length_lem : (s : Section) → length (image_of s) ≡ image_length
 unfolding image_of
-image_length_lem s =
-    simp length-append
-    (omega (arith, image_head_length s, closed_length most_posts s.closed, track_length_lem s.a, track_length_lem s.b))
+image_length_lem s = simp length-append (omega (arith, image_head_length s, track_length_lem s.a, track_length_lem s.b))
 
--- ## Tests that go from the last post down
+-- ## A test that goes from the last post down
 
 module _ (l : List ℕ) (at : ℕ) where
   abbrev post_test : ℕ → Bool
@@ -87,17 +79,6 @@ module _ (l : List ℕ) (at : ℕ) where
   unfolding posts_well_formed
   posts_go_on = goes_on post_test (posts_well_formed l at) (λ i. refl)
 
-  abbrev closed_test : ℕ → Bool
-  closed_test p = leb (byte l (at + p)) 1
-
-  pub closed_stop : (p : ℕ) → 0 < p → closed_test (p - 1) ≡ false → closed_well_formed l at p ≡ false
-  unfolding closed_well_formed
-  closed_stop = stops closed_test (closed_well_formed l at) (λ p. refl)
-
-  pub closed_go_on : (p : ℕ) → 0 < p → closed_test (p - 1) ≡ true → closed_well_formed l at p ≡ closed_well_formed l at (p - 1)
-  unfolding closed_well_formed
-  closed_go_on = goes_on closed_test (closed_well_formed l at) (λ p. refl)
-
 -- ## A well-formed image is as long as what is written
 
 -- what the tests of an image say
@@ -105,7 +86,6 @@ pub record ImageTested (l : List ℕ) : Type 0 where
   pub right_length : length l ≡ image_length
   pub right_layout : number_at l 0 ≡ layout_number
   pub zeros : number_at l settings_zeros ≡ 0
-  pub closed_well_formed_lem : closed_well_formed l closed_place most_posts ≡ true
   pub a_well_formed : track_well_formed l track_a ≡ true
   pub b_well_formed : track_well_formed l track_b ≡ true
 
@@ -113,18 +93,15 @@ pub image_tested : (l : List ℕ) → image_well_formed l ≡ true → ImageTest
 unfolding image_well_formed
 image_tested l e =
     let tracks = track_well_formed l track_a && track_well_formed l track_b in
-    let closed = closed_well_formed l closed_place most_posts && tracks in
-    let settings = eqb (number_at l settings_zeros) 0 && closed in
+    let settings = eqb (number_at l settings_zeros) 0 && tracks in
     let length-first = and_parts (eqb (length l) image_length) (eqb (number_at l 0) layout_number && settings) e in
     let layout-next = and_parts (eqb (number_at l 0) layout_number) settings length-first.1 in
-    let zeros-next = and_parts (eqb (number_at l settings_zeros) 0) closed layout-next.1 in
-    let closed-next = and_parts (closed_well_formed l closed_place most_posts) tracks zeros-next.1 in
-    let tracks-last = and_parts (track_well_formed l track_a) (track_well_formed l track_b) closed-next.1 in
+    let zeros-next = and_parts (eqb (number_at l settings_zeros) 0) tracks layout-next.1 in
+    let tracks-last = and_parts (track_well_formed l track_a) (track_well_formed l track_b) zeros-next.1 in
     record {
       right_length = eqb-true (length l) image_length length-first.0;
       right_layout = eqb-true (number_at l 0) layout_number layout-next.0;
       zeros = eqb-true (number_at l settings_zeros) 0 zeros-next.0;
-      closed_well_formed_lem = closed-next.0;
       a_well_formed = tracks-last.0;
       b_well_formed = tracks-last.1;
     }

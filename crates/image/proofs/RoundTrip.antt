@@ -17,20 +17,19 @@ use Rattle.section.specs.declared.Walk.TheVariants.{Settled, Turn}
 use Rattle.section.specs.Bytes.{byte, le16, truth_number}
 use Rattle.section.specs.Numbers.{most_posts, most_blocks, most_crossings}
 use Rattle.section.specs.Post.{blank}
-use Rattle.section.specs.Store.{is_closed}
 use Rattle.layout.specs.Layout.{longest_settings, le16_bytes, settings_bytes, settings_of}
 use Rattle.layout.proofs.Numbers.{le16_number, listed}
 use Rattle.section.proofs.StepLaws.{truth_same}
 use Rattle.image.specs.Image.{number_length, post_length, posts_length, numbers_length, head_length}
-use Rattle.image.specs.Image.{settings_place, settings_zeros, closed_place, track_a, track_b, image_length, layout_number}
-use Rattle.image.specs.Image.{faults_byte, post_image, posts_image, numbers_image, act_number, walk_image, track_head, track_image, image_head}
-use Rattle.image.specs.Image.{closed_image, image_of, number_at, post_at, posts_from, numbers_from, walk_of, track_from, closed_from, section_of}
-use Rattle.image.specs.Image.{post_well_formed, posts_well_formed, walk_well_formed, track_well_formed, closed_well_formed, image_well_formed}
+use Rattle.image.specs.Image.{settings_place, settings_zeros, track_a, track_b, image_length, layout_number}
+use Rattle.image.specs.Image.{faults_byte, post_image, posts_image, numbers_image, act_number, walk_image, track_head, track_image, image_head, image_of}
+use Rattle.image.specs.Image.{number_at, post_at, posts_from, numbers_from, walk_of, track_from, section_of}
+use Rattle.image.specs.Image.{post_well_formed, posts_well_formed, walk_well_formed, track_well_formed, image_well_formed}
 use Rattle.image.specs.RoundTrip.{Small, TrackHeld, SectionHeld, ReadsBack}
 use Rattle.section.proofs.Items.{same_items, first_items}
 use Rattle.image.proofs.Items.{each}
 use Rattle.image.proofs.Laws.{post_length_lem, le16_length, posts_length_lem, numbers_length_lem, head_length_lem, track_length_lem}
-use Rattle.image.proofs.Laws.{closed_length, image_head_length, image_length_lem}
+use Rattle.image.proofs.Laws.{image_head_length, image_length_lem}
 
 -- ## Flags
 
@@ -291,41 +290,9 @@ module _ (front : List ℕ) {at : ℕ} (here : length front ≡ at) (rest : List
         zero_behind_walk t.walk (posts ++ (trains ++ last)) rest,
       )
 
--- ## The closed posts
-
-all_closed_well_formed : (l : List ℕ) (at m : ℕ) → ((p : ℕ) → p < m → leb (byte l (at + p)) 1 ≡ true) → closed_well_formed l at m ≡ true
-unfolding closed_well_formed
-all_closed_well_formed l at zero h = refl
-all_closed_well_formed l at (suc m) h = rw (h m (omega arith), all_closed_well_formed l at m (λ p k. h p (omega (arith, k))))
-
-module _ (front : List ℕ) {at : ℕ} (here : length front ≡ at) (closed : List Bool) (m : ℕ) (rest : List ℕ) where
-  abbrev all_bytes : List ℕ
-  all_bytes = front ++ (closed_image m closed ++ rest)
-
-  -- byte p says whether post p is closed
-  closed_byte : (p : ℕ) → p < m → byte all_bytes (at + p) ≡ truth_number (is_closed closed p)
-  unfolding closed_image
-  closed_byte =
-      each (λ (p : ℕ). truth_number (is_closed closed p) ∷ []) 1 (λ p. refl) front at here
-      (λ (p : ℕ) (k : List ℕ). byte k (at + p) ≡ truth_number (is_closed closed p))
-      (λ p before behind e. past_none before ((truth_number (is_closed closed p) ∷ []) ++ behind) (omega (arith, e))) m rest
-
-  closed_back : m ≤ length closed → closed_from all_bytes at m ≡ take m closed
-  unfolding closed_from
-  closed_back h =
-      same_items _ _ m (λ p k. flag_back (byte all_bytes (at + p)) (is_closed closed p) (closed_byte p k)) ∙ first_items false closed m h
-
-  closed_well_formed_lem : closed_well_formed all_bytes at m ≡ true
-  closed_well_formed_lem =
-      all_closed_well_formed all_bytes at m
-      (λ p k. ap (λ (x : ℕ). leb x 1) (closed_byte p k) ∙ truth_well_formed (is_closed closed p))
-
 -- ## A section
 
 module _ (s : Section) where
-  abbrev closed : List ℕ
-  closed = closed_image most_posts s.closed
-
   settings_back :
       Small s.settings.mask → Small s.settings.line → length s.settings.crossings ≡ most_crossings →
       settings_of (take longest_settings (drop settings_place (image_of s))) ≡ s.settings
@@ -333,49 +300,26 @@ module _ (s : Section) where
   settings_back m l k =
       rw (le16_number s.settings.mask m, le16_number s.settings.line l, ← listed most_crossings 0 s.settings.crossings k)
 
-  -- before track A, and before track B
-  abbrev before_a : List ℕ
-  before_a = image_head s ++ closed
-
-  abbrev before_b : List ℕ
-  before_b = before_a ++ track_image s.a
-
-  a_apart : image_of s ≡ before_a ++ (track_image s.a ++ track_image s.b)
+  b_apart : image_of s ≡ (image_head s ++ track_image s.a) ++ (track_image s.b ++ [])
   unfolding image_of
-  a_apart = simp append_assoc
+  b_apart = rw (append-nil (track_image s.b), append_assoc)
 
-  b_apart : image_of s ≡ before_b ++ (track_image s.b ++ [])
-  unfolding image_of
-  b_apart = rw (append-nil (track_image s.b)) (simp append_assoc)
-
-  at_a : length before_a ≡ track_a
-  at_a = simp length-append (omega (arith, image_head_length s, closed_length most_posts s.closed))
-
-  at_b : length before_b ≡ track_b
-  at_b = length-append before_a (track_image s.a) ∙ omega (arith, at_a, track_length_lem s.a)
+  at_b : length (image_head s ++ track_image s.a) ≡ track_b
+  at_b = length-append (image_head s) (track_image s.a) ∙ omega (arith, image_head_length s, track_length_lem s.a)
 
   a_back : TrackHeld s.a → track_from (image_of s) track_a ≡ s.a
-  a_back h = ap (λ (k : List ℕ). track_from k track_a) a_apart ∙ track_back before_a at_a (track_image s.b) s.a h
+  unfolding image_of
+  a_back h = track_back (image_head s) (image_head_length s) (track_image s.b) s.a h
 
   b_back : TrackHeld s.b → track_from (image_of s) track_b ≡ s.b
-  b_back h = ap (λ (k : List ℕ). track_from k track_b) b_apart ∙ track_back before_b at_b [] s.b h
+  b_back h = ap (λ (k : List ℕ). track_from k track_b) b_apart ∙ track_back (image_head s ++ track_image s.a) at_b [] s.b h
 
   a_well_formed : track_well_formed (image_of s) track_a ≡ true
-  a_well_formed = ap (λ (k : List ℕ). track_well_formed k track_a) a_apart ∙ track_well_formed_lem before_a at_a (track_image s.b) s.a
+  unfolding image_of
+  a_well_formed = track_well_formed_lem (image_head s) (image_head_length s) (track_image s.b) s.a
 
   b_well_formed : track_well_formed (image_of s) track_b ≡ true
-  b_well_formed = ap (λ (k : List ℕ). track_well_formed k track_b) b_apart ∙ track_well_formed_lem before_b at_b [] s.b
-
-  flags_back : length s.closed ≡ most_posts → closed_from (image_of s) closed_place most_posts ≡ s.closed
-  unfolding image_of
-  flags_back held =
-      closed_back (image_head s) (image_head_length s) s.closed most_posts (track_image s.a ++ track_image s.b) (omega (arith, held))
-      ∙ take_all most_posts s.closed (omega (arith, held))
-
-  flags_well_formed : closed_well_formed (image_of s) closed_place most_posts ≡ true
-  unfolding image_of
-  flags_well_formed =
-      closed_well_formed_lem (image_head s) (image_head_length s) s.closed most_posts (track_image s.a ++ track_image s.b)
+  b_well_formed = ap (λ (k : List ℕ). track_well_formed k track_b) b_apart ∙ track_well_formed_lem (image_head s ++ track_image s.a) at_b [] s.b
 
   layout_said : number_at (image_of s) 0 ≡ layout_number
   unfolding number_at image_of image_head le16_bytes le16
@@ -392,20 +336,13 @@ module _ (s : Section) where
         eq-eqb (length (image_of s)) image_length (image_length_lem s),
         eq-eqb (number_at (image_of s) 0) layout_number layout_said,
         eq-eqb (number_at (image_of s) settings_zeros) 0 settings_zeros_lem,
-        flags_well_formed,
         a_well_formed,
         b_well_formed,
       )
 
   section_back : SectionHeld s → section_of (image_of s) ≡ s
   unfolding section_of
-  section_back h =
-      rw (
-        settings_back h.mask_small h.line_small h.crossings_held,
-        flags_back h.closed_held,
-        a_back h.a_held,
-        b_back h.b_held,
-      )
+  section_back h = rw (settings_back h.mask_small h.line_small h.crossings_held, a_back h.a_held, b_back h.b_held)
 
 pub reads_back : ReadsBack
 reads_back s h = (image_well_formed_lem s, section_back s h)

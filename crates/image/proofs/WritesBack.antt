@@ -21,10 +21,10 @@ use Rattle.text.specs.Text.{first_texts}
 use Rattle.layout.specs.Layout.{longest_settings, le16_bytes, settings_bytes, settings_of}
 use Rattle.layout.proofs.Numbers.{le16_bytes_lem}
 use Rattle.image.specs.Image.{number_length, post_length, posts_length, numbers_length, head_length, track_length}
-use Rattle.image.specs.Image.{settings_place, closed_place, track_a, track_b, image_length}
-use Rattle.image.specs.Image.{faults_byte, post_image, posts_image, numbers_image, act_number, walk_image, track_head, track_image, image_head}
-use Rattle.image.specs.Image.{closed_image, image_of, number_at, post_at, posts_from, numbers_from, walk_of, track_from, closed_from, section_of}
-use Rattle.image.specs.Image.{post_well_formed, posts_well_formed, walk_well_formed, track_well_formed, closed_well_formed}
+use Rattle.image.specs.Image.{settings_place, track_a, track_b, image_length}
+use Rattle.image.specs.Image.{faults_byte, post_image, posts_image, numbers_image, act_number, walk_image, track_head, track_image, image_head, image_of}
+use Rattle.image.specs.Image.{number_at, post_at, posts_from, numbers_from, walk_of, track_from, section_of}
+use Rattle.image.specs.Image.{post_well_formed, posts_well_formed, walk_well_formed, track_well_formed}
 use Rattle.image.specs.RoundTrip.{WritesBack}
 use Rattle.image.proofs.Laws.{ImageTested, image_tested}
 
@@ -245,32 +245,6 @@ module _ (l : List ℕ) (at : ℕ) where
       )
       (parts_joined l at head_length (posts_length + (numbers_length + numbers_length)))
 
--- ## The closed posts
-
-each_closed : (l : List ℕ) (at m : ℕ) → closed_well_formed l at m ≡ true → (p : ℕ) → p < m → leb (byte l (at + p)) 1 ≡ true
-unfolding closed_well_formed
-each_closed l at zero e p h = absurd (not-suc-le-zero h)
-each_closed l at (suc m) e p h =
-    let parts = and_parts (leb (byte l (at + m)) 1) (closed_well_formed l at m) e in
-    below_more (λ (q : ℕ). leb (byte l (at + q)) 1 ≡ true) m (each_closed l at m parts.1) parts.0 p (rw add-one h)
-
-byte_part : (l : List ℕ) (at : ℕ) → at + 1 ≤ length l → byte l at ∷ [] ≡ part l at 1
-unfolding items
-byte_part l at h = let e : at + 0 ≡ at = omega arith in rw (listed_part l at 1 h, e)
-
-module _ (l : List ℕ) (at m : ℕ) where
-  closed_kept : at + m ≤ length l → closed_well_formed l at m ≡ true → closed_image m (closed_from l at m) ≡ part l at m
-  unfolding closed_image closed_from
-  closed_kept h e =
-      let whole : 1 * m ≡ m = omega arith in
-      items_joined _ 1 l at m
-      (λ p k.
-      let place : at + 1 * p ≡ at + p = omega arith in
-      ap (λ (x : Bool). truth_number x ∷ []) (item_at (λ (q : ℕ). eqb (byte l (at + q)) 1) false m p k)
-      ∙ ap (λ (x : ℕ). x ∷ []) (flag_kept (byte l (at + p)) (leb-true _ _ (each_closed l at m e p k)))
-      ∙ rw place (byte_part l (at + p) (omega arith)))
-      ∙ ap (part l at) whole
-
 -- ## An image
 
 module _ (l : List ℕ) (bytes : AllBytes l) (t : ImageTested l) where
@@ -288,7 +262,7 @@ module _ (l : List ℕ) (bytes : AllBytes l) (t : ImageTested l) where
         high,
       )
 
-  head_of_image_kept : image_head (section_of l) ≡ part l 0 closed_place
+  head_of_image_kept : image_head (section_of l) ≡ part l 0 track_a
   unfolding image_head section_of
   head_of_image_kept =
       let whole = t.right_length in
@@ -300,12 +274,10 @@ module _ (l : List ℕ) (bytes : AllBytes l) (t : ImageTested l) where
       let whole = t.right_length in
       rw (
         head_of_image_kept,
-        closed_kept l closed_place most_posts (omega arith) t.closed_well_formed_lem,
         track_kept l track_a bytes (omega arith) t.a_well_formed,
         track_kept l track_b bytes (omega arith) t.b_well_formed,
         parts_joined l track_a track_length track_length,
-        parts_joined l closed_place most_posts (track_length + track_length),
-        parts_joined l 0 closed_place (most_posts + (track_length + track_length)),
+        parts_joined l 0 track_a (track_length + track_length),
       )
       (take_all image_length l (omega arith))
 

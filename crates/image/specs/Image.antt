@@ -1,5 +1,5 @@
--- The image of a section, 482 bytes, little-endian: the layout's number, the settings with their crossings, which posts are closed, then track A and
--- track B. The layout may change with any delivery, and its number with it.
+-- The image of a section, 466 bytes, little-endian: the layout's number, the settings with their crossings, then track A and track B. The layout
+-- may change with any delivery, and its number with it.
 use Rattle.std.specs.Prelude.{ℕ, zero, suc, ◌+◌, ◌*◌, ◌/◌, ◌%◌, Bool, true, cond, ◌&&◌, List, [], ◌∷◌, ◌++◌, length, take, drop, get_or, eqb, leb}
 use Rattle.section.specs.declared.Act.{Act}
 use Rattle.section.specs.declared.Act.TheVariants.{Set, Announce, Acknowledge}
@@ -12,7 +12,6 @@ use Rattle.section.specs.Bytes.{byte, le16, truth_number}
 use Rattle.section.specs.Items.{items}
 use Rattle.section.specs.Numbers.{most_posts, most_blocks}
 use Rattle.section.specs.Post.{blank}
-use Rattle.section.specs.Store.{is_closed}
 use Rattle.text.specs.Text.{first_texts}
 use Rattle.layout.specs.Layout.{longest_settings, le16_bytes, settings_bytes, settings_of}
 
@@ -38,7 +37,7 @@ head_length = 4
 abbrev pub track_length : ℕ
 track_length = head_length + (posts_length + (numbers_length + numbers_length))
 
--- before the tracks: the layout's number, settings, closed posts
+-- before the tracks: the layout's number, settings
 abbrev pub settings_place : ℕ
 settings_place = number_length
 
@@ -46,22 +45,18 @@ settings_place = number_length
 abbrev pub settings_zeros : ℕ
 settings_zeros = settings_place + 6
 
-abbrev pub closed_place : ℕ
-closed_place = settings_place + longest_settings
-
--- one byte a post
 abbrev pub track_a : ℕ
-track_a = closed_place + most_posts
+track_a = settings_place + longest_settings
 
 abbrev pub track_b : ℕ
 track_b = track_a + track_length
 
--- 482
+-- 466
 abbrev pub image_length : ℕ
 image_length = track_a + (track_length + track_length)
 
 abbrev pub layout_number : ℕ
-layout_number = 3
+layout_number = 2
 
 -- ## What is written
 
@@ -104,12 +99,8 @@ track_image t = track_head t ++ (posts_image most_posts t.posts ++ (numbers_imag
 unfoldable pub image_head : Section → List ℕ
 image_head s = le16_bytes layout_number ++ settings_bytes s.settings
 
--- which of the first m posts are closed: 1 for closed, 0 for open
-unfoldable pub closed_image : ℕ → List Bool → List ℕ
-closed_image m closed = first_texts (λ (p : ℕ). truth_number (is_closed closed p) ∷ []) m
-
 unfoldable pub image_of : Section → List ℕ
-image_of s = image_head s ++ (closed_image most_posts s.closed ++ (track_image s.a ++ track_image s.b))
+image_of s = image_head s ++ (track_image s.a ++ track_image s.b)
 
 -- ## What is read
 
@@ -152,17 +143,8 @@ track_from l at = record {
   walk = walk_of (byte l (at + 1)) (byte l (at + 2));
 }
 
--- which of m posts are closed
-unfoldable pub closed_from : List ℕ → ℕ → ℕ → List Bool
-closed_from l at m = items (λ (p : ℕ). eqb (byte l (at + p)) 1) m
-
 unfoldable pub section_of : List ℕ → Section
-section_of l = record {
-  settings = settings_of (take longest_settings (drop settings_place l));
-  closed = closed_from l closed_place most_posts;
-  a = track_from l track_a;
-  b = track_from l track_b;
-}
+section_of l = record { settings = settings_of (take longest_settings (drop settings_place l)); a = track_from l track_a; b = track_from l track_b }
 
 -- ## Whether every byte stands for a value
 -- A byte that says nothing is zero. The settings' numbers and those of trains and seals may be any: the ranges are the engine's to test.
@@ -189,15 +171,9 @@ track_well_formed l at =
     && (walk_well_formed (byte l (at + 1)) (byte l (at + 2))
     && (eqb (byte l (at + 3)) 0 && posts_well_formed l (at + head_length) most_posts))
 
--- of the bytes that say which of m posts are closed
-unfoldable pub closed_well_formed : List ℕ → ℕ → ℕ → Bool
-closed_well_formed l at zero = true
-closed_well_formed l at (suc m) = leb (byte l (at + m)) 1 && closed_well_formed l at m
-
--- of this length and this layout; "bytes 6–7 zero" of the settings; the closed posts, past n − 1 too; and both tracks
+-- of this length and this layout; "bytes 6–7 zero" of the settings; and both tracks
 unfoldable pub image_well_formed : List ℕ → Bool
 image_well_formed l =
     eqb (length l) image_length
     && (eqb (number_at l 0) layout_number
-    && (eqb (number_at l settings_zeros) 0
-    && (closed_well_formed l closed_place most_posts && (track_well_formed l track_a && track_well_formed l track_b))))
+    && (eqb (number_at l settings_zeros) 0 && (track_well_formed l track_a && track_well_formed l track_b)))

@@ -25,7 +25,6 @@ pub record SectionHeld (s : Section) : Type 0 where
   pub mask_small : Small s.settings.mask
   pub line_small : Small s.settings.line
   pub crossings_held : length s.settings.crossings ≡ most_crossings
-  pub closed_held : length s.closed ≡ most_posts
   pub a_held : TrackHeld s.a
   pub b_held : TrackHeld s.b
 

@@ -1,4 +1,4 @@
-// The image of a section, 482 bytes: its layout, and whether every byte of it stands for a value.
+// The image of a section, 466 bytes: its layout, and whether every byte of it stands for a value.
 // The layout may change with any delivery, and its number with it: an image of another layout is not well formed.
 
 pub mod reader;
@@ -7,7 +7,7 @@ pub mod writer;
 ghost use Rattle.std.specs.Prelude.{◌≡◌, ◌+◌, ◌≤◌, length};
 ghost use Rattle.section.specs.Numbers.{most_posts};
 ghost use Rattle.image.specs.Image.{track_length, post_length, posts_length};
-ghost use Rattle.image.specs.Image.{post_well_formed, posts_well_formed, walk_well_formed, track_well_formed, closed_well_formed, image_well_formed};
+ghost use Rattle.image.specs.Image.{post_well_formed, posts_well_formed, walk_well_formed, track_well_formed, image_well_formed};
 
 use layout::LONGEST_SETTINGS;
 use section::{MOST_BLOCKS, MOST_POSTS};
@@ -29,17 +29,15 @@ pub const LAST_TRAINS: usize = TRAINS + NUMBER_LENGTH * MOST_BLOCKS;
 const TRACK_LENGTH: usize = LAST_TRAINS + NUMBER_LENGTH * MOST_BLOCKS;
 
 // The number of this layout, in an image's first two bytes.
-pub const LAYOUT_NUMBER: u16 = 3;
+pub const LAYOUT_NUMBER: u16 = 2;
 
-// Where the settings, the closed posts and each track stand in a section's image.
+// Where the settings and each track stand in a section's image.
 pub const SETTINGS: usize = NUMBER_LENGTH;
 
 // Bytes 6–7 of the settings, which are zero.
 const SETTINGS_ZEROS: usize = SETTINGS + 6;
 
-pub const CLOSED: usize = SETTINGS + LONGEST_SETTINGS;
-
-pub const TRACK_A: usize = CLOSED + POSTS_HELD;
+pub const TRACK_A: usize = SETTINGS + LONGEST_SETTINGS;
 
 pub const TRACK_B: usize = TRACK_A + TRACK_LENGTH;
 
@@ -110,22 +108,7 @@ fn track_well_formed(bytes: &[u8], at: usize) -> bool
     posts_well_formed(bytes, at + POSTS)
 }
 
-// Of the bytes that say which posts are closed, from the last one down.
-fn closed_well_formed(bytes: &[u8], at: usize) -> bool
-    requires { at + most_posts ≤ length bytes.now }
-    ensures { result ≡ closed_well_formed bytes.now at most_posts }
-{
-    let mut p = POSTS_HELD;
-    while p > 0 {
-        p -= 1;
-        if bytes[at + p] > 1 {
-            return false;
-        }
-    }
-    true
-}
-
-// Of this length and this layout, zero where the settings say nothing, the closed posts, and both tracks.
+// Of this length and this layout, zero where the settings say nothing, and both tracks.
 pub fn image_well_formed(bytes: &[u8]) -> bool
     ensures { result ≡ image_well_formed bytes.now }
 {
@@ -136,9 +119,6 @@ pub fn image_well_formed(bytes: &[u8]) -> bool
         return false;
     }
     if reader::number_at(bytes, SETTINGS_ZEROS) != 0 {
-        return false;
-    }
-    if !closed_well_formed(bytes, CLOSED) {
         return false;
     }
     if !track_well_formed(bytes, TRACK_A) {

@@ -2,13 +2,12 @@
 ghost use Rattle.std.specs.Prelude.{◌≡◌, ◌+◌, ◌≤◌, length};
 ghost use Rattle.section.specs.Numbers.{most_posts, most_blocks};
 ghost use Rattle.image.specs.Image.{image_length, track_length, post_length, posts_length, number_length, numbers_length};
-ghost use Rattle.image.specs.Image.{number_at, post_at, posts_from, numbers_from, walk_of, track_from, closed_from, section_of};
+ghost use Rattle.image.specs.Image.{number_at, post_at, posts_from, numbers_from, walk_of, track_from, section_of};
 
 use crate::{
-    CLOSED, LAST_TRAINS, NUMBER_LENGTH, POST_LENGTH, POSTS, POSTS_HELD, SETTINGS, TRACK_A, TRACK_B,
-    TRAINS,
+    LAST_TRAINS, NUMBER_LENGTH, POST_LENGTH, POSTS, POSTS_HELD, SETTINGS, TRACK_A, TRACK_B, TRAINS,
 };
-use section::{Act, ClosedPosts, Faults, MOST_BLOCKS, Post, Posts, Section, Track, Trains, Walk};
+use section::{Act, Faults, MOST_BLOCKS, Post, Posts, Section, Track, Trains, Walk};
 
 // Two bytes, the lower first.
 pub fn number_at(bytes: &[u8], at: usize) -> u16
@@ -90,27 +89,13 @@ fn track_from(bytes: &[u8], at: usize) -> Track
     }
 }
 
-fn closed_from(bytes: &[u8], at: usize) -> ClosedPosts
-    requires { at + most_posts ≤ length bytes.now }
-    ensures { result ≡ closed_from bytes.now at most_posts }
-{
-    let mut closed = [false; POSTS_HELD];
-    let mut p = 0;
-    while p < POSTS_HELD {
-        closed[p] = bytes[at + p] == 1;
-        p += 1;
-    }
-    closed
-}
-
 // The section that an image says.
 pub fn section_of(bytes: &[u8]) -> Section
     requires { image_length ≤ length bytes.now }
     ensures { result ≡ section_of bytes.now }
 {
     Section {
-        settings: layout::settings_of(&bytes[SETTINGS..CLOSED]),
-        closed: closed_from(bytes, CLOSED),
+        settings: layout::settings_of(&bytes[SETTINGS..TRACK_A]),
         a: track_from(bytes, TRACK_A),
         b: track_from(bytes, TRACK_B),
     }

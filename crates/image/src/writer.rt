@@ -3,12 +3,10 @@ ghost use Rattle.std.specs.Prelude.{◌≡◌, ◌+◌, ◌≤◌, length};
 ghost use Rattle.section.specs.Numbers.{most_posts, most_blocks};
 ghost use Rattle.text.specs.Text.{written};
 ghost use Rattle.image.specs.Image.{image_length, track_length, posts_length, numbers_length, faults_byte, post_image, posts_image};
-ghost use Rattle.image.specs.Image.{numbers_image, act_number, walk_image, track_head, track_image, closed_image, image_of};
+ghost use Rattle.image.specs.Image.{numbers_image, act_number, walk_image, track_head, track_image, image_of};
 
 use crate::{LAYOUT_NUMBER, POST_LENGTH, POSTS_HELD};
-use section::{
-    Act, ClosedPosts, MOST_BLOCKS, Post, Posts, Section, Track, Trains, Walk, truth_number,
-};
+use section::{Act, MOST_BLOCKS, Post, Posts, Section, Track, Trains, Walk, truth_number};
 
 fn faults_byte(o: Post) -> u8
     ensures { result ≡ faults_byte o }
@@ -110,20 +108,6 @@ fn put_track(buffer: &mut [u8], at: usize, t: Track) -> usize
     put_numbers(buffer, last_at, last)
 }
 
-fn put_closed(buffer: &mut [u8], at: usize, closed: ClosedPosts) -> usize
-    requires { at + most_posts ≤ length buffer.old }
-    ensures value { result ≡ at + most_posts }
-    ensures buffer_after { buffer.new ≡ written buffer.old at (closed_image most_posts closed) }
-{
-    let mut next = at;
-    let mut p = 0;
-    while p < POSTS_HELD {
-        next = text::put_byte(buffer, next, truth_number(closed[p]));
-        p += 1;
-    }
-    next
-}
-
 // Writes a section's image to the front of the buffer.
 pub fn put_image(buffer: &mut [u8], s: Section)
     requires { image_length ≤ length buffer.old }
@@ -132,9 +116,7 @@ pub fn put_image(buffer: &mut [u8], s: Section)
     let number = layout::writer::le16_bytes(LAYOUT_NUMBER);
     let settings = layout::writer::settings_bytes(s.settings);
     let settings_at = text::put_text(buffer, 0, &number);
-    let closed_at = text::put_text(buffer, settings_at, &settings);
-    let closed = s.closed;
-    let a = put_closed(buffer, closed_at, closed);
+    let a = text::put_text(buffer, settings_at, &settings);
     let b = put_track(buffer, a, s.a);
     put_track(buffer, b, s.b);
 }

@@ -1,5 +1,5 @@
 // The index of a post's state in the lamp table: eight bits.
-ghost use Rattle.std.specs.Prelude.{true, not, ◌&&◌, ◌≡◌, ◌+◌, ◌*◌, ◌≤◌, ltb};
+ghost use Rattle.std.specs.Prelude.{true, ◌≡◌, ◌+◌, ◌*◌, ◌≤◌};
 ghost use Rattle.section.specs.Numbers.{most_posts};
 ghost use Rattle.section.specs.Range.{walk_in_range};
 ghost use Rattle.section.specs.Bytes.{truth_number};
@@ -11,10 +11,8 @@ ghost use Rattle.site.specs.InItsRanges.{InItsRanges};
 use occupancy::part::watched_occupied;
 use rules::{Line, Site};
 use section::{Act, Post, Trains, Walk, positions, truth_number};
-use site::conditions::post_open;
 use site::ends::commands;
 use site::line::is_materialised;
-use site::open_posts::last_open;
 use site::place::rank_at;
 
 // How many posts, from the sending end on, have set in this reversal.
@@ -35,20 +33,7 @@ fn set_count(n: u8, up: bool, walk: Walk) -> u8
     }
 }
 
-// So many posts have set that the one of rank `before` is among them and the one of rank j is not.
-fn is_between(before: u8, j: u8, count: u8) -> bool
-    ensures { result ≡ (ltb before count && not (ltb j count)) }
-{
-    if before >= count {
-        return false;
-    }
-    if j < count {
-        return false;
-    }
-    true
-}
-
-// The last open post before has set in this reversal and this one, which is open, has not; the sending end has none before it.
+// The post before has set in this reversal and this one has not; the sending end has none before it.
 fn is_next(c: Line, e: Site) -> bool
     requires { InItsRanges c e }
     ensures { result ≡ is_next_to_set (open_at c e.track e.cvt) (set_count c.posts (up_at c e) e.walk) (rank_at c e) }
@@ -57,12 +42,8 @@ fn is_next(c: Line, e: Site) -> bool
     if j == 0 {
         return false;
     }
-    if !post_open(c, e) {
-        return false;
-    }
     let walk = e.walk;
-    let up = positions::is_upward(e.track, e.cvt);
-    is_between(last_open(c, up, j), j, set_count(c.posts, up, walk))
+    set_count(c.posts, positions::is_upward(e.track, e.cvt), walk) == j
 }
 
 // The part of the index by what the post's record keeps.

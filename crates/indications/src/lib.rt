@@ -17,7 +17,7 @@ ghost use Rattle.site.specs.InItsRanges.{InItsRanges};
 use index::index_at;
 use lamp_table::{LampTable, look_up};
 use rules::{Line, Site};
-use section::{ClosedPosts, Indications, Section, Settings, Track, Trains};
+use section::{Indications, Section, Settings, Track, Trains};
 use site::line::line_of;
 use site::running::{running_of, site};
 
@@ -40,22 +40,16 @@ fn read_at(table: &LampTable, c: Line, e: Site, trains: &Trains) -> Indications
 }
 
 // What a post of a track in its ranges shows.
-fn post_indications(
-    c: Settings,
-    closed: ClosedPosts,
-    track: bool,
-    post: u8,
-    t: Track,
-) -> Indications
+fn post_indications(c: Settings, track: bool, post: u8, t: Track) -> Indications
     requires { (settings_in_range c ≡ true) × (track_in_range c.posts track t ≡ true) × (post < c.posts) }
-    ensures { result ≡ shown (lamps_at (line_of c closed) (site_on track post t) t.trains) }
+    ensures { result ≡ shown (lamps_at (line_of c) (site_on track post t) t.trains) }
 {
     let at = post as usize;
     let own = t.posts[at];
     let trains = t.trains;
     let table = lamp_table::table();
     let e = site(track, post, own, running_of(t));
-    read_at(&table, line_of(c, closed), e, &trains)
+    read_at(&table, line_of(c), e, &trains)
 }
 
 fn all_dark() -> Indications
@@ -79,12 +73,11 @@ pub fn indications(s: Section, track: u8, post: u8) -> Indications
         return all_dark();
     }
     let c = s.settings;
-    let closed = s.closed;
     if post >= c.posts {
         return all_dark();
     }
     if track == 1 {
-        return post_indications(c, closed, true, post, s.b);
+        return post_indications(c, true, post, s.b);
     }
-    post_indications(c, closed, false, post, s.a)
+    post_indications(c, false, post, s.a)
 }

@@ -4,12 +4,11 @@ ghost use Rattle.section.specs.Items.{items};
 ghost use Rattle.section.specs.Numbers.{most_posts};
 ghost use Rattle.section.specs.Range.{in_range, track_in_range};
 ghost use Rattle.section.specs.Settings.{settings_in_range};
-ghost use Rattle.rules.specs.Line.{line_of};
 ghost use Rattle.rules.specs.Indications.{dark, track_indications};
 ghost use Rattle.indications.specs.OnTrack.{indications_at};
 
 use crate::{all_dark, lamp_table, read_at};
-use section::{ClosedPosts, Indications, MOST_POSTS, Section, Settings, Track};
+use section::{Indications, MOST_POSTS, Section, Settings, Track};
 use site::line::line_of;
 use site::running::{running_of, site};
 
@@ -17,12 +16,12 @@ use site::running::{running_of, site};
 pub type PostsShown = [Indications; MOST_POSTS as usize];
 
 // The posts of a track, those that it has not dark. Line and table are made once.
-fn posts_of(c: Settings, closed: ClosedPosts, track: bool, t: Track) -> PostsShown
+fn posts_of(c: Settings, track: bool, t: Track) -> PostsShown
     requires { (settings_in_range c ≡ true) × (track_in_range c.posts track t ≡ true) }
-    ensures { result ≡ items (indications_at (line_of c closed) track t) most_posts }
+    ensures { result ≡ items (indications_at c track t) most_posts }
 {
     let table = lamp_table::table();
-    let line = line_of(c, closed);
+    let line = line_of(c);
     let trains = t.trains;
     let running = running_of(t);
     let mut filled = all_posts_dark();
@@ -52,11 +51,10 @@ pub fn track_indications(s: Section, track: u8) -> PostsShown
         return all_posts_dark();
     }
     let c = s.settings;
-    let closed = s.closed;
     if track == 1 {
         let b = s.b;
-        return posts_of(c, closed, true, b);
+        return posts_of(c, true, b);
     }
     let a = s.a;
-    posts_of(c, closed, false, a)
+    posts_of(c, false, a)
 }

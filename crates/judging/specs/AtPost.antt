@@ -1,5 +1,4 @@
--- A step judged at its site, over the cells of its track and what it asks of the other track: an accepted step leaves its effect, a refused one
--- all as it was.
+-- A step judged at its site, over the cells of its track: an accepted step leaves its effect, a refused one all as it was.
 use Rattle.std.specs.Prelude.{ℕ, Bool, true, false, List, set}
 use Rattle.rules.specs.declared.Line.{Line}
 use Rattle.section.specs.declared.Step.{Step}
@@ -7,7 +6,6 @@ use Rattle.section.specs.declared.Track.{Track}
 use Rattle.section.specs.declared.Verdict.{Verdict}
 use Rattle.section.specs.declared.Verdict.TheVariants as verdict
 use Rattle.rules.specs.declared.Site.{Site}
-use Rattle.rules.specs.Site.{Other}
 use Rattle.site.specs.declared.ruling.Ruling.{Ruling}
 use Rattle.site.specs.declared.ruling.Ruling.TheVariants.{Refused, Accepted}
 use Rattle.site.specs.Ruling.{ruling_at, cells_ruled}
@@ -21,22 +19,22 @@ unfoldable pub judged_of : Ruling → Site → PostAnswer
 judged_of (Accepted f) e = record { verdict = verdict.Accepted f.said; own = f.own; running = record { cvt = f.cvt; walk = f.walk } }
 judged_of (Refused k) e = as_before (verdict.Refused k) e
 
-module _ (c : Line) (other : Other) (x : Step) (e : Site) (trains last : List ℕ) where
+module _ (c : Line) (other_on_vns : Bool) (x : Step) (e : Site) (trains last : List ℕ) where
   unfoldable pub judged_at_post : PostAnswer
-  judged_at_post = judged_of (ruling_at c other x e trains last) e
+  judged_at_post = judged_of (ruling_at c other_on_vns x e trains last) e
 
   unfoldable pub trains_at : List ℕ
-  trains_at = cells_ruled c true (ruling_at c other x e trains last) e trains
+  trains_at = cells_ruled c true (ruling_at c other_on_vns x e trains last) e trains
 
   unfoldable pub last_at : List ℕ
-  last_at = cells_ruled c false (ruling_at c other x e trains last) e last
+  last_at = cells_ruled c false (ruling_at c other_on_vns x e trains last) e last
 
 -- the track with what a step judged at its site leaves in its places
-unfoldable pub track_at : Line → Other → Step → Site → Track → Track
-track_at c other x e t = record {
-  posts = set t.posts e.post (judged_at_post c other x e t.trains t.last).own;
-  trains = trains_at c other x e t.trains t.last;
-  last = last_at c other x e t.trains t.last;
-  cvt = (judged_at_post c other x e t.trains t.last).running.cvt;
-  walk = (judged_at_post c other x e t.trains t.last).running.walk;
+unfoldable pub track_at : Line → Bool → Step → Site → Track → Track
+track_at c other_on_vns x e t = record {
+  posts = set t.posts e.post (judged_at_post c other_on_vns x e t.trains t.last).own;
+  trains = trains_at c other_on_vns x e t.trains t.last;
+  last = last_at c other_on_vns x e t.trains t.last;
+  cvt = (judged_at_post c other_on_vns x e t.trains t.last).running.cvt;
+  walk = (judged_at_post c other_on_vns x e t.trains t.last).running.walk;
 }

@@ -2,12 +2,10 @@
 ghost use Rattle.std.specs.Prelude.{◌≡◌};
 ghost use Rattle.section.specs.Step.{post_of};
 ghost use Rattle.site.specs.InItsRanges.{InItsRanges};
-ghost use Rattle.site.specs.Running.{site_with};
-ghost use Rattle.post_steps.specs.OtherTrack.{other_of};
+ghost use Rattle.site.specs.Running.{on_vns, site_with};
 ghost use Rattle.judging.specs.AtPost.{as_before, judged_at_post, trains_at, last_at};
 
 use crate::table::rule;
-use post_steps::closing::OtherTrack;
 use rules::{Line, Site};
 use section::{Post, Step, TrackStep, Trains, Verdict};
 use site::ruling::Ruling;
@@ -43,16 +41,16 @@ fn judge_at(
     c: Line,
     x: Step,
     e: Site,
-    other: OtherTrack,
+    other_on_vns: bool,
     trains: &mut Trains,
     last: &mut Trains,
 ) -> PostAnswer
     requires { InItsRanges c e }
-    ensures value { result ≡ judged_at_post c (other_of other) x e trains.old last.old }
-    ensures trains_after { trains.new ≡ trains_at c (other_of other) x e trains.old last.old }
-    ensures last_after { last.new ≡ last_at c (other_of other) x e trains.old last.old }
+    ensures value { result ≡ judged_at_post c other_on_vns x e trains.old last.old }
+    ensures trains_after { trains.new ≡ trains_at c other_on_vns x e trains.old last.old }
+    ensures last_after { last.new ≡ last_at c other_on_vns x e trains.old last.old }
 {
-    let ruling = rule(c, x, e, other, trains, last);
+    let ruling = rule(c, x, e, other_on_vns, trains, last);
     match ruling {
         Ruling::Accepted(f) => {
             let own = f.own;
@@ -71,22 +69,22 @@ fn judge_at(
     }
 }
 
-// Judges a step at its post, which keeps that record, on a track that runs so, beside the other.
+// Judges a step at its post, which keeps that record, on a track that runs so beside the other.
 pub fn judge_at_post(
     c: Line,
     x: TrackStep,
     own: Post,
     running: Running,
-    other: OtherTrack,
+    other: Running,
     trains: &mut Trains,
     last: &mut Trains,
 ) -> PostAnswer
     requires { InItsRanges c (site_with x.track (post_of x.step) own running) }
-    ensures value { result ≡ judged_at_post c (other_of other) x.step (site_with x.track (post_of x.step) own running) trains.old last.old }
-    ensures trains_after { trains.new ≡ trains_at c (other_of other) x.step (site_with x.track (post_of x.step) own running) trains.old last.old }
-    ensures last_after { last.new ≡ last_at c (other_of other) x.step (site_with x.track (post_of x.step) own running) trains.old last.old }
+    ensures value { result ≡ judged_at_post c (on_vns other) x.step (site_with x.track (post_of x.step) own running) trains.old last.old }
+    ensures trains_after { trains.new ≡ trains_at c (on_vns other) x.step (site_with x.track (post_of x.step) own running) trains.old last.old }
+    ensures last_after { last.new ≡ last_at c (on_vns other) x.step (site_with x.track (post_of x.step) own running) trains.old last.old }
 {
     let step = x.step;
     let e = running::site(x.track, running::post_of(step), own, running);
-    judge_at(c, step, e, other, trains, last)
+    judge_at(c, step, e, running::settled_on_vns(other), trains, last)
 }

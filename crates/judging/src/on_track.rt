@@ -3,14 +3,13 @@ ghost use Rattle.std.specs.Prelude.{◌≡◌};
 ghost use Rattle.section.specs.Step.{post_of};
 ghost use Rattle.rules.specs.Site.{site_on};
 ghost use Rattle.site.specs.InItsRanges.{InItsRanges};
-ghost use Rattle.post_steps.specs.OtherTrack.{other_of};
 ghost use Rattle.judging.specs.OnTrack.{judged_on_track};
 
 use crate::at_post;
-use post_steps::closing::OtherTrack;
 use rules::Line;
 use section::{Track, TrackStep, Verdict};
 use site::running;
+use site::running::Running;
 
 // A step's verdict, and its track after it.
 #[derive(Drop)]
@@ -19,10 +18,10 @@ pub struct TrackAnswer {
     pub track: Track,
 }
 
-// Judges a well-formed step on its own track, beside the other.
-pub fn judge_on_track(c: Line, x: TrackStep, t: Track, other: OtherTrack) -> TrackAnswer
+// Judges a well-formed step on its own track; of the other only the running direction and the walk count.
+pub fn judge_on_track(c: Line, x: TrackStep, t: Track, other: Running) -> TrackAnswer
     requires { InItsRanges c (site_on x.track (post_of x.step) t) }
-    ensures { result ≡ judged_on_track c x t (other_of other) }
+    ensures { result ≡ judged_on_track c x t other }
 {
     let running = running::running_of(t);
     let at = running::place_of(x);

@@ -1,4 +1,3 @@
 pub mod Laws
 pub mod Rows
-pub mod Closing
 pub mod Walk

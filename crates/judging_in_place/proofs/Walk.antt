@@ -14,8 +14,6 @@ use Rattle.section.specs.declared.Decoded.TheVariants.{Malformed}
 use Rattle.section.specs.Range.{in_range}
 use Rattle.section.specs.Step.{decoded}
 use Rattle.section.specs.Words.{track_letter}
-use Rattle.rules.specs.declared.Line.{Line}
-use Rattle.rules.specs.Line.{line_of, line_in}
 use Rattle.rules.specs.Judge.{judge_in_range}
 use Rattle.rules.proofs.RangeLaw.{judged_in_range}
 use Rattle.layout.specs.Layout.{step_at}
@@ -37,7 +35,6 @@ pub record Walked
     (steps : List ℕ)
     (count : ℕ)
     (lent : List ℕ)
-    (line : Line)
     (posts : List (List Post))
     (trains last : List (List ℕ))
     (running : List Running)
@@ -47,22 +44,20 @@ pub record Walked
   pub room : entry_length entries * count ≤ length lent
   pub same_length : length buffer ≡ length lent
   pub kept : buffer ≡ written lent 0 (first_texts (entry_on entries first steps) i)
-  pub as_it_stands : line ≡ line_of first.settings line.closed
-  pub before : section_in posts trains last running first.settings line.closed ≡ section_before first steps i
-  pub range : in_range (section_in posts trains last running first.settings line.closed) ≡ true
-  pub two : Two posts trains last running
+  pub before : section_in posts trains last running first.settings ≡ section_before first steps i
+  pub range : in_range (section_in posts trains last running first.settings) ≡ true
+  pub two : Two posts trains last running first.settings
 
 pub begins :
     (first : Section) (entries : Entries) (steps : List ℕ) (count : ℕ) (lent : List ℕ) → in_range first ≡ true
     → entry_length entries * count ≤ length lent
-    → Walked first entries steps count lent (line_in first) (posts_in first) (trains_in first) (last_in first) (running_in first) lent 0
+    → Walked first entries steps count lent (posts_in first) (trains_in first) (last_in first) (running_in first) lent 0
 unfolding section_before
 begins first entries steps count lent right room = record {
   within = omega arith;
   room = room;
   same_length = refl;
   kept = (none_put (entry_on entries first steps) lent 0).1;
-  as_it_stands = refl;
   before = refl;
   range = right;
   two = record { two_posts = refl; two_trains = refl; two_last = refl; two_running = refl };
@@ -74,29 +69,28 @@ module _
     {steps : List ℕ}
     {count : ℕ}
     {lent : List ℕ}
-    {line : Line}
     {posts : List (List Post)}
     {trains last : List (List ℕ)}
     {running : List Running}
     {buffer : List ℕ}
     {i : ℕ}
-    (w : Walked first entries steps count lent line posts trains last running buffer i) where
+    (w : Walked first entries steps count lent posts trains last running buffer i) where
   pub entry_fits : i < count → entry_length entries * i + entry_length entries ≤ length buffer
   entry_fits more = one_fits entries count i more (omega (arith, w.room, w.same_length))
 
   -- one step more
   pub goes_on :
-      (line' : Line) (posts' : List (List Post)) (trains' last' : List (List ℕ)) (running' : List Running) (v : Verdict) (buffer' : List ℕ)
-      → i < count → line' ≡ line_of first.settings line'.closed
-      → record { verdict = v; section = section_in posts' trains' last' running' first.settings line'.closed }
-      ≡ judge_in_range (section_in posts trains last running first.settings line.closed) (step_at steps i)
+      (posts' : List (List Post)) (trains' last' : List (List ℕ)) (running' : List Running) (v : Verdict) (buffer' : List ℕ)
+      → i < count
+      → record { verdict = v; section = section_in posts' trains' last' running' first.settings }
+      ≡ judge_in_range (section_in posts trains last running first.settings) (step_at steps i)
       → buffer' ≡ written buffer (i * entry_length entries) (entry_with entries v (letter_at running' 0) (letter_at running' 1))
-      → length buffer' ≡ length buffer → Two posts' trains' last' running'
-      → Walked first entries steps count lent line' posts' trains' last' running' buffer' (i + 1)
+      → length buffer' ≡ length buffer → Two posts' trains' last' running' first.settings
+      → Walked first entries steps count lent posts' trains' last' running' buffer' (i + 1)
   unfolding entry_of track_letter
-  goes_on line' posts' trains' last' running' v buffer' more stands told put stays two =
-      let s = section_in posts trains last running first.settings line.closed in
-      let after : Answer = record { verdict = v; section = section_in posts' trains' last' running' first.settings line'.closed } in
+  goes_on posts' trains' last' running' v buffer' more told put stays two =
+      let s = section_in posts trains last running first.settings in
+      let after : Answer = record { verdict = v; section = section_in posts' trains' last' running' first.settings } in
       let answer : after ≡ answer_to first steps i =
       answered first steps i s (step_at steps i) after w.before refl (judged_in_range s (step_at steps i) after w.range told) in
       record {
@@ -104,7 +98,6 @@ module _
         room = w.room;
         same_length = stays ∙ w.same_length;
         kept = entry_put entries first steps lent count i after more w.room w.kept answer put;
-        as_it_stands = stands;
         before = ap (λ (a : Answer). a.section) answer ∙ step_after first steps i;
         range = range_kept s (step_at steps i) after w.range told;
         two = two;
@@ -113,13 +106,13 @@ module _
   pub passes_over :
       i < count → decoded first.settings.posts (step_at steps i) ≡ Malformed → {buffer' : List ℕ}
       → buffer' ≡ written buffer (i * entry_length entries) (entry_with entries (Refused 4) (letter_at running 0) (letter_at running 1))
-      → length buffer' ≡ length buffer → Walked first entries steps count lent line posts trains last running buffer' (i + 1)
+      → length buffer' ≡ length buffer → Walked first entries steps count lent posts trains last running buffer' (i + 1)
   passes_over more bad put stays =
-      let s = section_in posts trains last running first.settings line.closed in
-      goes_on line posts trains last running (Refused 4) _ more w.as_it_stands (malformed s (step_at steps i) bad) put stays w.two
+      let s = section_in posts trains last running first.settings in
+      goes_on posts trains last running (Refused 4) _ more (malformed s (step_at steps i) bad) put stays w.two
 
   pub ends :
-      count ≤ i → {left : Section} → left ≡ section_in posts trains last running first.settings line.closed
+      count ≤ i → {left : Section} → left ≡ section_in posts trains last running first.settings
       → (left ≡ section_before first steps count) × (buffer ≡ written lent 0 (entries_of entries first steps count))
   unfolding entries_of
   ends done handed =

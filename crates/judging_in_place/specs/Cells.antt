@@ -49,5 +49,5 @@ module _ (posts : List (List Post)) (trains last : List (List ℕ)) (running : L
     walk = (get_or running k settled).walk;
   }
 
-  abbrev pub section_in : Settings → List Bool → Section
-  section_in c closed = record { settings = c; closed = closed; a = track_in 0; b = track_in 1 }
+  abbrev pub section_in : Settings → Section
+  section_in c = record { settings = c; a = track_in 0; b = track_in 1 }

@@ -1,11 +1,8 @@
 // The cells of the two tracks of a section, side by side, A before B.
 ghost use Rattle.std.specs.Prelude.{◌≡◌, ◌<◌};
 ghost use Rattle.judging_in_place.specs.Cells.{row, posts_in, trains_in, last_in, running_in, track_in, section_in};
-ghost use Rattle.rules.specs.Line.{line_in};
 
-use rules::Line;
-use section::{ClosedPosts, Posts, Section, Settings, Track, Trains};
-use site::line::line_of;
+use section::{Posts, Section, Settings, Track, Trains};
 use site::running::{Running, running_of};
 
 // The place of a track among the two.
@@ -13,15 +10,6 @@ pub fn row_of(track: bool) -> usize
     ensures { (result ≡ row track) × (result < 2) }
 {
     section::truth_number(track) as usize
-}
-
-// The line that its steps are judged on.
-pub fn line_in(s: Section) -> Line
-    ensures { result ≡ line_in s }
-{
-    let c = s.settings;
-    let closed = s.closed;
-    line_of(c, closed)
 }
 
 pub fn posts_in(s: Section) -> [Posts; 2]
@@ -79,19 +67,17 @@ fn track_in(posts: Posts, trains: Trains, last: Trains, running: Running) -> Tra
 // The section whose cells they are.
 pub fn section_in(
     c: Settings,
-    closed: ClosedPosts,
     posts: [Posts; 2],
     trains: [Trains; 2],
     last: [Trains; 2],
     running: [Running; 2],
 ) -> Section
-    ensures { result ≡ section_in posts trains last running c closed }
+    ensures { result ≡ section_in posts trains last running c }
 {
     let a = track_in(posts[0], trains[0], last[0], running[0]);
     let b = track_in(posts[1], trains[1], last[1], running[1]);
     Section {
         settings: c,
-        closed: closed,
         a: a,
         b: b,
     }

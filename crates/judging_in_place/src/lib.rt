@@ -1,30 +1,25 @@
 // Steps offered one after another to a section and judged in its cells: the one walk over steps. The cells of the two tracks stand side by side,
-// and a step changes them in their places; so nothing else of the section is copied between two steps. A closing or opening, rare, is judged on the
-// section, and the line is made anew.
+// and a step changes them in their places; so nothing else of the section is copied between two steps.
 
 mod cells;
 pub mod whole_day;
 
-ghost use Rattle.std.specs.Prelude.{true, false, ◌≡◌, ◌+◌, ◌*◌, ◌≤◌, ◌<◌, length};
+ghost use Rattle.std.specs.Prelude.{true, ◌≡◌, ◌+◌, ◌*◌, ◌≤◌, length};
 ghost use Rattle.section.specs.Numbers.{step_length};
 ghost use Rattle.section.specs.Range.{in_range};
-ghost use Rattle.section.specs.Step.{is_both_kind, kind_of, post_of};
 ghost use Rattle.section.specs.Words.{letter};
-ghost use Rattle.rules.specs.Judge.{judge_step};
 ghost use Rattle.text.specs.Text.{written};
 ghost use Rattle.notes.specs.Note.{note_length, note_with};
 ghost use Rattle.judging_in_place.specs.Offered.{section_before, AllWellFormed};
 ghost use Rattle.judging_in_place.specs.Entries.{entry_length, entry_with, entries_of};
-ghost use Rattle.judging_in_place.specs.Cells.{letter_at, section_in};
+ghost use Rattle.judging_in_place.specs.Cells.{letter_at};
 
-use crate::cells::{last_in, line_in, posts_in, row_of, running_in, section_in, trains_in};
+use crate::cells::{last_in, posts_in, row_of, running_in, section_in, trains_in};
 use judging::at_post::judge_at_post;
-use judging::both_tracks::judge_on_both;
 use layout::step_at;
 use notes::{ANSWER_LENGTH, NOTE_LENGTH, put_answer, put_note};
-use post_steps::closing::{beside, stands_on_both};
-use rules::Line;
-use section::{Answer, Decoded, Posts, Section, Settings, Step, Trains, Verdict, words};
+use section::{Decoded, Section, Verdict, words};
+use site::line::line_of;
 use site::running::{Running, place_of};
 
 // What is kept of the steps: their answers, or their notes.
@@ -63,23 +58,6 @@ fn put_entry(entries: Entries, buffer: &mut [u8], i: usize, verdict: Verdict, ru
     }
 }
 
-// Judges a closing or opening on the section whose cells they are.
-fn judge_both(
-    c: Settings,
-    line: Line,
-    posts: [Posts; 2],
-    trains: [Trains; 2],
-    last: [Trains; 2],
-    running: [Running; 2],
-    x: Step,
-) -> Answer
-    requires { (in_range (section_in posts trains last running c line.closed) ≡ true) × ((post_of x < c.posts) × (is_both_kind (kind_of x) ≡ true)) }
-    ensures { result ≡ judge_step (section_in posts trains last running c line.closed) (record { track = false; step = x }) }
-{
-    let closed = line.closed;
-    judge_on_both(section_in(c, closed, posts, trains, last, running), x)
-}
-
 // Judges the first so many steps, each on the section that the one before left, writes what is kept of each from the buffer's front on, and
 // hands the section back. Judging keeps the ranges, so they are not tested again; nor are steps that are known to be well formed.
 pub fn judge_steps(
@@ -96,7 +74,7 @@ pub fn judge_steps(
     ensures buffer_after { buffer.new ≡ written buffer.old 0 (entries_of entries s steps.now count) }
 {
     let c = s.settings;
-    let mut line = line_in(s);
+    let line = line_of(c);
     let mut posts = posts_in(s);
     let mut trains = trains_in(s);
     let mut last = last_in(s);
@@ -109,17 +87,6 @@ pub fn judge_steps(
             i += 1;
             continue;
         };
-        let step = x.step;
-        if stands_on_both(step) {
-            let answer = judge_both(c, line, posts, trains, last, running, step);
-            let verdict = answer.verdict;
-            let after = answer.section;
-            line = line_in(after);
-            posts = posts_in(after);
-            put_entry(entries, buffer, i, verdict, running);
-            i += 1;
-            continue;
-        }
         let k = row_of(x.track);
         let p = place_of(x);
         let judged = judge_at_post(
@@ -127,7 +94,7 @@ pub fn judge_steps(
             x,
             posts[k][p],
             running[k],
-            beside(running[1 - k]),
+            running[1 - k],
             &mut trains[k],
             &mut last[k],
         );
@@ -139,6 +106,5 @@ pub fn judge_steps(
         put_entry(entries, buffer, i, verdict, running);
         i += 1;
     }
-    let closed = line.closed;
-    section_in(c, closed, posts, trains, last, running)
+    section_in(c, posts, trains, last, running)
 }

@@ -12,7 +12,7 @@ use site::ends::commands;
 use site::line::is_materialised;
 use site::place::rank_at;
 
-// A train in it; it reaches to the next open post, on materialised lines to the next open signalled one.
+// A train in it; on materialised lines it reaches to the next signalled post.
 pub fn watched_occupied(c: Line, e: Site, trains: &Trains) -> bool
     requires { OnTheLine c e }
     ensures { result ≡ watched_occupied c e trains.now }

@@ -8,7 +8,7 @@ use rules::Line;
 use section::Trains;
 use site::ends::ends_at;
 
-// A train between the post of rank `from` and the next at which one ends: the next open signalled post, or the next open one of all.
+// A train between the post of rank `from` and the next at which one ends: the next signalled post, or the next of all.
 pub fn holds_from(c: Line, signalled_only: bool, up: bool, from: u8, trains: &Trains) -> bool
     requires { (from < c.posts) × (c.posts ≤ most_posts) }
     ensures { result ≡ holds_from c signalled_only up trains.now from }

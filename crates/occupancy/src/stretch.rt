@@ -10,7 +10,7 @@ use section::{Trains, positions};
 use site::ends::ends_at;
 use site::place::rank_at;
 
-// It reaches to the next open post, in CVT to the next open signalled one.
+// In CVT it reaches to the next signalled post.
 pub fn stretch_occupied(c: Line, e: Site, trains: &Trains) -> bool
     requires { OnTheLine c e }
     ensures { result ≡ stretch_occupied c e trains.now }

@@ -33,7 +33,7 @@ pub enum Sought {
     Number(u16),
 }
 
-fn is_sought_train(sought: Sought, number: u16) -> bool
+fn is_sought(sought: Sought, number: u16) -> bool
     ensures { result ≡ is_sought_train sought number }
 {
     match sought {
@@ -50,7 +50,7 @@ pub fn any_of(m: u8, sought: Sought, trains: &Trains) -> bool
     let mut i = m as usize;
     while i > 0 {
         i -= 1;
-        if is_sought_train(sought, train_in(trains, i)) {
+        if is_sought(sought, train_in(trains, i)) {
             return true;
         }
     }

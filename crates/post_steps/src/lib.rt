@@ -1,28 +1,20 @@
-// The steps that a post takes for itself, a function a row of the table: measures, faults, caution forms, which look at no train; closing and
-// opening. Those of faults hold on any line.
-
-pub mod closing;
-
+// The steps that a post takes for itself, a function a row of the table: measures, faults, caution forms. They look at no train; those of measures
+// and faults hold on any line.
 ghost use Rattle.std.specs.Prelude.{false, [], ◌≡◌};
 ghost use Rattle.section.specs.declared.Step.TheVariants.{MeasuresOn, MeasuresOff, FaultOn, FaultOff, Caution};
 ghost use Rattle.rules.specs.declared.Line.{Line};
 ghost use Rattle.rules.specs.Table.{without_fault};
 ghost use Rattle.site.specs.OnTheLine.{OnTheLine};
-ghost use Rattle.site.specs.Ruling.{beside_vns, ruling_at};
+ghost use Rattle.site.specs.Ruling.{ruling_at};
 
 use crossings::crossing_ahead;
 use rules::{Line, Site};
 use section::{Fault, Post};
-use site::conditions::post_open;
 use site::ruling::{Ruling, keeping};
 
-pub fn measures_on(c: Line, e: Site) -> Ruling
-    requires { OnTheLine c e }
-    ensures { result ≡ ruling_at c (beside_vns false) (MeasuresOn e.post) e [] [] }
+pub fn measures_on(e: Site) -> Ruling
+    ensures { (c : Line) → result ≡ ruling_at c false (MeasuresOn e.post) e [] [] }
 {
-    if !post_open(c, e) {
-        return Ruling::Refused(23);
-    }
     let own = e.own;
     if own.measures {
         return Ruling::Refused(21);
@@ -30,13 +22,9 @@ pub fn measures_on(c: Line, e: Site) -> Ruling
     Ruling::Accepted(keeping(e, own.measured(true)))
 }
 
-pub fn measures_off(c: Line, e: Site) -> Ruling
-    requires { OnTheLine c e }
-    ensures { result ≡ ruling_at c (beside_vns false) (MeasuresOff e.post) e [] [] }
+pub fn measures_off(e: Site) -> Ruling
+    ensures { (c : Line) → result ≡ ruling_at c false (MeasuresOff e.post) e [] [] }
 {
-    if !post_open(c, e) {
-        return Ruling::Refused(23);
-    }
     let own = e.own;
     if !own.measures {
         return Ruling::Refused(21);
@@ -48,7 +36,7 @@ pub fn measures_off(c: Line, e: Site) -> Ruling
 }
 
 pub fn fault_on(e: Site, fault: Fault) -> Ruling
-    ensures { (c : Line) → result ≡ ruling_at c (beside_vns false) (FaultOn e.post fault) e [] [] }
+    ensures { (c : Line) → result ≡ ruling_at c false (FaultOn e.post fault) e [] [] }
 {
     let own = e.own;
     if own.has_fault(fault) {
@@ -70,7 +58,7 @@ fn without_fault(own: Post, fault: Fault) -> Post
 }
 
 pub fn fault_off(e: Site, fault: Fault) -> Ruling
-    ensures { (c : Line) → result ≡ ruling_at c (beside_vns false) (FaultOff e.post fault) e [] [] }
+    ensures { (c : Line) → result ≡ ruling_at c false (FaultOff e.post fault) e [] [] }
 {
     let own = e.own;
     if !own.has_fault(fault) {
@@ -81,11 +69,8 @@ pub fn fault_off(e: Site, fault: Fault) -> Ruling
 
 pub fn caution(c: Line, e: Site, number: u16) -> Ruling
     requires { OnTheLine c e }
-    ensures { result ≡ ruling_at c (beside_vns false) (Caution e.post number) e [] [] }
+    ensures { result ≡ ruling_at c false (Caution e.post number) e [] [] }
 {
-    if !post_open(c, e) {
-        return Ruling::Refused(23);
-    }
     if !crossing_ahead(c, e) {
         return Ruling::Refused(12);
     }

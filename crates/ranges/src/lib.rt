@@ -5,11 +5,11 @@ pub mod settings;
 
 ghost use Rattle.std.specs.Prelude.{◌≡◌, ◌&&◌, ◌-◌, ◌<◌, ◌≤◌, leb};
 ghost use Rattle.section.specs.Numbers.{largest_train, least_posts, most_posts};
-ghost use Rattle.section.specs.Range.{post_in_range, posts_in_range, numbers_in_range, act_in_range, walk_in_range, track_in_range, ends_open, in_range};
+ghost use Rattle.section.specs.Range.{post_in_range, posts_in_range, numbers_in_range, act_in_range, walk_in_range, track_in_range, in_range};
 
 use crate::settings::settings_in_range;
 use section::positions::{is_first, is_last, is_upward};
-use section::{Act, ClosedPosts, LARGEST_TRAIN, MOST_SEALS, Post, Section, Track, Walk};
+use section::{Act, LARGEST_TRAIN, MOST_SEALS, Post, Section, Track, Walk};
 
 // A post's seal count, and the train of its caution form.
 fn post_in_range(own: Post) -> bool
@@ -91,18 +91,6 @@ fn track_in_range(n: u8, track: bool, t: Track) -> bool
     walk_in_range(n, is_upward(track, t.cvt), walk)
 }
 
-// No end post is closed. What the flags say past them is not looked at.
-fn ends_open(n: u8, closed: &ClosedPosts) -> bool
-    requires { (least_posts ≤ n) × (n ≤ most_posts) }
-    ensures { result ≡ ends_open n closed.now }
-{
-    if closed[0] {
-        return false;
-    }
-    let end = (n - 1) as usize;
-    !closed[end]
-}
-
 // What refusal 6 asks for.
 pub fn in_range(s: Section) -> bool
     ensures { result ≡ in_range s }
@@ -110,10 +98,6 @@ pub fn in_range(s: Section) -> bool
     let c = s.settings;
     let n = c.posts;
     if !settings_in_range(c) {
-        return false;
-    }
-    let closed = s.closed;
-    if !ends_open(n, &closed) {
         return false;
     }
     if !track_in_range(n, false, s.a) {

@@ -3,24 +3,21 @@ ghost use Rattle.std.specs.Prelude.{false, [], ◌≡◌};
 ghost use Rattle.section.specs.declared.Step.TheVariants.{Release, Key};
 ghost use Rattle.site.specs.InItsRanges.{InItsRanges};
 ghost use Rattle.site.specs.OnTheLine.{OnTheLine};
-ghost use Rattle.site.specs.Ruling.{beside_vns, ruling_at};
+ghost use Rattle.site.specs.Ruling.{ruling_at};
 
 use crate::walk::setting;
 use occupancy::part::watched_occupied;
 use occupancy::trains::train_ahead;
 use rules::{Line, Site};
 use section::{Act, MOST_SEALS, Trains};
-use site::conditions::{fault1_confirmed, is_turn, measures_suffice, post_open, release_in_turn};
+use site::conditions::{fault1_confirmed, is_turn, measures_suffice, release_in_turn};
 use site::ends::commands;
 use site::ruling::{Ruling, keeping};
 
 pub fn release(c: Line, e: Site, number: u16, trains: &Trains, last: &Trains) -> Ruling
     requires { OnTheLine c e }
-    ensures { result ≡ ruling_at c (beside_vns false) (Release e.post number) e trains.now last.now }
+    ensures { result ≡ ruling_at c false (Release e.post number) e trains.now last.now }
 {
-    if !post_open(c, e) {
-        return Ruling::Refused(23);
-    }
     if !release_in_turn(c, e) {
         return Ruling::Refused(15);
     }
@@ -42,12 +39,9 @@ pub fn release(c: Line, e: Site, number: u16, trains: &Trains, last: &Trains) ->
 
 pub fn key(c: Line, e: Site, trains: &Trains) -> Ruling
     requires { InItsRanges c e }
-    ensures { result ≡ ruling_at c (beside_vns false) (Key e.post) e trains.now [] }
+    ensures { result ≡ ruling_at c false (Key e.post) e trains.now [] }
 {
     let walk = e.walk;
-    if !post_open(c, e) {
-        return Ruling::Refused(23);
-    }
     if !is_turn(walk, e.post, Act::Set) {
         return Ruling::Refused(15);
     }

@@ -1,24 +1,22 @@
 // Order, set, announce, acknowledge. Cells that a kind does not look at stand in its contract as [], the other track as false.
 ghost use Rattle.std.specs.Prelude.{false, [], ◌≡◌};
 ghost use Rattle.section.specs.declared.Step.TheVariants.{Order, Set, Announce, Acknowledge};
+ghost use Rattle.rules.specs.declared.Line.{Line};
 ghost use Rattle.site.specs.InItsRanges.{InItsRanges};
 ghost use Rattle.site.specs.OnTheLine.{OnTheLine};
-ghost use Rattle.site.specs.Ruling.{beside_vns, ruling_at};
+ghost use Rattle.site.specs.Ruling.{ruling_at};
 
-use crate::walk::{acknowledgement, announcement, setting, walking};
+use crate::walk::{acknowledgement, announcement, next_post, setting, walking};
 use occupancy::part::{order_occupied, watched_occupied};
 use rules::{Line, Site};
 use section::{Act, Said, Trains, Walk};
-use site::conditions::{
-    fault1_confirmed, is_settled, is_turn, measures_suffice, order_allowed, post_open,
-};
-use site::open_posts::next_post;
+use site::conditions::{fault1_confirmed, is_settled, is_turn, measures_suffice, order_allowed};
 use site::place::at_sending_end;
 use site::ruling::Ruling;
 
 pub fn order(c: Line, e: Site, other_on_vns: bool, trains: &Trains) -> Ruling
     requires { OnTheLine c e }
-    ensures { result ≡ ruling_at c (beside_vns other_on_vns) (Order e.post) e trains.now [] }
+    ensures { result ≡ ruling_at c other_on_vns (Order e.post) e trains.now [] }
 {
     let walk = e.walk;
     if !is_settled(walk) {
@@ -44,12 +42,9 @@ pub fn order(c: Line, e: Site, other_on_vns: bool, trains: &Trains) -> Ruling
 
 pub fn set(c: Line, e: Site, trains: &Trains) -> Ruling
     requires { OnTheLine c e }
-    ensures { result ≡ ruling_at c (beside_vns false) (Set e.post) e trains.now [] }
+    ensures { result ≡ ruling_at c false (Set e.post) e trains.now [] }
 {
     let walk = e.walk;
-    if !post_open(c, e) {
-        return Ruling::Refused(23);
-    }
     if !is_turn(walk, e.post, Act::Set) {
         return Ruling::Refused(15);
     }
@@ -71,12 +66,9 @@ pub fn set(c: Line, e: Site, trains: &Trains) -> Ruling
 
 pub fn announce(c: Line, e: Site) -> Ruling
     requires { InItsRanges c e }
-    ensures { result ≡ ruling_at c (beside_vns false) (Announce e.post) e [] [] }
+    ensures { result ≡ ruling_at c false (Announce e.post) e [] [] }
 {
     let walk = e.walk;
-    if !post_open(c, e) {
-        return Ruling::Refused(23);
-    }
     if !is_turn(walk, e.post, Act::Announce) {
         return Ruling::Refused(15);
     }
@@ -85,14 +77,11 @@ pub fn announce(c: Line, e: Site) -> Ruling
     Ruling::Accepted(walking(e, own, next, announcement(e.cvt)))
 }
 
-pub fn acknowledge(c: Line, e: Site) -> Ruling
-    requires { OnTheLine c e }
-    ensures { result ≡ ruling_at c (beside_vns false) (Acknowledge e.post) e [] [] }
+// On any line.
+pub fn acknowledge(e: Site) -> Ruling
+    ensures { (c : Line) → result ≡ ruling_at c false (Acknowledge e.post) e [] [] }
 {
     let walk = e.walk;
-    if !post_open(c, e) {
-        return Ruling::Refused(23);
-    }
     if !is_turn(walk, e.post, Act::Acknowledge) {
         return Ruling::Refused(15);
     }

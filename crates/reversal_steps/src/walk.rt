@@ -1,12 +1,13 @@
 // What the steps of a reversal do: the post's record, the walk, the running direction, and what is said.
 ghost use Rattle.std.specs.Prelude.{cond, ◌≡◌};
 ghost use Rattle.section.specs.declared.Said.TheVariants.{Cvt, Cvtz, Vns, Vnsz};
+ghost use Rattle.rules.specs.Site.{next_post};
 ghost use Rattle.rules.specs.Table.{setting};
-ghost use Rattle.site.specs.OnTheLine.{OnTheLine};
+ghost use Rattle.site.specs.OnTheLine.{OnTheLine, HasAhead};
 ghost use Rattle.reversal_steps.specs.Walking.{walking};
 
 use rules::{Effect, Line, Movement, Site};
-use section::{Act, Post, Said, Walk};
+use section::{Act, Post, Said, Walk, positions};
 use site::place;
 
 // A step of a reversal before its last set.
@@ -39,6 +40,18 @@ pub fn setting(c: Line, e: Site, own: Post) -> Effect
         };
     }
     walking(e, turned, Walk::Turn(e.post, Act::Announce), Said::Nothing)
+}
+
+// The post at which the walk goes on after an announcement.
+pub fn next_post(c: Line, e: Site) -> u8
+    requires { (OnTheLine c e) × (HasAhead c e) }
+    ensures { result ≡ next_post c e }
+{
+    if positions::is_upward(e.track, e.cvt) {
+        e.post + 1
+    } else {
+        e.post - 1
+    }
 }
 
 // The new direction, by the running direction of a reversal under way.

@@ -13,13 +13,13 @@ use Rattle.section.specs.Settings.{settings_in_range}
 use Rattle.section.proofs.Laws.{posts_right}
 use Rattle.rules.specs.Judge.{judge}
 use Rattle.rules.specs.Demand3.{state_after, AcceptedStep, accepted_of, accepted_steps}
-use Rattle.rules.proofs.View.{Seen, on, shuts, as_step}
+use Rattle.rules.proofs.View.{Seen, on, as_step}
 use Rattle.rules.proofs.Reading.{Says, decoded_says}
 use Rattle.rules.proofs.Accept.{AcceptedIn, said_in, section_after_step, Judged, refused, accepted, judged}
 use Rattle.rules.proofs.Reached.{Reached, reached_kept, fresh_reached, reached_in_range}
 use Rattle.rules.proofs.Fates.{SectionRuns, runs_kept, fresh_runs}
 use Rattle.rules.proofs.UnderWay.{Agrees, agrees_kept, fresh_agrees}
-use Rattle.rules.proofs.Sort.{Progress, progress, progress_shut, fresh_progress}
+use Rattle.rules.proofs.Sort.{Progress, progress, fresh_progress}
 
 -- the accepted step x that the bytes say
 abbrev pub accepted_as : Settings → Section → Seen → List ℕ → AcceptedStep
@@ -74,7 +74,6 @@ module _ (c : Settings) (right : settings_in_range c ≡ true) where
   unfoldable progress_kept : KeptByAccepted c right (Progress c)
   progress_kept s ds (on b p k) bytes r says ok =
       progress c n2 s ds r b (record { post = p; kind = k; as_accepted = accepted_as c s (on b p k) bytes; says = says }) ok refl
-  progress_kept s ds (shuts b x p) bytes r says ok = progress_shut c s ds (accepted_as c s (shuts b x p) bytes) b x p says ok refl
 
   unfoldable kept : KeptByAccepted c right Kept
   kept s ds x bytes r says ok k = record {
@@ -85,7 +84,7 @@ module _ (c : Settings) (right : settings_in_range c ≡ true) where
   }
 
   unfoldable pub all_kept : (offered : List (List ℕ)) → Kept (state_after (fresh_section c) offered) (accepted_steps (fresh_section c) offered)
-  unfolding from_fresh kept progress_kept progress progress_shut fresh_progress
+  unfolding from_fresh kept progress_kept progress fresh_progress
   all_kept =
       from_fresh c right Kept kept
       (record { reached = fresh_reached c right; runs = fresh_runs c n2 n16; agrees = fresh_agrees c; progress = fresh_progress c })

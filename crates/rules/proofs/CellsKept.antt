@@ -1,6 +1,5 @@
 -- Cells past post n−1 or block section n−2 are not changed: an accepted step stores the record of its own post, which is below n, and moves
--- trains only in block sections that the section has; a closing or opening stores the flag and the records of its own post. A refused one leaves
--- the section as it is.
+-- trains only in block sections that the section has. A refused one leaves the section as it is.
 use Prim.Native.Nat.{ℕ, suc, ◌≤◌, ◌<◌}
 use mathlib.Core.Bool.{Bool, true, false, not}
 use mathlib.Core.Path.{◌≡◌, refl, ◌∙◌}
@@ -26,12 +25,11 @@ use Rattle.rules.specs.Table.{checks, effect, vacated, cells_after, track_after}
 use Rattle.rules.specs.Judge.{judge}
 use Rattle.rules.specs.CellsPast.{SamePast, KeptPast, CellsPastKept}
 use Rattle.rules.proofs.Facts.{by_track, first_not_last, ahead_lt, before_lt}
-use Rattle.rules.proofs.View.{start, pass, leave, View, walks, runs, notes, releases, flat, Seen, on, shuts}
+use Rattle.rules.proofs.View.{start, pass, leave, View, walks, runs, notes, releases, flat, Seen, on}
 use Rattle.rules.proofs.Frame.{no_movement}
 use Rattle.rules.proofs.Accept.{AcceptedOn, track_after_step, AcceptedIn, section_after_step, Judged, refused, accepted, judged}
 use Rattle.rules.proofs.Held.{start_held, pass_held, leave_not_first}
-use Rattle.rules.proofs.Exchange.{here_after, there_after, closed_after_lem}
-use Rattle.rules.proofs.Shut.{shut_own, shut_after, shut_closed}
+use Rattle.rules.proofs.Exchange.{here_after, there_after}
 
 pub same_past : (n : ℕ) (t : Track) → SamePast n t t
 same_past n t = record { posts = λ p h. refl; trains = λ i h. refl; last = λ i h. refl }
@@ -102,23 +100,14 @@ module _ (s : Section) where
   n = s.settings.posts
 
   same_section : KeptPast n s s
-  same_section = record { closed = λ p h. refl; tracks = λ b. same_past n (track_of s b) }
+  same_section = record { tracks = λ b. same_past n (track_of s b) }
 
   section_past : (x : Seen) → 2 ≤ n → AcceptedIn s.settings s x → KeptPast n (after x) s
   unfolding AcceptedIn
   section_past (on b p k) n2 h = record {
-    closed = rw (closed_after_lem s.settings s b p k) (λ q n≤q. refl);
     tracks = by_track (λ d. SamePast n (track_of (after (on b p k)) d) (track_of s d)) b
         (rw (here_after s.settings s b p k) (track_past (line_in s) n2 (other_settled_on_vns s b) b p (track_of s b) k h))
         (rw (there_after s.settings s b p k) (same_past n (track_of s (not b))));
-  }
-  section_past (shuts b x p) n2 h = record {
-    closed = rw (shut_closed s.settings s b x p) (λ q n≤q. get_or-set_other s.closed p q x false (omega (arith, h.below)));
-    tracks = λ d. rw (shut_after s.settings s b x p d) (record {
-      posts = λ q n≤q. get_or-set_other (track_of s d).posts p q (shut_own x p (track_of s d)) blank (omega (arith, h.below));
-      trains = λ i k. refl;
-      last = λ i k. refl;
-    });
   }
 
 out_of_range : (s : Section) (bytes : List ℕ) → in_range s ≡ false → judge s bytes ≡ record { verdict = Refused 6; section = s }

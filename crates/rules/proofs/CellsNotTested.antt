@@ -1,12 +1,12 @@
 -- Cells past post n−1 or block section n−2 are not tested. Every test over cells asks only for those that the section has, so two sections
 -- that agree on these are both in range or both out of it, a post sees the same in both, and a step gets the same verdict and the same effect.
--- Stored in both, that effect leaves them in agreement. Of flags of closed posts FlagsNotTested says the same.
+-- Stored in both, that effect leaves them in agreement.
 use Prim.Native.Nat.{ℕ, zero, suc, ◌+◌, ◌-◌, ◌<◌}
 use mathlib.Core.Bool.{Bool, true, false, cond, not, ◌&&◌, ◌||◌}
 use mathlib.Core.Path.{◌≡◌, refl, sym, ap, ap₂, ◌∙◌, subst}
 use mathlib.Core.List.{List}
 use native.Mathlib.Omega.{arith}
-use lib.ListN.{get_or, set, length, length-set}
+use lib.ListN.{get_or, length, length-set}
 use lib.Dec.{eqb, ltb, leb}
 use borrow.Author.Tests.{ltb-true}
 use Rattle.section.specs.declared.Answer.{Answer}
@@ -21,13 +21,12 @@ use Rattle.section.specs.declared.TrackStep.{TrackStep}
 use Rattle.section.specs.declared.Verdict.{Verdict}
 use Rattle.section.specs.declared.Verdict.TheVariants.{Accepted, Refused}
 use Rattle.section.proofs.Codec.{decoded_post_below}
-use Rattle.section.specs.Numbers.{largest_train, close_kind}
+use Rattle.section.specs.Numbers.{largest_train}
 use Rattle.section.specs.Post.{blank}
-use Rattle.section.specs.Range.{post_in_range, posts_in_range, numbers_in_range, track_in_range, ends_open, in_range}
-use Rattle.section.specs.Settings.{settings_in_range}
-use Rattle.section.specs.Step.{decoded, is_both_kind, stands_on, kind_of, post_of, number_of}
-use Rattle.section.specs.Store.{track_of, post_on, is_closed}
-use Rattle.section.proofs.Laws.{rank_lt, block_lt, and_right, posts_right}
+use Rattle.section.specs.Range.{post_in_range, posts_in_range, numbers_in_range, track_in_range, in_range}
+use Rattle.section.specs.Step.{decoded, stands_on, kind_of, post_of, number_of}
+use Rattle.section.specs.Store.{track_of, post_on}
+use Rattle.section.proofs.Laws.{rank_lt, block_lt, and_right}
 use Rattle.rules.specs.declared.Line.{Line}
 use Rattle.rules.specs.declared.Site.{Site}
 use Rattle.rules.specs.declared.Movement.{Movement}
@@ -36,13 +35,12 @@ use Rattle.rules.specs.Line.{line_of, line_in}
 use Rattle.rules.specs.Site.{site_on, Other, other_on, is_train, is_number, any_of, reach, holds_train, up_at, rank_at, at_sending_end}
 use Rattle.rules.specs.Site.{at_receiving_end, block_ahead, block_before, stretch_ends, train_at}
 use Rattle.rules.specs.Site.{watched_occupied, train_before, last_entered, Occupancy, occupancy_at}
-use Rattle.rules.specs.Table.{checks, effect, vacated, cells_after, track_after, closed_after}
+use Rattle.rules.specs.Table.{effect, vacated, cells_after, track_after}
 use Rattle.rules.specs.Judge.{answer_of, site_of, occupancy_of, verdict_on, track_after_on, section_after, judge_step, judge_decoded, judge_in_range, judge}
 use Rattle.rules.specs.Indications.{lamps_at, shown, indications_on, indications, dark}
-use Rattle.rules.specs.CellsPast.{SameFlags, SameBelow, AgreeBelow, CellsPastNotTested}
+use Rattle.rules.specs.CellsPast.{SameBelow, AgreeBelow, CellsPastNotTested}
 use Rattle.rules.proofs.Facts.{by_track, ahead_lt, before_lt, first_cells, set_alike}
 use Rattle.rules.proofs.Frame.{vacated_length, cells_length}
-use Rattle.rules.proofs.FlagsNotTested.{occupancy_by_line, lamps_by_line, checks_by_line, effect_by_line, track_by_line}
 
 -- ## Tests over cells
 
@@ -79,10 +77,6 @@ where_true false y a b d h e = rw (← e) refl
 where_false : {track_a : Type 0} (x : Bool) (d a b : track_a) → (x ≡ false → a ≡ b) → cond x d a ≡ cond x d b
 where_false true d a b h = refl
 where_false false d a b h = h refl
-
-and_where : (x y z : Bool) → (x ≡ true → y ≡ z) → (x && y) ≡ (x && z)
-and_where true y z h = h refl
-and_where false y z h = refl
 
 -- ## What a post sees
 
@@ -201,19 +195,10 @@ module _ (s u : Section) (a : AgreeBelow s u) where
   abbrev n : ℕ
   n = s.settings.posts
 
-  ends_alike : settings_in_range s.settings ≡ true → ends_open n s.closed ≡ ends_open n u.closed
-  unfolding ends_open
-  ends_alike h =
-      let n2 = (posts_right s.settings h).0 in
-      rw (a.closed 0 (omega arith), a.closed (n - 1) (omega arith)) refl
-
   range_alike : in_range s ≡ in_range u
   unfolding in_range
   range_alike =
-      and_where (settings_in_range s.settings) (ends_open n s.closed && (track_in_range n false s.a && track_in_range n true s.b))
-      (ends_open n u.closed && (track_in_range n false u.a && track_in_range n true u.b))
-      (λ h. rw (ends_alike h, track_alike n false s.a u.a (a.tracks false), track_alike n true s.b u.b (a.tracks true)) refl)
-      ∙ rw a.settings refl
+      rw (track_alike n false s.a u.a (a.tracks false), track_alike n true s.b u.b (a.tracks true)) (rw a.settings refl)
 
   own_alike : (b : Bool) (p : ℕ) → p < s.settings.posts → post_on (track_of s b) p ≡ post_on (track_of u b) p
   own_alike b p h = (a.tracks b).cells.posts _ h
@@ -221,14 +206,8 @@ module _ (s u : Section) (a : AgreeBelow s u) where
   site_alike : (b : Bool) (p : ℕ) → p < s.settings.posts → site_on b p (track_of s b) ≡ site_on b p (track_of u b)
   site_alike b p h = rw (own_alike b p h, (a.tracks b).cvt, (a.tracks b).walk) refl
 
-  other_alike : (b : Bool) (p : ℕ) → p < n → other_on n p (track_of s b) ≡ other_on n p (track_of u b)
-  other_alike b p h =
-      rw (
-        own_alike b p h,
-        (a.tracks b).cvt,
-        (a.tracks b).walk,
-        any_alike is_train (n - 1) (track_of s b).trains (track_of u b).trains (λ i k. (a.tracks b).cells.trains i (omega arith)),
-      ) refl
+  other_alike : (b : Bool) → other_on (track_of s b) ≡ other_on (track_of u b)
+  other_alike b = rw ((a.tracks b).cvt, (a.tracks b).walk) refl
 
   answer_alike : (v : Verdict) (s₁ u₁ : Section) → AgreeBelow s₁ u₁ → AnsweredAlike (answer_of v s s₁) (answer_of v u u₁)
   unfolding answer_of
@@ -241,21 +220,14 @@ module _ (s u : Section) (a : AgreeBelow s u) where
 
     occupancies : occupancy_of s x ≡ occupancy_of u x
     occupancies =
-        occupancy_alike (line_in s) (other_on n (post_of x.step) (track_of s (not x.track))) (site_of s x) below (number_of x.step)
+        occupancy_alike (line_in s) (other_on (track_of s (not x.track))) (site_of s x) below (number_of x.step)
         (track_of s x.track).trains (track_of u x.track).trains
         (track_of s x.track).last (track_of u x.track).last (a.tracks x.track).cells.trains (a.tracks x.track).cells.last
-        ∙ occupancy_by_line s.settings s.closed u.closed a.closed (site_of s x) below (track_of u x.track).trains _ _ _
-        ∙ rw (other_alike (not x.track) (post_of x.step) below, sites, a.settings) refl
-
-    tables : checks (line_in s) x.step (site_of s x) (occupancy_of s x) ≡ checks (line_in u) x.step (site_of u x) (occupancy_of u x)
-    tables =
-        checks_by_line s.settings s.closed u.closed a.closed (site_of s x) below x.step (occupancy_of s x)
-        ∙ rw (occupancies, sites, a.settings) refl
+        ∙ rw (other_alike (not x.track), sites, a.settings) refl
 
     verdict_alike : verdict_on s x ≡ verdict_on u x
     unfolding verdict_on
-    verdict_alike =
-        rw (tables, effect_by_line s.settings s.closed u.closed a.closed (site_of s x) below x.step, sites, a.settings) refl
+    verdict_alike = rw (occupancies, sites, a.settings) refl
 
     track_after_lem : (b : Bool) → SameBelow n (track_after_on s x b) (track_after_on u x b)
     unfolding track_after_on
@@ -269,8 +241,7 @@ module _ (s u : Section) (a : AgreeBelow s u) where
 
         same_line : track_after (line_in s) x.step e (track_of u b) ≡ track_after (line_in u) x.step (site_on b p (track_of u b)) (track_of u b)
         same_line =
-            track_by_line s.settings s.closed u.closed a.closed e below x.step (track_of u b)
-            ∙ ap₂ (λ (k : Settings) (y : Site). track_after (line_of k u.closed) x.step y (track_of u b)) a.settings (site_alike b p below)
+            ap₂ (λ (k : Settings) (y : Site). track_after (line_of k) x.step y (track_of u b)) a.settings (site_alike b p below)
 
         go : (stands : Bool) → SameBelow n (cond stands (track_after (line_in s) x.step e (track_of s b)) (track_of s b))
             (cond stands (track_after (line_in u) x.step (site_on b p (track_of u b)) (track_of u b)) (track_of u b))
@@ -278,30 +249,10 @@ module _ (s u : Section) (a : AgreeBelow s u) where
             (after_alike (line_in s) e x.step (track_of s b) (track_of u b) (a.tracks b))
         go false = a.tracks b
 
-    closed_after_lem : SameFlags (λ p. p < n) (closed_after x.step s.closed) (closed_after x.step u.closed)
-    unfolding closed_after
-    closed_after_lem p h = go (is_both_kind (kind_of x.step))
-      where
-        go : (both : Bool) → is_closed (cond both (set s.closed (post_of x.step) (eqb (kind_of x.step) close_kind)) s.closed) p
-            ≡ is_closed (cond both (set u.closed (post_of x.step) (eqb (kind_of x.step) close_kind)) u.closed) p
-        go true = set_alike s.closed u.closed _ p _ false a.flags (a.closed p h)
-        go false = a.closed p h
-
-    flags_after : length (closed_after x.step s.closed) ≡ length (closed_after x.step u.closed)
-    unfolding closed_after
-    flags_after = go (is_both_kind (kind_of x.step))
-      where
-        go : (both : Bool) → length (cond both (set s.closed (post_of x.step) (eqb (kind_of x.step) close_kind)) s.closed)
-            ≡ length (cond both (set u.closed (post_of x.step) (eqb (kind_of x.step) close_kind)) u.closed)
-        go true = simp length-set a.flags
-        go false = a.flags
-
     section_after_lem : AgreeBelow (section_after s x) (section_after u x)
     unfolding section_after
     section_after_lem = record {
       settings = a.settings;
-      closed = closed_after_lem;
-      flags = flags_after;
       tracks = by_track (λ b. SameBelow n (track_of (section_after s x) b) (track_of (section_after u x) b)) true (track_after_lem true) (track_after_lem false);
     }
 
@@ -335,7 +286,6 @@ module _ (s u : Section) (a : AgreeBelow s u) where
   unfolding indications_on
   on_track_alike b p h =
       ap shown (lamps_alike (line_in s) (site_on b p (track_of s b)) h (track_of s b).trains (track_of u b).trains (a.tracks b).cells.trains
-      ∙ lamps_by_line s.settings s.closed u.closed a.closed (site_on b p (track_of s b)) h (track_of u b).trains
       ∙ rw (site_alike b p h, a.settings) refl)
 
   indications_alike : (track post : ℕ) → indications s track post ≡ indications u track post
@@ -349,7 +299,6 @@ pub cells_past_not_tested : CellsPastNotTested
 cells_past_not_tested s u a = record {
   sites = sites s u a;
   occupancies = occupancies s u a;
-  tables = tables s u a;
   verdicts = λ bytes. (judge_alike s u a bytes).verdict;
   sections = λ bytes. (judge_alike s u a bytes).section;
   shows = indications_alike s u a;

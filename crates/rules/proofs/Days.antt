@@ -11,7 +11,7 @@ use Rattle.section.specs.declared.Walk.{Walk}
 use Rattle.section.specs.declared.Track.{Track}
 use Rattle.section.specs.declared.Section.{Section}
 use Rattle.section.specs.declared.Step.{Step}
-use Rattle.section.specs.declared.Step.TheVariants.{Order, Set, Announce, Acknowledge, MeasuresOn, Close}
+use Rattle.section.specs.declared.Step.TheVariants.{Order, Set, Announce, Acknowledge, MeasuresOn}
 use Rattle.section.specs.declared.TrackStep.{TrackStep}
 use Rattle.section.specs.declared.Verdict.{Verdict}
 use Rattle.section.specs.declared.Verdict.TheVariants.{Accepted, Refused}
@@ -19,9 +19,9 @@ use Rattle.section.specs.Bytes.{le16, within, truth_number}
 use Rattle.section.specs.Crossings.{no_crossings, crossings_in_range}
 use Rattle.section.specs.Fresh.{fresh_track, fresh_section}
 use Rattle.section.specs.Geometry.{upward, rank, block, is_first, is_last}
-use Rattle.section.specs.Numbers.{most_posts, most_blocks, most_crossings, unused}
+use Rattle.section.specs.Numbers.{most_blocks, most_crossings, unused}
 use Rattle.section.specs.Post.{sealed}
-use Rattle.section.specs.Range.{post_in_range, posts_in_range, numbers_in_range, act_in_range, walk_in_range, track_in_range, ends_open, in_range}
+use Rattle.section.specs.Range.{post_in_range, posts_in_range, numbers_in_range, act_in_range, walk_in_range, track_in_range, in_range}
 use Rattle.section.specs.Settings.{is_signalled, none_from, settings_in_range}
 use Rattle.section.specs.Step.{fault_well_formed, number_well_formed, track_well_formed, place_well_formed, fields_well_formed, well_formed, fault_of, step_of}
 use Rattle.section.specs.Step.{step_said, decoded, kind_of, post_of, fault_number, number_of, bytes_of, encoded}
@@ -30,7 +30,7 @@ use Rattle.section.specs.Words.{refusal_of}
 use Rattle.rules.specs.Line.{is_materialised, is_open}
 use Rattle.rules.specs.Site.{reach, first_from, any_of, open_at, next_post, stretch_ends, lies_ahead, crossing_ahead, zones_lack_ahead, part_ends, commands}
 use Rattle.rules.specs.Site.{watched_occupied, train_before, last_entered, occupancy_at}
-use Rattle.rules.specs.Table.{checks, effect, cells_after, track_after, closed_after}
+use Rattle.rules.specs.Table.{checks, effect, cells_after, track_after}
 use Rattle.rules.specs.Judge.{verdict_of, answer_of, verdict_on, track_after_on, section_after, judge_step, judge_decoded, judge_in_range, judge}
 
 -- ## Tracks, directions, lines
@@ -76,10 +76,6 @@ changed_track track change s = with_track s track (change (track_of s track))
 
 abbrev pub changed_post : Bool → ℕ → (Post → Post) → Section → Section
 changed_post track p change s = changed_track track (λ (t : Track). with_post t p (change (post_on t p))) s
-
--- a section with these flags of closed posts, the others open
-abbrev pub with_closed : List Bool → Section → Section
-with_closed flags s = record { settings = s.settings; closed = flags ++ replicate (most_posts - length flags) false; a = s.a; b = s.b }
 
 -- a track with that running direction and walk
 abbrev pub running : Bool → Walk → Track → Track
@@ -130,10 +126,6 @@ unfoldable pub reversal_to_cvt : List ℕ → List Step
 unfolding reversal
 reversal_to_cvt posts = map MeasuresOn posts ++ reversal posts
 
--- a post closes, with the measures on first, which closing asks for on both tracks
-unfoldable pub closing : ℕ → List TrackStep
-closing p = step_on track_a (MeasuresOn p) ∷ step_on track_b (MeasuresOn p) ∷ step_on track_a (Close p) ∷ []
-
 -- the byte strings that are offered
 unfoldable pub offered_as : List TrackStep → List (List ℕ)
 unfolding encoded bytes_of fault_number
@@ -144,9 +136,9 @@ offered_as steps = map encoded steps
 -- the answers to a day, 0 or the refusal; unfolded, judging computes
 unfoldable pub refusals : Section → List (List ℕ) → List ℕ
 unfolding judge judge_in_range judge_decoded judge_step section_after track_after_on verdict_on answer_of verdict_of refusal_of
-    checks effect cells_after track_after closed_after reach first_from any_of is_open open_at next_post stretch_ends lies_ahead crossing_ahead zones_lack_ahead
+    checks effect cells_after track_after reach first_from any_of is_open open_at next_post stretch_ends lies_ahead crossing_ahead zones_lack_ahead
     part_ends commands watched_occupied train_before last_entered occupancy_at
-    in_range ends_open track_in_range walk_in_range act_in_range numbers_in_range posts_in_range post_in_range settings_in_range crossings_in_range none_from is_signalled
+    in_range track_in_range walk_in_range act_in_range numbers_in_range posts_in_range post_in_range settings_in_range crossings_in_range none_from is_signalled
     is_materialised upward rank block is_first is_last
     decoded step_said step_of fault_of well_formed fields_well_formed place_well_formed track_well_formed number_well_formed fault_well_formed le16 within
     kind_of post_of number_of

@@ -14,7 +14,7 @@ use Rattle.rules.specs.Site.{is_settled, settled_on_vns, site_on, other_settled_
 use Rattle.rules.specs.Table.{checks, track_after}
 use Rattle.rules.proofs.Facts.{by_track}
 use Rattle.rules.proofs.View.{Motion, start, pass, leave, Condition, measures, fault, caution, View}
-use Rattle.rules.proofs.View.{walks, runs, notes, releases, flat, Seen, on, shuts}
+use Rattle.rules.proofs.View.{walks, runs, notes, releases, flat, Seen, on}
 use Rattle.rules.proofs.Frame.{moves_no_train, keeps_running, onward, running_kept}
 use Rattle.rules.proofs.Accept.{AcceptedOn, track_after_step, line, AcceptedIn, said_in, section_after_step}
 use Rattle.rules.proofs.Swap.{Swapped, swap_note, swap_onward}
@@ -64,11 +64,6 @@ module _ (c : Settings) where
   pub settings_after : (s : Section) (x : Seen) → (section_after_step c s x).settings ≡ s.settings
   unfolding section_after_step
   settings_after s (on b p k) = refl
-  settings_after s (shuts b x p) = refl
-
-  pub closed_after_lem : (s : Section) (b : Bool) (p : ℕ) (k : View) → (section_after_step c s (on b p k)).closed ≡ s.closed
-  unfolding section_after_step
-  closed_after_lem s b p k = refl
 
   -- ## A step that leaves walk and running direction
 

@@ -1,13 +1,13 @@
 -- A train's runs, noted step by step, and where its number stands on the track: each accepted step keeps the two in agreement. So each run is
 -- between the posts or has left at the far end, the runs of a number come one after another, and each block section keeps its train.
 use Prim.Native.Nat.{ℕ, suc, ◌≤◌, ◌<◌}
-use mathlib.Core.Bool.{Bool, true, false, cond, not, ◌&&◌, beq, and-false}
+use mathlib.Core.Bool.{Bool, true, false, cond, not, ◌&&◌, beq}
 use mathlib.Core.Path.{◌≡◌, refl, sym, ap, ◌∙◌, subst}
 use mathlib.Core.Logic.{◌≢◌, ◌⊎◌, inl, inr}
 use mathlib.Core.List.{List, [], ◌∷◌, ◌++◌}
 use native.Mathlib.Omega.{arith}
 use native.Mathlib.Decide.{ℕ_discrete}
-use lib.ListN.{get_or, set, replicate, get_or-replicate}
+use lib.ListN.{get_or, replicate, get_or-replicate}
 use Rattle.section.specs.declared.Settings.{Settings}
 use Rattle.section.specs.declared.Track.{Track}
 use Rattle.section.specs.declared.Section.{Section}
@@ -19,19 +19,17 @@ use Rattle.section.proofs.Laws.{block_lt}
 use Rattle.rules.specs.declared.Line.{Line}
 use Rattle.rules.specs.Line.{line_of}
 use Rattle.rules.specs.Site.{other_settled_on_vns, train_at, stretch_ends}
-use Rattle.rules.specs.Demand3.{AcceptedStep, kind, post, is_on_track, is_of_train, keep, All, Run, note_step, runs_from, runs_of}
+use Rattle.rules.specs.Demand3.{AcceptedStep, kind, post, is_of_train, keep, All, Run, note_step, runs_from, runs_of}
 use Rattle.rules.specs.Demand3.{OneAfterAnother, TrainThere, Fate}
 use Rattle.rules.proofs.Facts.{by_track, beq_same, beq_other}
-use Rattle.rules.proofs.View.{View, Seen, on, shuts, as_step}
+use Rattle.rules.proofs.View.{View, Seen, on, as_step}
 use Rattle.rules.proofs.Reading.{Says}
 use Rattle.rules.proofs.Accept.{AcceptedOn, track_after_step, line, AcceptedIn, section_after_step}
-use Rattle.rules.proofs.ShutHeld.{shut_held}
 use Rattle.rules.proofs.Invariant.{Sound}
-use Rattle.rules.proofs.Exchange.{here_after, there_after, closed_after_lem}
-use Rattle.rules.proofs.Shut.{shut_after, shut_closed}
+use Rattle.rules.proofs.Exchange.{here_after, there_after}
 use Rattle.rules.proofs.Stretches.{Spaced, empty_spaced}
 use Rattle.rules.proofs.Runs.{Follows, off_track, follows_in_turn, follows_fates, follows_there}
-use Rattle.rules.proofs.TrainSteps.{of_train, note_view, note_test, shut_no_train}
+use Rattle.rules.proofs.TrainSteps.{of_train, note_view, note_test}
 use Rattle.rules.proofs.Trains.{trains_kept, no_zero}
 
 -- ## A train's runs after one more step
@@ -69,14 +67,6 @@ module _ (n : ℕ) (ds : List AcceptedStep) (d : AcceptedStep) where
 
     runs_there : (z : ℕ) → runs_of (not t) z (ds ++ d ∷ []) ≡ runs_of (not t) z ds
     runs_there z = runs_after (not t) z ∙ ap (noted (not t) z) (beq_other t)
-
-  -- a closing or opening is of no train
-  runs_shut : (t x : Bool) (q : ℕ) → Says n d.bytes (as_step (shuts t x q)) → (b : Bool) (z : ℕ) → runs_of b z (ds ++ d ∷ []) ≡ runs_of b z ds
-  unfolding runs_of
-  runs_shut t x q h b z =
-      runs_last (λ e. is_of_train b z e) [] ds d
-      ∙ ap (λ w. cond w (note_step (kind d) (post d) (runs_of b z ds)) (runs_of b z ds))
-      (ap (λ w. is_on_track b d && w) (shut_no_train n d t x q h z) ∙ and-false (is_on_track b d))
 
 -- ## Three fields of the claim for one track
 
@@ -124,31 +114,18 @@ module _ (c : Settings) (n2 : 2 ≤ c.posts) (n16 : c.posts ≤ most_posts) wher
         → ((e : Bool) → Sound (line c s) e (track_of s e)) → SectionRuns s ds → SectionRuns (section_after_step c s (on b p k)) (ds ++ d ∷ [])
     unfolding AcceptedIn
     one_kept b p k says s h so m =
-        rw (closed_after_lem c s b p k) (by_track (λ e. TrackRuns (line c s) e (track_of (section_after_step c s (on b p k)) e) (ds ++ d ∷ [])) b
+        by_track (λ e. TrackRuns (line c s) e (track_of (section_after_step c s (on b p k)) e) (ds ++ d ∷ [])) b
         (rw (here_after c s b p k) (here_kept b p k says s (other_settled_on_vns s b) (track_of s b) h (so b) (m b)))
-        (rw (there_after c s b p k) (there_kept b p k says s (track_of s (not b)) (m (not b)))))
-
-    -- a closing or opening finds the tracks empty
-    shut_kept : (t x : Bool) (p : ℕ) → Says c.posts d.bytes (as_step (shuts t x p)) → (s : Section) → AcceptedIn c s (shuts t x p) → SectionRuns s ds
-        → SectionRuns (section_after_step c s (shuts t x p)) (ds ++ d ∷ [])
-    unfolding AcceptedIn
-    shut_kept t x p says s h m b = rw (shut_closed c s t x p, shut_after c s t x p b) (record {
-      spaced = empty_spaced c.posts (stretch_ends (line_of c (set s.closed p x)) b (track_of s b).cvt)
-          (train_at (line c s) b (track_of s b).cvt (track_of s b).trains)
-          (λ j k. (shut_held c s t x p h).empty b (block c.posts (upward b (track_of s b).cvt) j) (block_lt c.posts (upward b (track_of s b).cvt) j k));
-      follows = λ z nz. rw (runs_shut c.posts ds d t x p says b z) ((m b).follows z nz);
-      none_zero = runs_shut c.posts ds d t x p says b 0 ∙ (m b).none_zero;
-    })
+        (rw (there_after c s b p k) (there_kept b p k says s (track_of s (not b)) (m (not b))))
 
     pub runs_kept : (x : Seen) → Says c.posts d.bytes (as_step x) → (s : Section) → AcceptedIn c s x → ((b : Bool) → Sound (line c s) b (track_of s b))
         → SectionRuns s ds → SectionRuns (section_after_step c s x) (ds ++ d ∷ [])
     runs_kept (on b p k) says s h so m = one_kept b p k says s h so m
-    runs_kept (shuts t x p) says s h so m = shut_kept t x p says s h m
 
   -- ## The fresh section
 
   abbrev fresh_line : Line
-  fresh_line = line_of c (replicate most_posts false)
+  fresh_line = line_of c
 
   fresh_track_runs : (b : Bool) → TrackRuns fresh_line b (fresh_track c.posts b) []
   unfolding fresh_track runs_of

@@ -15,7 +15,7 @@ use Rattle.section.specs.Post.{has_fault}
 use Rattle.rules.specs.declared.Line.{Line}
 use Rattle.rules.specs.declared.Site.{Site}
 use Rattle.rules.specs.Site.{is_settled, is_turn, site_on, Occupancy, at_sending_end, at_receiving_end, block_before, crossing_ahead, commands, occupancy_at}
-use Rattle.rules.specs.Table.{post_open, order_allowed, measures_suffice, order_occupied, pass_occupied, release_in_turn, fault1_confirmed, caution_held, checks}
+use Rattle.rules.specs.Table.{order_allowed, measures_suffice, order_occupied, pass_occupied, release_in_turn, fault1_confirmed, caution_held, checks}
 use Rattle.rules.proofs.Facts.{nor_l, nor_r, before_is, last_not_first}
 use Rattle.rules.proofs.View.{order, set_device, announce, acknowledge, key, start, pass, leave, measures, fault, caution, walks, runs, notes}
 use Rattle.rules.proofs.View.{releases, flat}
@@ -32,7 +32,6 @@ module _ (c : Line) (e : Site) (g : Occupancy) where
     pub free : order_occupied c g ≡ false
 
   pub record SetHeld : Type 0 where
-    pub serves : post_open c e ≡ true
     pub in_turn_lem : is_turn e.walk e.post act.Set ≡ true
     pub free : g.watched ≡ false
     pub fault1_confirmed_lem : fault1_confirmed c e ≡ true
@@ -40,7 +39,6 @@ module _ (c : Line) (e : Site) (g : Occupancy) where
     pub no_fault2 : e.own.faults.two ≡ false
 
   pub record KeyHeld : Type 0 where
-    pub serves : post_open c e ≡ true
     pub in_turn_lem : is_turn e.walk e.post act.Set ≡ true
     pub fault2 : e.own.faults.two ≡ true
     pub free : g.watched ≡ false
@@ -49,11 +47,9 @@ module _ (c : Line) (e : Site) (g : Occupancy) where
     pub seal_left : eqb e.own.seals most_seals ≡ false
 
   pub record AnnounceHeld : Type 0 where
-    pub serves : post_open c e ≡ true
     pub in_turn_lem : is_turn e.walk e.post act.Announce ≡ true
 
   pub record AcknowledgeHeld : Type 0 where
-    pub serves : post_open c e ≡ true
     pub in_turn_lem : is_turn e.walk e.post act.Acknowledge ≡ true
 
   pub record StartHeld (z : ℕ) : Type 0 where
@@ -76,11 +72,9 @@ module _ (c : Line) (e : Site) (g : Occupancy) where
     pub train : eqb g.train_before z ≡ true
 
   pub record MeasuresOnHeld : Type 0 where
-    pub serves : post_open c e ≡ true
     pub lifted : e.own.measures ≡ false
 
   pub record MeasuresOffHeld : Type 0 where
-    pub serves : post_open c e ≡ true
     pub in_place : e.own.measures ≡ true
     pub device_vns : e.own.device ≡ false
 
@@ -91,11 +85,9 @@ module _ (c : Line) (e : Site) (g : Occupancy) where
     pub present : has_fault f e.own ≡ true
 
   pub record CautionHeld : Type 0 where
-    pub serves : post_open c e ≡ true
     pub crossing : crossing_ahead c e ≡ true
 
   pub record ReleaseHeld (z : ℕ) : Type 0 where
-    pub serves : post_open c e ≡ true
     pub in_turn_lem : release_in_turn c e ≡ true
     pub in_command : commands c e ≡ true
     pub fault1 : e.own.faults.one ≡ true
@@ -112,9 +104,8 @@ module _ {c : Line} {v b : Bool} {p : ℕ} {t : Track} where
   pub set_held : AcceptedOn c v b p (walks set_device) t → SetHeld c (site_on b p t) (occupancy_on c v b p (walks set_device) t)
   unfolding checks flat
   set_held h =
-      let row = h.held.1 in
+      let row = h.held in
       record {
-        serves = h.held.0;
         in_turn_lem = row.0;
         free = not-true _ row.1.0;
         fault1_confirmed_lem = row.1.1.0;
@@ -125,9 +116,8 @@ module _ {c : Line} {v b : Bool} {p : ℕ} {t : Track} where
   pub key_held : AcceptedOn c v b p (walks key) t → KeyHeld c (site_on b p t) (occupancy_on c v b p (walks key) t)
   unfolding checks flat
   key_held h =
-      let row = h.held.1 in
+      let row = h.held in
       record {
-        serves = h.held.0;
         in_turn_lem = row.0;
         fault2 = row.1.0;
         free = not-true _ row.1.1.0;
@@ -138,11 +128,11 @@ module _ {c : Line} {v b : Bool} {p : ℕ} {t : Track} where
 
   pub announce_held : AcceptedOn c v b p (walks announce) t → AnnounceHeld c (site_on b p t) (occupancy_on c v b p (walks announce) t)
   unfolding checks flat
-  announce_held h = record { serves = h.held.0; in_turn_lem = h.held.1.0 }
+  announce_held h = record { in_turn_lem = h.held.0 }
 
   pub acknowledge_held : AcceptedOn c v b p (walks acknowledge) t → AcknowledgeHeld c (site_on b p t) (occupancy_on c v b p (walks acknowledge) t)
   unfolding checks flat
-  acknowledge_held h = record { serves = h.held.0; in_turn_lem = h.held.1.0 }
+  acknowledge_held h = record { in_turn_lem = h.held.0 }
 
   pub start_held : {z : ℕ} → AcceptedOn c v b p (runs start z) t → StartHeld c (site_on b p t) (occupancy_on c v b p (runs start z) t) z
   unfolding checks flat
@@ -172,12 +162,12 @@ module _ {c : Line} {v b : Bool} {p : ℕ} {t : Track} where
   pub measures_on_held : AcceptedOn c v b p (notes (measures true)) t
       → MeasuresOnHeld c (site_on b p t) (occupancy_on c v b p (notes (measures true)) t)
   unfolding checks flat
-  measures_on_held h = record { serves = h.held.0; lifted = not-true _ h.held.1.0 }
+  measures_on_held h = record { lifted = not-true _ h.held.0 }
 
   pub measures_off_held : AcceptedOn c v b p (notes (measures false)) t
       → MeasuresOffHeld c (site_on b p t) (occupancy_on c v b p (notes (measures false)) t)
   unfolding checks flat
-  measures_off_held h = record { serves = h.held.0; in_place = h.held.1.0; device_vns = not-true _ h.held.1.1.0 }
+  measures_off_held h = record { in_place = h.held.0; device_vns = not-true _ h.held.1.0 }
 
   pub fault_on_held : {f : Fault} → AcceptedOn c v b p (notes (fault true f)) t
       → FaultOnHeld c (site_on b p t) (occupancy_on c v b p (notes (fault true f)) t) f
@@ -191,14 +181,13 @@ module _ {c : Line} {v b : Bool} {p : ℕ} {t : Track} where
 
   pub caution_held_lem : {z : ℕ} → AcceptedOn c v b p (notes (caution z)) t → CautionHeld c (site_on b p t) (occupancy_on c v b p (notes (caution z)) t)
   unfolding checks flat
-  caution_held_lem h = record { serves = h.held.0; crossing = h.held.1.0 }
+  caution_held_lem h = record { crossing = h.held.0 }
 
   pub release_held : {z : ℕ} → AcceptedOn c v b p (releases z) t → ReleaseHeld c (site_on b p t) (occupancy_on c v b p (releases z) t) z
   unfolding checks flat
   release_held h =
-      let row = h.held.1 in
+      let row = h.held in
       record {
-        serves = h.held.0;
         in_turn_lem = row.0;
         in_command = row.1.0;
         fault1 = row.1.1.0;
@@ -229,30 +218,30 @@ module _ {c : Line} {v b : Bool} {p : ℕ} {t : Track} where
   unfolding checks flat
   set_accepted f h = record {
     fits = f;
-    held = (h.serves, (h.in_turn_lem, (ap not h.free, (h.fault1_confirmed_lem, (h.measures_suffice_lem, (ap not h.no_fault2, tt))))));
+    held = (h.in_turn_lem, (ap not h.free, (h.fault1_confirmed_lem, (h.measures_suffice_lem, (ap not h.no_fault2, tt)))));
   }
 
   pub key_accepted : Fits c.posts p (walks key) → KeyHeld c (site_on b p t) (occupancy_on c v b p (walks key) t) → AcceptedOn c v b p (walks key) t
   unfolding checks flat
   key_accepted f h = record {
     fits = f;
-    held = (h.serves, (h.in_turn_lem, (h.fault2, (ap not h.free, (h.fault1_confirmed_lem, (h.measures_suffice_lem, (ap not h.seal_left, tt)))))));
+    held = (h.in_turn_lem, (h.fault2, (ap not h.free, (h.fault1_confirmed_lem, (h.measures_suffice_lem, (ap not h.seal_left, tt))))));
   }
 
   pub announce_accepted : Fits c.posts p (walks announce) → AnnounceHeld c (site_on b p t) (occupancy_on c v b p (walks announce) t)
       → AcceptedOn c v b p (walks announce) t
   unfolding checks flat
-  announce_accepted f h = record { fits = f; held = (h.serves, (h.in_turn_lem, tt)) }
+  announce_accepted f h = record { fits = f; held = (h.in_turn_lem, tt) }
 
   pub acknowledge_accepted : Fits c.posts p (walks acknowledge) → AcknowledgeHeld c (site_on b p t) (occupancy_on c v b p (walks acknowledge) t)
       → AcceptedOn c v b p (walks acknowledge) t
   unfolding checks flat
-  acknowledge_accepted f h = record { fits = f; held = (h.serves, (h.in_turn_lem, tt)) }
+  acknowledge_accepted f h = record { fits = f; held = (h.in_turn_lem, tt) }
 
   pub release_accepted : {z : ℕ} → Fits c.posts p (releases z) → ReleaseHeld c (site_on b p t) (occupancy_on c v b p (releases z) t) z
       → AcceptedOn c v b p (releases z) t
   unfolding checks flat
-  release_accepted f h = record { fits = f; held = (h.serves, (h.in_turn_lem, (h.in_command, (h.fault1, (ap not h.free, (h.last_train, tt)))))) }
+  release_accepted f h = record { fits = f; held = (h.in_turn_lem, (h.in_command, (h.fault1, (ap not h.free, (h.last_train, tt))))) }
 
 -- no train on a track, of n posts
 abbrev pub NoTrain : ℕ → Track → Type 0

@@ -2,7 +2,7 @@
 -- arithmetic on the end posts, and inductions over lists: a test of some steps keeps a sequence that a wider test keeps; steps that are performed
 -- are the accepted ones of their bytes.
 use Prim.Native.Nat.{ℕ, zero, suc, ◌+◌, ◌-◌, ◌≤◌, ◌<◌}
-use mathlib.Core.Bool.{Bool, true, false, cond, not, ◌&&◌, ◌||◌, beq, true≢false, false≢true}
+use mathlib.Core.Bool.{Bool, true, false, cond, not, true≢false, false≢true}
 use mathlib.Core.Path.{◌≡◌, refl, sym, ap, ◌∙◌, subst}
 use mathlib.Core.Logic.{◌⊎◌, inl, inr, ◌≢◌}
 use mathlib.Core.List.{List, [], ◌∷◌, ◌++◌, append-nil, append_assoc, Memᴰ}
@@ -11,7 +11,7 @@ use native.Mathlib.Omega.{arith}
 use native.Mathlib.Decide.{ℕ_discrete}
 use lib.ListN.{get_or, length, take, length-append, get_or-append}
 use lib.Seq.{take-length, get_or_at}
-use lib.Dec.{eqb, leb}
+use lib.Dec.{eqb}
 use borrow.Author.Tests.{eqb-true, eq-eqb, ne_eqb}
 use Rattle.section.specs.declared.Act.{Act}
 use Rattle.section.specs.declared.Said.{Said}
@@ -25,6 +25,7 @@ use Rattle.section.specs.Bytes.{byte, le16, within}
 use Rattle.section.specs.Fresh.{fresh_section}
 use Rattle.section.specs.Geometry.{upward, rank}
 use Rattle.section.specs.Settings.{settings_in_range}
+use Rattle.section.specs.Step.{stands_on}
 use Rattle.section.specs.Store.{track_of}
 use Rattle.section.proofs.Laws.{posts_right, both, and_left, and_right}
 use Rattle.rules.specs.Judge.{judge}
@@ -36,7 +37,6 @@ use Rattle.rules.specs.Demand3.{NoTrainInReversal, Performs, NewOrder, Demand3}
 use Rattle.rules.specs.InPlainWords.{entry_post, track_byte, is_at_post, moves_train, spoken_at, spoken, how_many, bytes_of_all, SameTrack, OnTrackNow}
 use Rattle.rules.specs.InPlainWords.{StandsInOne, IsThere, NoTrainLost, WentUp, WentDown, LeftAtTheOtherEnd, NeverFaceEachOther, HasPermission}
 use Rattle.rules.specs.InPlainWords.{StartsNext, OneMayStart, ToldAnew, InAnotherOrder, InPlainWords}
-use Rattle.rules.proofs.Facts.{beq_same}
 use Rattle.rules.proofs.Theorem.{demand3}
 
 -- ## Lists
@@ -77,17 +77,14 @@ track_is true x h = h
 track_is false x h = rw (eqb-true x 0 h) refl
 
 post_wider : (b : Bool) (p : ℕ) (d : AcceptedStep) → is_at_post b p d ≡ true → is_of_post b p d ≡ true
-unfolding within
 post_wider b p d h =
-    let both-kinds = leb 15 (kind d) && leb (kind d) 16 in
-    let named = eqb (byte d.bytes 1) (track_byte b) in
-    both (on both-kinds named (and_left (both-kinds || named) (eqb (byte d.bytes 2) p) h) (track_is b (byte d.bytes 1)))
-    (and_right (both-kinds || named) (eqb (byte d.bytes 2) p) h)
+    let on = and_left (eqb (byte d.bytes 1) (track_byte b)) (eqb (byte d.bytes 2) p) h in
+    let own : stands_on (kind d) (eqb (byte d.bytes 1) 1) b ≡ true = rw (track_is b (byte d.bytes 1) on) (go b) in
+    both own (and_right (eqb (byte d.bytes 1) (track_byte b)) (eqb (byte d.bytes 2) p) h)
   where
-    on : (u v : Bool) → (u || v) ≡ true → (v ≡ true → eqb (byte d.bytes 1) 1 ≡ b) → (u || beq (eqb (byte d.bytes 1) 1) b) ≡ true
-    on true v w e = refl
-    on false true w e = rw (e refl) (beq_same b)
-    on false false w e = absurd (false≢true w)
+    go : (b : Bool) → stands_on (kind d) b b ≡ true
+    go true = refl
+    go false = refl
 
 train_wider : (z : ℕ) (d : AcceptedStep) → moves_train z d ≡ true → is_step_of_train z d ≡ true
 unfolding within le16
@@ -328,7 +325,6 @@ module _ (c : Settings) (n2 : 2 ≤ c.posts) (claim : (offered : List (List ℕ)
         accepted_again =
             rw (take-length o.order) at (performed_again (length o.order) (fresh_section c) [] o.order (end offered) o.performs);
         same_settings = ap (λ (s : Section). s.settings) again;
-        same_closed = ap (λ (s : Section). s.closed) again;
         same_a = same_track _ _ (ap (λ (s : Section). s.a) again);
         same_b = same_track _ _ (ap (λ (s : Section). s.b) again);
         track_empty = empty;

@@ -5,9 +5,7 @@ pub mod SectionAfter
 pub mod Accept
 pub mod Frame
 pub mod Held
-pub mod ShutHeld
 pub mod NextPost
-pub mod FlagsNotTested
 pub mod CellsNotTested
 pub mod Ranges
 pub mod Stretches
@@ -17,7 +15,6 @@ pub mod Cleared
 pub mod Invariant
 pub mod Swap
 pub mod Exchange
-pub mod Shut
 pub mod RangeLaw
 pub mod CellsKept
 pub mod Reached
@@ -31,13 +28,10 @@ pub mod Perform
 pub mod Sort
 pub mod Along
 pub mod Starts
-pub mod Advance
-pub mod SetInTurn
 pub mod VoieOccupee
 pub mod Theorem
 pub mod InPlainWords
 pub mod FurtherInPlainWords
-pub mod SetInPlainWords
 pub mod Days
 pub mod Rows
 pub mod ReversalExamples
@@ -47,7 +41,6 @@ pub mod EmergencyExamples
 pub mod StateExamples
 pub mod IndicationExamples
 pub mod PartExamples
-pub mod ClosedExamples
 pub mod OfferedExamples
 pub mod StatementExamples
 pub mod ChecksColumn
@@ -56,5 +49,4 @@ pub mod LampTable
 pub mod Directions
 pub mod RecordExamples
 pub mod CheckExamples
-pub mod ClosedEveryWay
 pub mod LampExamples

@@ -1,13 +1,12 @@
 -- Examples of what the engine tests before the table: 6, the state handed in, and then 4, the bytes offered.
 use Prim.Native.Nat.{ℕ}
-use mathlib.Core.Bool.{true, false}
 use mathlib.Core.Path.{refl}
 use mathlib.Core.List.{List, [], ◌∷◌}
 use Rattle.section.specs.declared.Act.TheVariants as act
 use Rattle.section.specs.declared.Walk.TheVariants.{Turn}
 use Rattle.section.specs.declared.Section.{Section}
 use Rattle.section.specs.Post.{cautioned}
-use Rattle.rules.proofs.Days.{track_a, track_b, on_vns, telephone, with_crossings, fresh, changed_track, changed_post, with_closed, running, holding, sealed_at, refusals}
+use Rattle.rules.proofs.Days.{track_a, track_b, on_vns, telephone, with_crossings, fresh, changed_track, changed_post, running, holding, sealed_at, refusals}
 use Rattle.rules.proofs.Rows.{◌gives◌, Holds}
 
 -- one byte string offered to a section: 0 or the refusal
@@ -20,7 +19,7 @@ abbrev pub order_a0 : List ℕ
 order_a0 = 1 ∷ 0 ∷ 0 ∷ 0 ∷ 0 ∷ 0 ∷ 0 ∷ 0 ∷ []
 
 abbrev pub no_kind : List ℕ
-no_kind = 17 ∷ 0 ∷ 0 ∷ 0 ∷ 0 ∷ 0 ∷ 0 ∷ 0 ∷ []
+no_kind = 15 ∷ 0 ∷ 0 ∷ 0 ∷ 0 ∷ 0 ∷ 0 ∷ 0 ∷ []
 
 -- 4: "a step outside the above. A single step offered to the engine is tested alike."
 pub malformed_refused_4 :
@@ -60,21 +59,6 @@ pub crossings_well_formed :
     ∷ [])
 unfolding answer_to
 crossings_well_formed = refl
-
--- "Kind 15 closes and kind 16 opens an intermediate post for both tracks (track byte 0, else 4)"
-pub closing_well_formed :
-    Holds
-    ((answer_to (fresh (telephone 3 7)) (15 ∷ 0 ∷ 1 ∷ 0 ∷ 0 ∷ 0 ∷ 0 ∷ 0 ∷ []) gives 16 ∷ [])
-    ∷ (answer_to (fresh (telephone 3 7)) (15 ∷ 1 ∷ 1 ∷ 0 ∷ 0 ∷ 0 ∷ 0 ∷ 0 ∷ []) gives 4 ∷ [])
-    ∷ (answer_to (fresh (telephone 3 7)) (16 ∷ 0 ∷ 1 ∷ 0 ∷ 0 ∷ 0 ∷ 0 ∷ 0 ∷ []) gives 21 ∷ [])
-    ∷ (answer_to (fresh (telephone 3 7)) (16 ∷ 1 ∷ 1 ∷ 0 ∷ 0 ∷ 0 ∷ 0 ∷ 0 ∷ []) gives 4 ∷ [])
-    -- post 3 of three, a fault, a number
-    ∷ (answer_to (fresh (telephone 3 7)) (15 ∷ 0 ∷ 3 ∷ 0 ∷ 0 ∷ 0 ∷ 0 ∷ 0 ∷ []) gives 4 ∷ [])
-    ∷ (answer_to (fresh (telephone 3 7)) (15 ∷ 0 ∷ 1 ∷ 1 ∷ 0 ∷ 0 ∷ 0 ∷ 0 ∷ []) gives 4 ∷ [])
-    ∷ (answer_to (fresh (telephone 3 7)) (16 ∷ 0 ∷ 1 ∷ 0 ∷ 7 ∷ 0 ∷ 0 ∷ 0 ∷ []) gives 4 ∷ [])
-    ∷ [])
-unfolding answer_to
-closing_well_formed = refl
 
 -- 6: "engine only, before 4: the state handed in has settings or a field outside its range"
 pub out_of_range_refused_6 :
@@ -116,14 +100,3 @@ pub crossings_out_of_range_refused_6 :
     ∷ [])
 unfolding answer_to
 crossings_out_of_range_refused_6 = refl
-
--- "a closed end post in a state is 6"; flags past post n−1 are not tested
-pub closed_ends_refused_6 :
-    Holds
-    ((answer_to (with_closed (false ∷ true ∷ []) (fresh (telephone 3 7))) order_a0 gives 0 ∷ [])
-    ∷ (answer_to (with_closed (true ∷ []) (fresh (telephone 3 7))) order_a0 gives 6 ∷ [])
-    ∷ (answer_to (with_closed (false ∷ false ∷ true ∷ []) (fresh (telephone 3 7))) order_a0 gives 6 ∷ [])
-    ∷ (answer_to (with_closed (false ∷ false ∷ false ∷ true ∷ []) (fresh (telephone 3 7))) order_a0 gives 0 ∷ [])
-    ∷ [])
-unfolding answer_to
-closed_ends_refused_6 = refl

@@ -12,7 +12,7 @@ use Rattle.section.specs.declared.Said.{Said}
 use Rattle.section.specs.declared.Section.{Section}
 use Rattle.section.specs.declared.Step.{Step}
 use Rattle.section.specs.declared.Step.TheVariants.{Order, Set, Announce, Acknowledge, Start, Pass, Leave, MeasuresOn, MeasuresOff, FaultOn}
-use Rattle.section.specs.declared.Step.TheVariants.{FaultOff, Release, Key, Caution, Close, Open}
+use Rattle.section.specs.declared.Step.TheVariants.{FaultOff, Release, Key, Caution}
 use Rattle.section.specs.declared.TrackStep.{TrackStep}
 use Rattle.section.specs.declared.Verdict.{Verdict}
 use Rattle.section.specs.declared.Verdict.TheVariants.{Accepted, Refused}
@@ -45,8 +45,6 @@ figures_from_the_state (FaultOff p f) = refl
 figures_from_the_state (Release p number) = refl
 figures_from_the_state (Key p) = refl
 figures_from_the_state (Caution p number) = refl
-figures_from_the_state (Close p) = refl
-figures_from_the_state (Open p) = refl
 
 abbrev figure_of : Check → ℕ
 figure_of k = k.refusal

@@ -1,41 +1,37 @@
 -- Judging keeps the ranges, in every section whose ranges hold, reachable or not: a refused step leaves the section, an accepted one keeps the
--- ranges of its own track and leaves the other; the closing or opening of a post keeps those of both, and leaves the end posts open.
+-- ranges of its own track and leaves the other.
 use Prim.Native.Nat.{ℕ}
 use mathlib.Core.Bool.{Bool, true, not}
 use mathlib.Core.List.{List}
 use mathlib.Core.Path.{◌≡◌, refl}
-use lib.ListN.{set}
 use Rattle.section.specs.declared.Answer.{Answer}
 use Rattle.section.specs.declared.Section.{Section}
-use Rattle.section.specs.Range.{ends_open, in_range}
+use Rattle.section.specs.Range.{in_range}
 use Rattle.section.specs.Settings.{settings_in_range}
 use Rattle.section.specs.Store.{track_of}
-use Rattle.section.proofs.Laws.{settings_in_range_lem, ends_in_range, track_in_range_lem, section_in_range}
+use Rattle.section.proofs.Laws.{settings_in_range_lem, track_in_range_lem, section_in_range}
 use Rattle.rules.specs.Judge.{judge_in_range, judge}
 use Rattle.rules.specs.RangesKept.{RangesKept}
 use Rattle.rules.specs.Line.{line_in}
 use Rattle.rules.specs.Site.{other_settled_on_vns}
 use Rattle.rules.proofs.Facts.{by_track}
-use Rattle.rules.proofs.View.{View, Seen, on, shuts}
+use Rattle.rules.proofs.View.{View, Seen, on}
 use Rattle.rules.proofs.Accept.{AcceptedIn, section_after_step, Judged, refused, accepted, judged}
 use Rattle.rules.proofs.Ranges.{InRange, track_in_lem, track_out, in_range_kept}
-use Rattle.rules.proofs.ShutHeld.{shut_held}
-use Rattle.rules.proofs.Exchange.{here_after, there_after, settings_after, closed_after_lem}
-use Rattle.rules.proofs.Shut.{ends_kept, shut_in_range, shut_after, shut_closed}
+use Rattle.rules.proofs.Exchange.{here_after, there_after, settings_after}
 
 -- ## The ranges of a section, track by track
 
 pub record SectionInRange (s : Section) : Type 0 where
   pub settings : settings_in_range s.settings ≡ true
-  pub ends : ends_open s.settings.posts s.closed ≡ true
   pub tracks : (b : Bool) → InRange (line_in s) b (track_of s b)
 
 pub section_in_lem : (s : Section) → in_range s ≡ true → SectionInRange s
 section_in_lem s h =
-    record { settings = settings_in_range_lem s h; ends = ends_in_range s h; tracks = λ b. track_in_lem (line_in s) b (track_of s b) (track_in_range_lem s h b) }
+    record { settings = settings_in_range_lem s h; tracks = λ b. track_in_lem (line_in s) b (track_of s b) (track_in_range_lem s h b) }
 
 pub section_out : (s : Section) → SectionInRange s → in_range s ≡ true
-section_out s r = section_in_range s r.settings r.ends (λ b. track_out (line_in s) b (track_of s b) (r.tracks b))
+section_out s r = section_in_range s r.settings (λ b. track_out (line_in s) b (track_of s b) (r.tracks b))
 
 module _ (s : Section) where
   abbrev after : Seen → Section
@@ -45,29 +41,14 @@ module _ (s : Section) where
   unfolding AcceptedIn
   one_kept b p k h r = record {
     settings = rw (settings_after s.settings s (on b p k)) r.settings;
-    ends = rw (settings_after s.settings s (on b p k), closed_after_lem s.settings s b p k) r.ends;
-    tracks = rw (settings_after s.settings s (on b p k), closed_after_lem s.settings s b p k)
+    tracks = rw (settings_after s.settings s (on b p k))
         (by_track (λ d. InRange (line_in s) d (track_of (after (on b p k)) d)) b
         (rw (here_after s.settings s b p k) (in_range_kept (line_in s) b (other_settled_on_vns s b) (track_of s b) p k h (r.tracks b)))
         (rw (there_after s.settings s b p k) (r.tracks (not b))));
   }
 
-  shut_kept : (b x : Bool) (p : ℕ) → AcceptedIn s.settings s (shuts b x p) → SectionInRange s → SectionInRange (after (shuts b x p))
-  unfolding AcceptedIn
-  shut_kept b x p h r =
-      let f = shut_held s.settings s b x p h in
-      record {
-        settings = rw (settings_after s.settings s (shuts b x p)) r.settings;
-        ends = rw (settings_after s.settings s (shuts b x p), shut_closed s.settings s b x p)
-            (ends_kept s.settings.posts p x s.closed h.below f.not_first f.not_last r.ends);
-        tracks = rw (settings_after s.settings s (shuts b x p), shut_closed s.settings s b x p)
-            (λ d. rw (shut_after s.settings s b x p d)
-            (shut_in_range s.settings s.closed (set s.closed p x) d x p (track_of s d) h.below (r.tracks d)));
-      }
-
   section_kept : (x : Seen) → AcceptedIn s.settings s x → SectionInRange s → SectionInRange (after x)
   section_kept (on b p k) h r = one_kept b p k h r
-  section_kept (shuts b x p) h r = shut_kept b x p h r
 
 pub ranges_kept : RangesKept
 ranges_kept s bytes r = go (judged s.settings s refl r bytes)

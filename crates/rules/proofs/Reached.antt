@@ -1,5 +1,5 @@
--- The invariant of the sections that are reached from a fresh one: the end posts are open, each track is sound, and at most one is not settled on
--- VNS. The fresh section has it, an accepted step keeps it, and it implies the ranges.
+-- The invariant of the sections that are reached from a fresh one: each track is sound, and at most one is not settled on VNS. The fresh section
+-- has it, an accepted step keeps it, and it implies the ranges.
 use Prim.Native.Nat.{ℕ, ◌-◌, ◌≤◌, ◌<◌}
 use mathlib.Core.Bool.{Bool, true, false, cond, not, ◌||◌, false≢true, or_comm}
 use mathlib.Core.Path.{◌≡◌, refl, ◌∙◌}
@@ -18,27 +18,25 @@ use Rattle.section.specs.Fresh.{fresh_track, fresh_section}
 use Rattle.section.specs.Geometry.{upward, rank}
 use Rattle.section.specs.Numbers.{least_posts, most_posts, most_blocks, largest_train}
 use Rattle.section.specs.Post.{blank, permitted}
-use Rattle.section.specs.Range.{post_in_range, ends_open, in_range}
+use Rattle.section.specs.Range.{post_in_range, in_range}
 use Rattle.section.specs.Settings.{settings_in_range}
 use Rattle.section.specs.Store.{track_of}
-use Rattle.section.proofs.Laws.{posts_right, set_keeps, fresh_ends}
+use Rattle.section.proofs.Laws.{posts_right, set_keeps}
 use Rattle.rules.specs.declared.Line.{Line}
 use Rattle.rules.specs.Line.{line_of}
 use Rattle.rules.specs.Site.{settled_on_vns, other_settled_on_vns, occupancy_at}
 use Rattle.rules.specs.Table.{effect, track_after}
 use Rattle.rules.specs.Judge.{judge}
 use Rattle.rules.proofs.Facts.{or_right, by_track, replicate-keeps}
-use Rattle.rules.proofs.View.{order, set_device, announce, acknowledge, key, View, walks, runs, notes, releases, flat, Seen, on, shuts}
+use Rattle.rules.proofs.View.{order, set_device, announce, acknowledge, key, View, walks, runs, notes, releases, flat, Seen, on}
 use Rattle.rules.proofs.Frame.{is_turn_lem, is_settled_lem}
 use Rattle.rules.proofs.Accept.{AcceptedOn, track_after_step, line, AcceptedIn, section_after_step, Judged, refused, accepted, judged}
 use Rattle.rules.proofs.Held.{order_held, set_held, key_held, announce_held, acknowledge_held}
-use Rattle.rules.proofs.ShutHeld.{shut_held}
 use Rattle.rules.proofs.Parts.{LineRight, line_right}
 use Rattle.rules.proofs.RangeLaw.{section_out}
 use Rattle.rules.proofs.Cleared.{cleared_settled}
 use Rattle.rules.proofs.Invariant.{Sound, sound_kept}
-use Rattle.rules.proofs.Exchange.{here_after, there_after, settings_after, closed_after_lem, vns_kept}
-use Rattle.rules.proofs.Shut.{ends_kept, shut_sound, shut_after, shut_closed}
+use Rattle.rules.proofs.Exchange.{here_after, there_after, settings_after, vns_kept}
 
 module _ (c : Line) where
   -- ## Kept by every accepted step: at most one track is not settled on VNS
@@ -64,13 +62,12 @@ module _ (c : Line) where
 module _ (c : Settings) where
   pub record Reached (s : Section) : Type 0 where
     pub settings : s.settings ≡ c
-    pub ends : ends_open c.posts s.closed ≡ true
     pub sound : (b : Bool) → Sound (line c s) b (track_of s b)
     -- at most one track is not settled on VNS
     pub single : (b : Bool) → (settled_on_vns (track_of s b) || other_settled_on_vns s b) ≡ true
 
   pub reached_right : settings_in_range c ≡ true → (s : Section) → Reached s → LineRight (line c s)
-  reached_right right s r = line_right c s.closed right r.ends
+  reached_right right s r = line_right c right
 
   other_other : (s : Section) (b : Bool) → track_of s (not (not b)) ≡ track_of s b
   other_other s true = refl
@@ -81,9 +78,8 @@ module _ (c : Settings) where
     unfolding AcceptedIn
     one_kept b p k h r = record {
       settings = settings_after c s (on b p k) ∙ r.settings;
-      ends = rw (closed_after_lem c s b p k) r.ends;
-      sound = rw (closed_after_lem c s b p k) (by_track (λ d. Sound (line c s) d (track_of after d)) b
-          (rw here (sound_kept (line c s) b v (track_of s b) p (reached_right right s r) k h (r.sound b))) (rw there (r.sound (not b))));
+      sound = by_track (λ d. Sound (line c s) d (track_of after d)) b
+          (rw here (sound_kept (line c s) b v (track_of s b) p (reached_right right s r) k h (r.sound b))) (rw there (r.sound (not b)));
       single = by_track (λ d. (settled_on_vns (track_of after d) || other_settled_on_vns after d) ≡ true) b (rw (here, there) one)
           (rw (other_other after b, here, there) (or_comm v (settled_on_vns (track_after_step (line c s) b p k (track_of s b))) ∙ one));
     }
@@ -103,21 +99,8 @@ module _ (c : Settings) where
         one : (settled_on_vns (track_after_step (line c s) b p k (track_of s b)) || v) ≡ true
         one = single_kept (line c s) v b p k (track_of s b) h (r.single b)
 
-    shut_kept : (b x : Bool) (p : ℕ) → AcceptedIn c s (shuts b x p) → Reached s → Reached (section_after_step c s (shuts b x p))
-    unfolding AcceptedIn
-    shut_kept b x p h r =
-        let f = shut_held c s b x p h in
-        record {
-          settings = settings_after c s (shuts b x p) ∙ r.settings;
-          ends = rw (shut_closed c s b x p) (ends_kept c.posts p x s.closed h.below f.not_first f.not_last r.ends);
-          sound = rw (shut_closed c s b x p) (λ d. rw (shut_after c s b x p d)
-              (shut_sound c s.closed (set s.closed p x) d x p (track_of s d) h.below (posts_right c right).1 (f.empty d) (r.sound d)));
-          single = λ d. rw (shut_after c s b x p d, shut_after c s b x p (not d)) (r.single d);
-        }
-
     pub reached_kept : (x : Seen) → AcceptedIn c s x → Reached s → Reached (section_after_step c s x)
     reached_kept (on b p k) h r = one_kept b p k h r
-    reached_kept (shuts b x p) h r = shut_kept b x p h r
 
   -- ## The fresh section
 
@@ -142,10 +125,10 @@ module _ (c : Settings) where
     fresh_permits true p p<n h = omega (arith, fresh_only (c.posts - 1) p (permitted true blank) (omega (arith, n16)) h)
 
     abbrev fresh_line : Line
-    fresh_line = line_of c (replicate most_posts false)
+    fresh_line = line_of c
 
     fresh_right : LineRight fresh_line
-    fresh_right = line_right c (replicate most_posts false) right (fresh_ends c.posts n2 n16)
+    fresh_right = line_right c right
 
     fresh_sound : (b : Bool) → Sound fresh_line b (fresh_track c.posts b)
     unfolding fresh_track post_in_range
@@ -171,7 +154,6 @@ module _ (c : Settings) where
     unfolding fresh_section
     fresh_reached = record {
       settings = refl;
-      ends = fresh_ends c.posts n2 n16;
       sound = by_track (λ d. Sound fresh_line d (track_of (fresh_section c) d)) true (fresh_sound true) (fresh_sound false);
       single = fresh_single;
     }
@@ -185,7 +167,7 @@ module _ (c : Settings) where
 
   pub reached_in_range : settings_in_range c ≡ true → (s : Section) → Reached s → in_range s ≡ true
   reached_in_range w s r =
-      section_out s (record { settings = rw r.settings w; ends = rw r.settings r.ends; tracks = rw r.settings (λ b. (r.sound b).ranges) })
+      section_out s (record { settings = rw r.settings w; tracks = rw r.settings (λ b. (r.sound b).ranges) })
 
   pub reached_judge : settings_in_range c ≡ true → (s : Section) (bytes : List ℕ) → Reached s → Reached (judge s bytes).section
   reached_judge w s bytes r = go (judged c s r.settings (reached_in_range w s r) bytes)

@@ -1,7 +1,7 @@
 -- What the bytes of a well-formed step say: its fields are its bytes, in their ranges. Both are laws of the step's bytes; here the number's range
 -- is told by the step's view.
 use Prim.Native.Nat.{ℕ, ◌≤◌, ◌<◌}
-use mathlib.Core.Bool.{true, false}
+use mathlib.Core.Bool.{true}
 use mathlib.Core.Path.{◌≡◌}
 use mathlib.Core.List.{List}
 use lib.Dec.{eqb}
@@ -15,7 +15,7 @@ use Rattle.section.specs.Step.{decoded, number_well_formed, kind_of, post_of, nu
 use Rattle.section.proofs.Codec.{decoded_track, decoded_kind, decoded_post, decoded_number, decoded_post_below, decoded_number_well_formed}
 use Rattle.rules.proofs.Facts.{within→}
 use Rattle.rules.proofs.View.{start, pass, leave, measures, fault, caution, View, walks, runs, notes, releases, flat, post_flat}
-use Rattle.rules.proofs.View.{Seen, on, shuts, shut_step, as_step, seen, as_step_seen}
+use Rattle.rules.proofs.View.{Seen, on, as_step, seen, as_step_seen}
 
 -- ## A step whose post is below n, and whose number is in the range of its kind
 
@@ -45,13 +45,9 @@ number_fits p (releases z) h = leb-true z largest_train h
 -- a step with its track
 abbrev pub SeenFits : ℕ → Seen → Type 0
 SeenFits n (on b p k) = Fits n p k
-SeenFits n (shuts b x p) = p < n
 
 seen_fits : (n : ℕ) (y : Seen) → post_of (as_step y).step < n → number_well_formed (kind_of (as_step y).step) (number_of (as_step y).step) ≡ true → SeenFits n y
-unfolding shut_step post_of
 seen_fits n (on b p k) h w = record { below = rw (post_flat p k) at h; number = number_fits p k w }
-seen_fits n (shuts b true p) h w = h
-seen_fits n (shuts b false p) h w = h
 
 -- ## Bytes
 

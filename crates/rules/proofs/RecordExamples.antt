@@ -12,7 +12,7 @@ use Rattle.section.specs.declared.Walk.{Walk}
 use Rattle.section.specs.declared.Walk.TheVariants.{Settled, Turn}
 use Rattle.section.specs.declared.Fault.TheVariants.{One, Two, Three, Four}
 use Rattle.section.specs.declared.Step.TheVariants.{Order, Set, Announce, Acknowledge, Start, Pass, Leave, MeasuresOn, MeasuresOff}
-use Rattle.section.specs.declared.Step.TheVariants.{FaultOn, FaultOff, Release, Key, Caution, Close, Open}
+use Rattle.section.specs.declared.Step.TheVariants.{FaultOn, FaultOff, Release, Key, Caution}
 use Rattle.section.specs.Post.{blank, turned, permitted, measured, faulty, marked, sealed, cautioned}
 use Rattle.rules.specs.declared.Movement.{Movement}
 use Rattle.rules.specs.declared.Movement.TheVariants.{Stays, Enters, Moves, Leaves}
@@ -92,9 +92,6 @@ module _ (form : Form) (w : Way) where
         ∷ (left form w walk o j (λ p. Release p 7) gives leaving (marked true o) Stays)
         -- "A newer form replaces the older"
         ∷ (left form w walk o j (λ p. Caution p 9) gives leaving (cautioned 9 o) Stays)
-        -- "closing drops the post's forms"; "On opening, its devices take each track's running direction."
-        ∷ (left form w walk o j Close gives leaving (cautioned 0 o) Stays)
-        ∷ (left form w walk o j Open gives leaving (turned w.cvt o) Stays)
         ∷ []
 
     -- at a post with another after it in the walk: "device turned, release mark gone", "as set, seal count one more"; then it announces, and the

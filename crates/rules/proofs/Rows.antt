@@ -19,7 +19,7 @@ use Rattle.section.specs.Step.{encoded}
 use Rattle.rules.specs.Line.{line_in}
 use Rattle.rules.specs.Table.{Check, checks}
 use Rattle.rules.specs.Judge.{site_of, occupancy_of, judge}
-use Rattle.rules.proofs.Days.{track_a, fresh, step_on, reversal, reversal_to_cvt, closing, offered_as, refusals, after}
+use Rattle.rules.proofs.Days.{track_a, fresh, step_on, reversal, reversal_to_cvt, offered_as, refusals, after}
 
 -- ## Rows
 
@@ -62,7 +62,7 @@ judged_from s day =
 
 -- from a fresh section
 unfoldable pub judged : Settings → List TrackStep → Option Decided
-unfolding judged_from fresh reversal reversal_to_cvt closing
+unfolding judged_from fresh reversal reversal_to_cvt
 judged c day = judged_from (fresh c) day
 
 -- no check fails, and this is said
@@ -85,7 +85,7 @@ k before later = some (record { verdict = Refused k; failing = k ∷ later })
 
 -- of the section after a day all of whose steps are accepted
 unfoldable pub seen_from : {X : Type 0} → (Section → X) → Section → List TrackStep → Option X
-unfolding after reversal reversal_to_cvt closing
+unfolding after reversal reversal_to_cvt
 seen_from look s day = Option.map look (after s day)
 
 -- from a fresh section

@@ -27,19 +27,16 @@ use Rattle.rules.specs.Table.{checks, effect, track_after}
 use Rattle.rules.specs.Demand3.{AcceptedStep, All, keep, is_of_post, is_step_of_train, is_spoken}
 use Rattle.rules.proofs.Facts.{by_track}
 use Rattle.rules.proofs.View.{Reversal, order, set_device, announce, acknowledge, key, Motion, start, pass, leave, Condition, View, walks, runs}
-use Rattle.rules.proofs.View.{notes, releases, flat, on, shuts, as_step}
-use Rattle.rules.proofs.Reading.{Says}
+use Rattle.rules.proofs.View.{notes, releases, flat, on}
 use Rattle.rules.proofs.Frame.{is_turn_lem, is_settled_lem, moves_no_train, keeps_running, onward}
 use Rattle.rules.proofs.Accept.{AcceptedOn, track_after_step, line, AcceptedIn, said_in, section_after_step}
 use Rattle.rules.proofs.Held.{order_held, set_held, key_held, announce_held, acknowledge_held, start_held, release_held, NoTrain}
-use Rattle.rules.proofs.ShutHeld.{shut_held}
 use Rattle.rules.proofs.NextPost.{next_post_lem}
 use Rattle.rules.proofs.Ranges.{rank_on, announce_next}
 use Rattle.rules.proofs.Invariant.{Sound, past_turn, last_free}
 use Rattle.rules.proofs.Swap.{onward_facts}
 use Rattle.rules.proofs.Exchange.{here_after, there_after, walk_kept, cvt_kept, walks_kept, cvts_kept, says_nothing, Exchanged, exchange_note}
 use Rattle.rules.proofs.Exchange.{exchange_onward, exchange_other}
-use Rattle.rules.proofs.Shut.{shut_after}
 use Rattle.rules.proofs.Reached.{Reached, fresh_settled}
 use Rattle.rules.proofs.TrainSteps.{of_train, own_test, post_test_lem}
 use Rattle.rules.proofs.Lists.{all_last, all_map, keep_none, Owner, a_post, a_train, announcers, owns, Reordered, reordered_nil, reordered_last}
@@ -421,23 +418,6 @@ module _ (c : Settings) where
     progress b x h said (reversing g) =
         by_track (λ d. (x : DecodedStep c d) → AcceptedIn c s (step_of c d x) → said_in c s (step_of c d x) ≡ x.as_accepted.said → Onward s ds d x) g.track
         (same_track g) (other_track g) b x h said
-
-  -- ## A closing or opening: no reversal is under way
-
-  unfoldable pub progress_shut : (s : Section) (ds : List AcceptedStep) (d : AcceptedStep) (b x : Bool) (p : ℕ)
-      → Says c.posts d.bytes (as_step (shuts b x p)) → AcceptedIn c s (shuts b x p) → said_in c s (shuts b x p) ≡ d.said → Progress s ds
-      → Progress (section_after_step c s (shuts b x p)) (ds ++ d ∷ [])
-  unfolding AcceptedIn
-  progress_shut s ds d b x p says h said (settled first pf kp ws) =
-      settled (first ++ d ∷ []) (performed_append c (d ∷ []) pf (performed_one c s (shuts b x p) d says h said after)) (reordered_last ds first d kp) after
-    where
-      after : (e : Bool) → (track_of (section_after_step c s (shuts b x p)) e).walk ≡ Settled
-      after e = ap (λ t. t.walk) (shut_after c s b x p e) ∙ ws e
-  progress_shut s ds d b x p says h said (reversing g) =
-      absurd (no_turn (track_of s g.track).walk g.turns (ap is_settled ((shut_held c s b x p h).settled g.track)))
-    where
-      no_turn : (w : Walk) → w ≡ Turn g.post g.act → is_settled w ≡ true → ⊥
-      no_turn w e f = false≢true (rw e at f)
 
   -- ## The new order
 

@@ -25,7 +25,7 @@ use Rattle.rules.specs.Judge.{judge}
 use Rattle.rules.specs.Demand3.{AcceptedStep, track, post, kind, sending_end, MayStart, permission, start}
 use Rattle.rules.proofs.Facts.{first_rank}
 use Rattle.rules.proofs.View.{order, set_device, announce, acknowledge, key, pass, leave, measures, fault, caution, View, walks, runs, notes, releases}
-use Rattle.rules.proofs.View.{flat, post_flat, Seen, on, shuts, shut_step, as_step}
+use Rattle.rules.proofs.View.{flat, post_flat, Seen, on, as_step}
 use Rattle.rules.proofs.View as view
 use Rattle.rules.proofs.Reading.{Says, decoded_says}
 use Rattle.rules.proofs.Accept.{AcceptedOn, line, AcceptedIn, Judged, refused, accepted, judged}
@@ -63,12 +63,10 @@ module _ (c : Settings) where
 
   start_sends : (s : Section) (d : AcceptedStep) (x : Seen) → kind d ≡ start_kind → Says c.posts d.bytes (as_step x) → AcceptedIn c s x
       → Sends s (track d) (post d)
-  unfolding AcceptedIn shut_step kind_of
+  unfolding AcceptedIn
   start_sends s d (on b p k) e h ok =
       subst (λ t. Sends s t (post d)) h.track_is (subst (Sends s b) (sym (post_flat p k) ∙ h.fields.post_is)
       (ok.fits.below, start_first (line c s) (other_settled_on_vns s b) b p k (track_of s b) (h.fields.kind_is ∙ e) ok))
-  start_sends s d (shuts b true p) e h ok = absurd (omega (arith, h.fields.kind_is, e))
-  start_sends s d (shuts b false p) e h ok = absurd (omega (arith, h.fields.kind_is, e))
 
   may_start_sends : settings_in_range c ≡ true → (s : Section) (b : Bool) (p : ℕ) → Reached c s → MayStart c s b p → Sends s b p
   may_start_sends right s b p r (permission p<n h) = (p<n, go (track_of s b).walk ((r.sound b).permits p p<n h))

@@ -111,13 +111,6 @@ pub plain_tests :
     ∷ (is_at_post track_b 1 (of_seven 6 0 1) gives false)
     ∷ (is_at_post track_b 1 (of_seven 6 1 1) gives true)
     ∷ (is_at_post track_a 2 (of_seven 6 0 1) gives false)
-    -- a closing or opening on both tracks, another step not
-    ∷ (is_at_post track_a 1 (plain 15 0 1) gives true)
-    ∷ (is_at_post track_b 1 (plain 15 0 1) gives true)
-    ∷ (is_at_post track_b 1 (plain 16 0 1) gives true)
-    ∷ (is_at_post track_b 2 (plain 15 0 1) gives false)
-    ∷ (is_at_post track_b 1 (plain 14 0 1) gives false)
-    ∷ (is_at_post track_b 1 (plain 13 0 1) gives false)
     ∷ (moves_train 7 (of_seven 4 0 1) gives false)
     ∷ (moves_train 7 (of_seven 5 0 1) gives true)
     ∷ (moves_train 7 (of_seven 7 1 1) gives true)

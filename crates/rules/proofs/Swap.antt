@@ -181,23 +181,17 @@ module _ (c : Line) (v b : Bool) where
   fewer_trains (walks set_device) p t trains last i f h =
       let k = set_held h in
       set_accepted h.fits (record {
-        serves = k.serves;
         in_turn_lem = k.in_turn_lem;
         free = f.watched k.free;
         fault1_confirmed_lem = k.fault1_confirmed_lem;
         measures_suffice_lem = k.measures_suffice_lem;
         no_fault2 = k.no_fault2;
       })
-  fewer_trains (walks announce) p t trains last i f h =
-      let k = announce_held h in
-      announce_accepted h.fits (record { serves = k.serves; in_turn_lem = k.in_turn_lem })
-  fewer_trains (walks acknowledge) p t trains last i f h =
-      let k = acknowledge_held h in
-      acknowledge_accepted h.fits (record { serves = k.serves; in_turn_lem = k.in_turn_lem })
+  fewer_trains (walks announce) p t trains last i f h = announce_accepted h.fits (record { in_turn_lem = (announce_held h).in_turn_lem })
+  fewer_trains (walks acknowledge) p t trains last i f h = acknowledge_accepted h.fits (record { in_turn_lem = (acknowledge_held h).in_turn_lem })
   fewer_trains (walks key) p t trains last i f h =
       let k = key_held h in
       key_accepted h.fits (record {
-        serves = k.serves;
         in_turn_lem = k.in_turn_lem;
         fault2 = k.fault2;
         free = f.watched k.free;
@@ -211,7 +205,6 @@ module _ (c : Line) (v b : Bool) where
   fewer_trains (releases z) p t trains last i f h =
       let k = release_held h in
       release_accepted h.fits (record {
-        serves = k.serves;
         in_turn_lem = k.in_turn_lem;
         in_command = k.in_command;
         fault1 = k.fault1;

@@ -13,7 +13,7 @@ use Rattle.rules.specs.Judge.{judge}
 use Rattle.rules.specs.Site.{is_settled}
 use Rattle.rules.specs.Demand3.{state_after, AcceptedStep, accepted_steps, under_way, OnTrack, NewOrder, Demand3}
 use Rattle.rules.specs.RangesKept.{NeverOutOfRange}
-use Rattle.rules.proofs.View.{seen_at, flat, shut_step}
+use Rattle.rules.proofs.View.{seen_at, flat}
 use Rattle.rules.proofs.Accept.{said_in, section_after_step}
 use Rattle.rules.proofs.Reached.{Reached, fresh_reached, reached_in_range}
 use Rattle.rules.proofs.Along.{n2, n16, all_kept}
@@ -81,5 +81,5 @@ demand3 c right offered = record {
 -- The new order that `demand3` gives. Unfolded, it computes on a day, where judging is unfolded too.
 unfoldable pub new_order : (c : Settings) → settings_in_range c ≡ true → (offered : List (List ℕ))
     → ((b : Bool) → under_way c.posts b (accepted_steps (fresh_section c) offered) ≡ false) → List AcceptedStep
-unfolding Demand3 demand3 new_order_lem all_kept sorted seen_at flat shut_step said_in section_after_step
+unfolding Demand3 demand3 new_order_lem all_kept sorted seen_at flat said_in section_after_step
 new_order c right offered ended = ((demand3 c right offered).reordered ended).order

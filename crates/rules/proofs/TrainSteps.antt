@@ -9,7 +9,7 @@ use Rattle.section.specs.Bytes.{within}
 use Rattle.section.specs.Step.{is_train_kind, kind_of, number_of}
 use Rattle.rules.specs.Demand3.{AcceptedStep, kind, post, number, is_on_track, is_step_of_train, is_of_train, is_of_post, Run, note_step}
 use Rattle.rules.proofs.View.{order, set_device, announce, acknowledge, key, Motion, start, pass, leave, measures, fault, caution}
-use Rattle.rules.proofs.View.{View, walks, runs, notes, releases, flat, post_flat, on, shuts, shut_step, as_step, one_track}
+use Rattle.rules.proofs.View.{View, walks, runs, notes, releases, flat, post_flat, on, as_step}
 use Rattle.rules.proofs.Reading.{Says}
 use Rattle.rules.proofs.Runs.{note_motion}
 
@@ -60,7 +60,7 @@ module _ (n : ℕ) (d : AcceptedStep) (t : Bool) (q : ℕ) (v : View) (h : Says 
 
   -- on its track alone
   pub track_test : (b : Bool) → is_on_track b d ≡ beq t b
-  track_test b = rw (← h.fields.kind_is, one_track q v, ← h.track_is) refl
+  track_test b = rw (← h.track_is) refl
 
   pub post_test_lem : (b : Bool) (p : ℕ) → is_of_post b p d ≡ (beq t b && eqb q p)
   post_test_lem b p = rw (track_test b, post_said) refl
@@ -81,9 +81,3 @@ module _ (n : ℕ) (d : AcceptedStep) (t : Bool) (q : ℕ) (v : View) (h : Says 
       go (notes k) true = refl
       go (releases y) false = refl
       go (releases y) true = refl
-
--- a closing or opening is of no train
-pub shut_no_train : (n : ℕ) (d : AcceptedStep) (t x : Bool) (q : ℕ) → Says n d.bytes (as_step (shuts t x q)) → (z : ℕ) → is_step_of_train z d ≡ false
-unfolding shut_step kind_of within
-shut_no_train n d t true q h z = rw (← h.fields.kind_is) refl
-shut_no_train n d t false q h z = rw (← h.fields.kind_is) refl

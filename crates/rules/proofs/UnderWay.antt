@@ -27,13 +27,12 @@ use Rattle.rules.specs.Table.{checks, effect, track_after}
 use Rattle.rules.specs.Demand3.{AcceptedStep, is_on_track, keep, other_end, ends_at, note_reversal, reversal_from, runs?, under_way}
 use Rattle.rules.proofs.Facts.{by_track, beq_same, beq_other, first_rank, last_rank, not_last_rank}
 use Rattle.rules.proofs.View.{order, set_device, announce, acknowledge, key, start, pass, leave, measures, fault, caution, View, walks, runs, notes}
-use Rattle.rules.proofs.View.{releases, flat, post_flat, Seen, on, shuts, shut_step, as_step}
+use Rattle.rules.proofs.View.{releases, flat, post_flat, Seen, on, as_step}
 use Rattle.rules.proofs.Reading.{Says}
 use Rattle.rules.proofs.Frame.{is_turn_lem, keeps_running}
 use Rattle.rules.proofs.Accept.{AcceptedOn, track_after_step, line, AcceptedIn, section_after_step}
 use Rattle.rules.proofs.Held.{order_held, set_held, key_held, announce_held, acknowledge_held}
 use Rattle.rules.proofs.Exchange.{here_after, there_after, walk_kept, cvt_kept}
-use Rattle.rules.proofs.Shut.{shut_after}
 use Rattle.rules.proofs.TrainSteps.{track_test}
 use Rattle.rules.proofs.Lists.{keep_append}
 
@@ -164,25 +163,9 @@ module _ (c : Settings) where
             ≡ cond w (note_reversal c.posts d (reversal_on b ds)) (reversal_on b ds)
         whether b e = ap (λ w. cond w (note_reversal c.posts d (reversal_on b ds)) (reversal_on b ds)) (track_test c.posts d t q k h b ∙ e)
 
-    -- a closing or opening counts for nothing
-    shut_noted : (t x : Bool) (q : ℕ) → Says c.posts d.bytes (as_step (shuts t x q)) → (r : Option ℕ) → note_reversal c.posts d r ≡ r
-    unfolding shut_step kind_of
-    shut_noted t true q h r = rw (← h.fields.kind_is) refl
-    shut_noted t false q h r = rw (← h.fields.kind_is) refl
-
-    shut_kept : (t x : Bool) (q : ℕ) → Says c.posts d.bytes (as_step (shuts t x q)) → Agrees s ds
-        → Agrees (section_after_step c s (shuts t x q)) (ds ++ d ∷ [])
-    shut_kept t x q h a b =
-        reversal_last b ds d ∙ either (is_on_track b d) ∙ a b ∙ sym (ap (λ u. last_post b u.cvt u.walk) (shut_after c s t x q b))
-      where
-        either : (w : Bool) → cond w (note_reversal c.posts d (reversal_on b ds)) (reversal_on b ds) ≡ reversal_on b ds
-        either true = shut_noted t x q h (reversal_on b ds)
-        either false = refl
-
     pub agrees_kept : (x : Seen) → Says c.posts d.bytes (as_step x) → AcceptedIn c s x → Agrees s ds
         → Agrees (section_after_step c s x) (ds ++ d ∷ [])
     agrees_kept (on t q k) h ok a = one_kept t q k h ok a
-    agrees_kept (shuts t x q) h ok a = shut_kept t x q h a
 
   pub fresh_agrees : Agrees (fresh_section c) []
   unfolding fresh_section fresh_track

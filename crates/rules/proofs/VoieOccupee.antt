@@ -1,8 +1,7 @@
 -- "Voie occupée" is never said: the block sections that the reversal has cleared are empty, and the announcer's and the acknowledger's is one of
 -- them. So is every block section of the part in which the announcer's lies: the post where that part begins, found backward from the announcer,
--- has set in this reversal and seen it free, as the accepted steps tell. A closed post ends no part, so what is
--- announced up to the next open post is cleared too.
-use Prim.Native.Nat.{ℕ, zero, suc, ◌≤◌, ◌<◌}
+-- has seen it free.
+use Prim.Native.Nat.{ℕ, zero, suc, ◌-◌, ◌≤◌, ◌<◌}
 use mathlib.Core.Bool.{Bool, true, false}
 use mathlib.Core.Path.{◌≡◌, sym, subst}
 use mathlib.Core.Logic.{◌⊎◌, inl, inr}
@@ -25,17 +24,16 @@ use Rattle.rules.specs.declared.Line.{Line}
 use Rattle.rules.specs.Line.{line_of}
 use Rattle.rules.specs.Site.{part_ends}
 use Rattle.rules.specs.Indications.{set_count}
-use Rattle.rules.specs.Demand3.{state_after, AcceptedStep, accepted_steps}
+use Rattle.rules.specs.Demand3.{state_after}
 use Rattle.rules.specs.VoieOccupee.{SeenFree, FreeToAnnounce, VoieOccupeeNeverSaid}
 use Rattle.rules.proofs.Facts.{true_or_false}
 use Rattle.rules.proofs.Stretches.{NoEnd}
 use Rattle.rules.proofs.Accept.{line}
-use Rattle.rules.proofs.Parts.{LineRight, only_open_ends}
+use Rattle.rules.proofs.Parts.{LineRight}
 use Rattle.rules.proofs.Ranges.{rank_on, TurnFits}
 use Rattle.rules.proofs.Cleared.{cleared_turn, cleared_announcer}
 use Rattle.rules.proofs.Invariant.{ClearedFree, Sound}
 use Rattle.rules.proofs.Reached.{Reached, reached_right}
-use Rattle.rules.proofs.SetInTurn.{Told, since}
 use Rattle.rules.proofs.Theorem.{reached_throughout}
 
 -- ## Where the part of a rank begins
@@ -65,8 +63,7 @@ begins_at ends (suc r) h = go (true_or_false (ends (suc r))) (begins_at ends r h
 
 -- ## Free to announce
 
-module _ (k : Settings) (ds : List AcceptedStep) (c : Line) (right : LineRight c) (b : Bool) (t : Track) (s : Sound c b t)
-    (told : (p : ℕ) (a : Act) → t.walk ≡ Turn p a → Told k c ds b t) where
+module _ (c : Line) (right : LineRight c) (b : Bool) (t : Track) (s : Sound c b t) where
   abbrev ends : ℕ → Bool
   ends = part_ends c b t.cvt
 
@@ -77,7 +74,7 @@ module _ (k : Settings) (ds : List AcceptedStep) (c : Line) (right : LineRight c
     clear : ClearedFree c b t.cvt (Turn p a) t.trains
     clear = subst (λ (w : Walk). ClearedFree c b t.cvt w t.trains) e s.clear
 
-  seen_free : (p : ℕ) → t.walk ≡ Turn p act.Announce → SeenFree k ds c b t (rank_on c b t.cvt p)
+  seen_free : (p : ℕ) → t.walk ≡ Turn p act.Announce → SeenFree c b t (rank_on c b t.cvt p)
   unfolding set_count
   seen_free p e =
       let w = begins_at ends (rank_on c b t.cvt p) (right.part_first b t.cvt) in
@@ -85,35 +82,33 @@ module _ (k : Settings) (ds : List AcceptedStep) (c : Line) (right : LineRight c
         watcher = w.rank;
         not_after = w.not_after;
         begins = w.begins;
+        has_set = rw e (omega (arith, w.not_after));
         same_part = w.same_part;
-        seen = (told p act.Announce e).found w.rank (rw e (omega (arith, w.not_after))) w.begins;
-        still_free = λ j from jn same.
+        free = λ j from jn same.
             clear p act.Announce e j
             (cleared_announcer c b t.cvt p w.rank j w.not_after same) jn;
       }
 
-  free_to_announce : FreeToAnnounce k ds c b t
+  free_to_announce : FreeToAnnounce c b t
   free_to_announce = record {
     seen = seen_free;
-    ahead = λ p e j from jn none.
-        clear p act.Announce e j
-        (cleared_announcer c b t.cvt p (rank_on c b t.cvt p) j (omega arith) (λ k above upto. only_open_ends c b t.cvt k (none k above upto))) jn;
-    before = λ p e i j ij last none.
+    ahead = λ p e.
+        let r = rank_on c b t.cvt p in
+        clear p act.Announce e r (cleared_announcer c b t.cvt p r r (omega arith) (λ k above upto. absurd (omega arith))) (fits p act.Announce e).1;
+    before = λ p e.
         let f = fits p act.Acknowledge e in
-        clear p act.Acknowledge e i (cleared_turn c b t.cvt p act.Acknowledge i (omega arith))
-        (omega (arith, rank_lt c.posts (upward b t.cvt) p f.0));
+        let r = rank_on c b t.cvt p in
+        clear p act.Acknowledge e (r - 1) (cleared_turn c b t.cvt p act.Acknowledge (r - 1) (omega (arith, f.1)))
+        (omega (arith, f.1, rank_lt c.posts (upward b t.cvt) p f.0));
   }
 
 pub voie_occupee_never_said : (c : Settings) → settings_in_range c ≡ true → (offered : List (List ℕ)) → VoieOccupeeNeverSaid c offered
 voie_occupee_never_said c right offered b =
-    subst (λ (k : Settings). FreeToAnnounce c ds (line_of k end.closed) b (track_of end b)) (sym reached.settings)
-    (free_to_announce c ds (line c end) (reached_right c right end reached) b (track_of end b) (reached.sound b) ((since c right offered).told b))
+    subst (λ (k : Settings). FreeToAnnounce (line_of k) b (track_of end b)) (sym reached.settings)
+    (free_to_announce (line c end) (reached_right c right end reached) b (track_of end b) (reached.sound b))
   where
     end : Section
     end = state_after (fresh_section c) offered
-
-    ds : List AcceptedStep
-    ds = accepted_steps (fresh_section c) offered
 
     reached : Reached c end
     reached = reached_throughout c right offered

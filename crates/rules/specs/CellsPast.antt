@@ -1,15 +1,12 @@
 -- "Cells past post n−1 or block section n−2 are neither tested nor changed.": of every section, reachable or not, in range or not, and all
--- bytes. The flags of closed posts are cells of posts. `cells-past-kept` (proofs/CellsKept.antt) and `cells-past-not-tested`
--- (proofs/CellsNotTested.antt) prove it.
+-- bytes. `cells-past-kept` (proofs/CellsKept.antt) and `cells-past-not-tested` (proofs/CellsNotTested.antt) prove it.
 use Rattle.std.specs.Prelude.{ℕ, suc, ◌≤◌, ◌<◌, Bool, ◌≡◌, List, get_or, length}
 use Rattle.section.specs.declared.Section.{Section}
 use Rattle.section.specs.declared.Track.{Track}
 use Rattle.section.specs.declared.TrackStep.{TrackStep}
 use Rattle.section.specs.Step.{post_of}
-use Rattle.section.specs.Store.{track_of, post_on, is_closed}
+use Rattle.section.specs.Store.{track_of, post_on}
 use Rattle.rules.specs.Indications.{indications}
-use Rattle.rules.specs.Line.{line_in}
-use Rattle.rules.specs.Table.{checks}
 use Rattle.rules.specs.Judge.{site_of, occupancy_of, judge}
 
 -- two states of a track keep the same at the posts that `At` picks, and in the block section just below each: block section i lies between
@@ -19,10 +16,6 @@ pub record SameCells (At : ℕ → Type 0) (t u : Track) : Type 0 where
   pub trains : (i : ℕ) → At (suc i) → get_or t.trains i 0 ≡ get_or u.trains i 0
   pub last : (i : ℕ) → At (suc i) → get_or t.last i 0 ≡ get_or u.last i 0
 
--- and of two lists of flags: the same posts are closed
-abbrev pub SameFlags : (ℕ → Type 0) → List Bool → List Bool → Type 0
-SameFlags At l k = (p : ℕ) → At p → is_closed l p ≡ is_closed k p
-
 -- ## Not changed
 
 -- from post n and block section n−1 on
@@ -30,7 +23,6 @@ abbrev pub SamePast : ℕ → Track → Track → Type 0
 SamePast n = SameCells (λ p. n ≤ p)
 
 pub record KeptPast (n : ℕ) (s u : Section) : Type 0 where
-  pub closed : SameFlags (λ p. n ≤ p) s.closed u.closed
   pub tracks : (b : Bool) → SamePast n (track_of s b) (track_of u b)
 
 abbrev pub CellsPastKept : Type 0
@@ -54,17 +46,12 @@ pub record SameBelow (n : ℕ) (t u : Track) : Type 0 where
 -- two sections differ only there
 pub record AgreeBelow (s u : Section) : Type 0 where
   pub settings : s.settings ≡ u.settings
-  pub closed : SameFlags (λ p. p < s.settings.posts) s.closed u.closed
-  pub flags : length s.closed ≡ length u.closed
   pub tracks : (b : Bool) → SameBelow s.settings.posts (track_of s b) (track_of u b)
 
 pub record TestedAlike (s u : Section) : Type 0 where
   -- what a step at a post of the section looks at
   pub sites : (x : TrackStep) → post_of x.step < s.settings.posts → site_of s x ≡ site_of u x
   pub occupancies : (x : TrackStep) → post_of x.step < s.settings.posts → occupancy_of s x ≡ occupancy_of u x
-  -- each of its checks
-  pub tables : (x : TrackStep) → post_of x.step < s.settings.posts
-      → checks (line_in s) x.step (site_of s x) (occupancy_of s x) ≡ checks (line_in u) x.step (site_of u x) (occupancy_of u x)
   -- what is answered to all bytes, and the sections afterwards
   pub verdicts : (bytes : List ℕ) → (judge s bytes).verdict ≡ (judge u bytes).verdict
   pub sections : (bytes : List ℕ) → AgreeBelow (judge s bytes).section (judge u bytes).section

@@ -53,7 +53,7 @@ post d = byte d.bytes 2
 abbrev pub number : AcceptedStep → ℕ
 number d = le16 (byte d.bytes 4) (byte d.bytes 5)
 
--- on one track: "closing and opening count among the post's steps on both tracks" (document 02, request 8)
+-- on one track
 abbrev pub is_on_track : Bool → AcceptedStep → Bool
 is_on_track b d = stands_on (kind d) (track d) b
 

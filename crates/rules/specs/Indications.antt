@@ -1,4 +1,4 @@
--- What a post shows (document 01; document 02, requests 3 and 8). The indications are a function of eight bits of the state.
+-- What a post shows (document 01; document 02, request 3). The indications are a function of eight bits of the state.
 use Rattle.std.specs.Prelude.{ℕ, zero, suc, Bool, false, cond, not, ◌&&◌, ◌||◌, List, eqb, ltb}
 use Rattle.section.specs.Bytes.{truth_number}
 use Rattle.section.specs.declared.Act.TheVariants.{Set, Announce, Acknowledge}
@@ -17,18 +17,17 @@ use Rattle.rules.specs.Line.{line_in, is_materialised}
 use Rattle.rules.specs.Site.{last_before, site_on, rank_at, up_at, open_at, commands, watched_occupied}
 
 -- how many posts, from the sending end on, have set in this reversal: "the posts before the turn's post have set, and that post too when
--- its act is announce"; closed posts before it, left out of the walk, are counted with them
+-- its act is announce"
 unfoldable pub set_count : ℕ → Bool → Walk → ℕ
 set_count n up Settled = 0
 set_count n up (Turn p Set) = rank n up p
 set_count n up (Turn p Announce) = suc (rank n up p)
 set_count n up (Turn p Acknowledge) = rank n up p
 
--- "the post before has set in this reversal and this one hasn't", of the post of rank j: "the post before, for another's lamp, is the last open
--- one"; a closed post's "lamp never flashes"; `in_service` tells which posts are open
+-- "the post before has set in this reversal and this one hasn't", of the post of rank j; `in_service` tells which posts are in service
 unfoldable pub is_next_to_set : (ℕ → Bool) → ℕ → ℕ → Bool
 is_next_to_set in_service count zero = false
-is_next_to_set in_service count (suc j) = in_service (suc j) && (ltb (last_before in_service (suc j)) count && not (ltb (suc j) count))
+is_next_to_set in_service count (suc j) = ltb (last_before in_service (suc j)) count && not (ltb (suc j) count)
 
 pub record Lamps : Type 0 where
   pub materialised : Bool

@@ -15,7 +15,7 @@ use Rattle.section.specs.Store.{track_of}
 use Rattle.rules.specs.declared.Site.{Site}
 use Rattle.rules.specs.Line.{line_in}
 use Rattle.rules.specs.Site.{site_on, other_on, Occupancy, occupancy_at}
-use Rattle.rules.specs.Table.{Check, checks, effect, track_after, closed_after}
+use Rattle.rules.specs.Table.{Check, checks, effect, track_after}
 
 -- "Figures are the refusals below. Every step not refused is accepted.": the first check that fails gives the refusal
 unfoldable pub verdict_of : List Check → Said → Verdict
@@ -32,7 +32,7 @@ site_of s x = site_on x.track (post_of x.step) (track_of s x.track)
 
 abbrev pub occupancy_of : Section → TrackStep → Occupancy
 occupancy_of s x =
-    occupancy_at (line_in s) (other_on s.settings.posts (post_of x.step) (track_of s (not x.track))) (site_of s x) (number_of x.step)
+    occupancy_at (line_in s) (other_on (track_of s (not x.track))) (site_of s x) (number_of x.step)
     (track_of s x.track).trains (track_of s x.track).last
 
 -- a step judged by the table
@@ -49,7 +49,6 @@ track_after_on s x b =
 unfoldable pub section_after : Section → TrackStep → Section
 section_after s x = record {
   settings = s.settings;
-  closed = closed_after x.step s.closed;
   a = track_after_on s x false;
   b = track_after_on s x true;
 }

@@ -6,7 +6,6 @@ pub mod Indications
 pub mod AllOpen
 pub mod Parts
 pub mod Demand3
-pub mod SetInTurn
 pub mod VoieOccupee
 pub mod RangesKept
 pub mod CellsPast

@@ -1,5 +1,5 @@
--- What a step looks at (document 01, "The section", "Steps, checks in order"; document 02, requests 1, 3 and 8): the site, where it is taken, and
--- the occupancy, the trains that it asks for and the other track. An effect takes the site alone.
+-- What a step looks at (document 01, "The section", "Steps, checks in order"; document 02, requests 1 and 3): the site, where it is taken, and the
+-- occupancy, the trains that it asks for and the other track. An effect takes the site alone.
 use Rattle.std.specs.Prelude.{ℕ, zero, suc, ◌-◌, Bool, true, false, cond, not, ◌&&◌, ◌||◌, List, get_or, eqb}
 use Rattle.section.specs.declared.Act.{Act}
 use Rattle.section.specs.declared.Act.TheVariants.{Set, Announce, Acknowledge}
@@ -93,18 +93,9 @@ last_before test (suc j) = cond (test j) j (last_before test j)
 -- what a check asks of the other track
 pub record Other : Type 0 where
   pub on_vns : Bool  -- it is settled on VNS
-  pub settled : Bool  -- no reversal is under way there
-  pub anywhere : Bool  -- a train anywhere on it
-  pub measures : Bool  -- measures are in place there, at the same post
 
--- of a line of n posts, at post p
-abbrev pub other_on : ℕ → ℕ → Track → Other
-other_on n p t = record {
-  on_vns = settled_on_vns t;
-  settled = is_settled t.walk;
-  anywhere = any_of is_train (n - 1) t.trains;
-  measures = (post_on t p).measures;
-}
+abbrev pub other_on : Track → Other
+other_on t = record { on_vns = settled_on_vns t }
 
 pub record Occupancy : Type 0 where
   pub watched : Bool  -- a train in the part that the post commands
@@ -139,25 +130,23 @@ module _ (c : Line) where
   unfoldable pub open_at : Bool → Bool → ℕ → Bool
   open_at track cvt j = is_open c (rank c.posts (upward track cvt) j)
 
-  -- the next post of the walk, at the latest the receiving end: "A closed post is left out of the walk of a reversal"
+  -- the next post of the walk, at the latest the receiving end
   unfoldable pub next_post : Site → ℕ
   next_post e = rank c.posts (up_at e) (first_from (open_at e.track e.cvt) (c.posts - suc (suc (rank_at e))) (suc (rank_at e)))
 
-  -- a stretch ends, and the next begins, at the post of rank j: "in every form a stretch reaches, for VNS, from one open post to the next, for
-  -- CVT from one open signalled post to the next" (art. 903)
+  -- a stretch ends, and the next begins, at the post of rank j: "for VNS, one block section. For CVT it reaches from one signalled post
+  -- to the next (art. 903)."
   unfoldable pub stretch_ends : Bool → Bool → ℕ → Bool
-  stretch_ends track cvt j = open_at track cvt j && (not cvt || is_signalled c.mask (rank c.posts (upward track cvt) j))
+  stretch_ends track cvt j = not cvt || is_signalled c.mask (rank c.posts (upward track cvt) j)
 
   -- the train in the block section that follows the post of rank j
   abbrev pub train_at : Bool → Bool → List ℕ → ℕ → ℕ
   train_at track cvt trains j = get_or trains (block c.posts (upward track cvt) j) 0
 
-  -- a block section ahead of the post, up to the next open post, passes the test: "A crossing beyond a closed post counts as lying ahead of the
-  -- open post before it", and so not of the closed one; the receiving end has none ahead
+  -- a block section ahead of the post, up to the next open post, passes the test; the receiving end has none ahead
   unfoldable pub lies_ahead : (ℕ → Bool) → Site → Bool
   lies_ahead test e =
-      is_open c e.post
-      && reach (open_at e.track e.cvt) (λ (j : ℕ). test (block c.posts (up_at e) j)) (c.posts - suc (rank_at e)) (rank_at e)
+      reach (open_at e.track e.cvt) (λ (j : ℕ). test (block c.posts (up_at e) j)) (c.posts - suc (rank_at e)) (rank_at e)
 
   -- a crossing lies ahead
   unfoldable pub crossing_ahead : Site → Bool
@@ -168,16 +157,15 @@ module _ (c : Line) where
   zones_lack_ahead e = lies_ahead (λ (i : ℕ). any_of (λ (b : ℕ). lies_in i b && lacks_zones b) most_crossings c.crossings) e
 
   -- a part ends, and the next begins, at the post of rank j: "On materialised lines, art. 910 gives the control of a part to the posts with
-  -- counter-track signals", in both directions; "A part reaches to the next open signalled post; on telephone lines the block section ahead,
-  -- for check 13 and TRONÇON, reaches to the next open post"
+  -- counter-track signals", in both directions; "Telephone lines keep the earlier rule": every post ends one
   unfoldable pub part_ends : Bool → Bool → ℕ → Bool
-  part_ends track cvt j = open_at track cvt j && (not (is_materialised c) || is_signalled c.mask (rank c.posts (upward track cvt) j))
+  part_ends track cvt j = not (is_materialised c) || is_signalled c.mask (rank c.posts (upward track cvt) j)
 
-  -- the post commands a part: one begins there ("the last post has none"); a closed post "commands no part"
+  -- the post commands a part: one begins there ("the last post has none")
   unfoldable pub commands : Site → Bool
   commands e = not (at_receiving_end e) && part_ends e.track e.cvt (rank_at e)
 
-  -- a train in the part that the post commands: all block sections up to the post where it ends; a post without one "checks no track"
+  -- a train in the part that the post commands: "all block sections up to the next signalled post ahead"; a post without one "checks no track"
   unfoldable pub watched_occupied : Site → List ℕ → Bool
   watched_occupied e trains =
       commands e && holds_train (part_ends e.track e.cvt) (train_at e.track e.cvt trains) (c.posts - suc (rank_at e)) (rank_at e)

@@ -1,5 +1,5 @@
--- The table of steps (document 01, "Steps, checks in order"; document 02, requests 1, 3 and 8): for each kind its checks in the paper's order, and
--- its effect.
+-- The table of steps (document 01, "Steps, checks in order"; document 02, requests 1 and 3): for each kind its checks in the paper's order, and its
+-- effect.
 use Rattle.std.specs.Prelude.{ℕ, Bool, true, false, cond, not, ◌&&◌, ◌||◌, List, [], ◌∷◌, set, eqb}
 use Rattle.section.specs.declared.Post.{Post}
 use Rattle.section.specs.declared.Fault.{Fault}
@@ -9,17 +9,16 @@ use Rattle.section.specs.declared.Walk.TheVariants.{Settled, Turn}
 use Rattle.section.specs.declared.Track.{Track}
 use Rattle.section.specs.declared.Step.{Step}
 use Rattle.section.specs.declared.Step.TheVariants.{Order, Set, Announce, Acknowledge, Start, Pass, Leave, MeasuresOn, MeasuresOff, FaultOn}
-use Rattle.section.specs.declared.Step.TheVariants.{FaultOff, Release, Key, Caution, Close, Open}
+use Rattle.section.specs.declared.Step.TheVariants.{FaultOff, Release, Key, Caution}
 use Rattle.section.specs.declared.Said.TheVariants.{Nothing, Cvt, Cvtz, Vns, Vnsz}
-use Rattle.section.specs.Numbers.{most_seals, close_kind}
+use Rattle.section.specs.Numbers.{most_seals}
 use Rattle.section.specs.Post.{turned, permitted, measured, faulty, marked, sealed, cautioned, has_fault}
-use Rattle.section.specs.Step.{is_both_kind, kind_of, post_of}
 use Rattle.rules.specs.declared.Line.{Line}
 use Rattle.rules.specs.declared.Site.{Site}
 use Rattle.rules.specs.declared.Movement.{Movement}
 use Rattle.rules.specs.declared.Movement.TheVariants.{Stays, Enters, Moves, Leaves}
 use Rattle.rules.specs.declared.Effect.{Effect}
-use Rattle.rules.specs.Line.{is_materialised, is_open}
+use Rattle.rules.specs.Line.{is_materialised}
 use Rattle.rules.specs.Site.{is_settled, is_turn, Occupancy, rank_at, at_sending_end, at_receiving_end, block_ahead, block_before, next_post, stretch_ends}
 use Rattle.rules.specs.Site.{crossing_ahead, zones_lack_ahead, commands}
 
@@ -57,31 +56,12 @@ order_allowed e other_on_vns = e.cvt || other_on_vns
 abbrev pub measures_suffice : Site → Bool
 measures_suffice e = e.cvt || e.own.measures
 
--- 13 and 11 of closing and opening: "each only with no train and no reversal on either track"
-abbrev pub both_empty : Occupancy → Bool
-both_empty g = not (g.anywhere || g.other.anywhere)
-
-abbrev pub both_settled : Site → Occupancy → Bool
-both_settled e g = is_settled e.walk && g.other.settled
-
--- 16 of closing: "measures in place on both tracks"
-abbrev pub both_measured : Site → Occupancy → Bool
-both_measured e g = e.own.measures && g.other.measures
-
 module _ (c : Line) where
-  -- 23: "the post is closed, first check of those kinds"
-  abbrev pub post_open : Site → Bool
-  post_open e = is_open c e.post
-
-  -- 12 of closing and opening: "an end post gives 12"
-  abbrev pub intermediate : Site → Bool
-  intermediate e = not (at_sending_end c e || at_receiving_end c e)
-
   -- 13 of order: "telephone form: a train anywhere on the track (art. 907)"; materialised: one in the part
   abbrev pub order_occupied : Occupancy → Bool
   order_occupied g = cond (is_materialised c) g.watched g.anywhere
 
-  -- 13 of pass: "at a post that begins a stretch: a train in that stretch. Pass elsewhere: never."; a closed post begins none
+  -- 13 of pass: "at a post that begins a stretch: a train in that stretch. Pass elsewhere: never."
   abbrev pub pass_occupied : Site → Occupancy → Bool
   pass_occupied e g = stretch_ends c e.track e.cvt (rank_at c e) && g.stretch_occupied
 
@@ -93,8 +73,7 @@ module _ (c : Line) where
   abbrev pub fault1_confirmed : Site → Bool
   fault1_confirmed e = not (commands c e) || (not e.own.faults.one || e.own.mark)
 
-  -- 22: "Start or pass into a block section with a crossing, under fault 4 or in CVT without zones, needs an E.S. 379 form for that train":
-  -- of "the open post before it, which alone hands out the form and whose fault 4 alone matters"
+  -- 22: "Start or pass into a block section with a crossing, under fault 4 or in CVT without zones, needs an E.S. 379 form for that train"
   abbrev pub caution_needed : Site → Bool
   caution_needed e = crossing_ahead c e && (e.own.faults.four || (e.cvt && zones_lack_ahead c e))
 
@@ -107,10 +86,10 @@ module _ (c : Line) where
   checks (Order p) e g =
       (is_settled e.walk else 11) ∷ (at_sending_end c e else 12) ∷ (order_allowed e g.other.on_vns else 14) ∷ (not (order_occupied g) else 13) ∷ []
   checks (Set p) e g =
-      (post_open e else 23) ∷ (is_turn e.walk e.post act.Set else 15) ∷ (not g.watched else 13) ∷ (fault1_confirmed e else 18)
-      ∷ (measures_suffice e else 16) ∷ (not e.own.faults.two else 19) ∷ []
-  checks (Announce p) e g = (post_open e else 23) ∷ (is_turn e.walk e.post act.Announce else 15) ∷ []
-  checks (Acknowledge p) e g = (post_open e else 23) ∷ (is_turn e.walk e.post act.Acknowledge else 15) ∷ []
+      (is_turn e.walk e.post act.Set else 15) ∷ (not g.watched else 13) ∷ (fault1_confirmed e else 18) ∷ (measures_suffice e else 16)
+      ∷ (not e.own.faults.two else 19) ∷ []
+  checks (Announce p) e g = (is_turn e.walk e.post act.Announce else 15) ∷ []
+  checks (Acknowledge p) e g = (is_turn e.walk e.post act.Acknowledge else 15) ∷ []
   checks (Start p number) e g =
       (is_settled e.walk else 11) ∷ (at_sending_end c e else 12) ∷ (not g.number_on_track else 17) ∷ (not g.stretch_occupied else 13)
       ∷ (fault1_confirmed e else 18) ∷ (caution_held number e else 22) ∷ []
@@ -118,23 +97,19 @@ module _ (c : Line) where
       (not (at_sending_end c e || at_receiving_end c e) else 12)
       ∷ (eqb g.train_before number else 17) ∷ (not (pass_occupied e g) else 13) ∷ (caution_held number e else 22) ∷ []
   checks (Leave p number) e g = (at_receiving_end c e else 12) ∷ (eqb g.train_before number else 17) ∷ []
-  checks (MeasuresOn p) e g = (post_open e else 23) ∷ (not e.own.measures else 21) ∷ []
-  checks (MeasuresOff p) e g = (post_open e else 23) ∷ (e.own.measures else 21) ∷ (not e.own.device else 16) ∷ []
+  checks (MeasuresOn p) e g = (not e.own.measures else 21) ∷ []
+  checks (MeasuresOff p) e g = (e.own.measures else 21) ∷ (not e.own.device else 16) ∷ []
   checks (FaultOn p f) e g = (not (has_fault f e.own) else 21) ∷ []
   checks (FaultOff p f) e g = (has_fault f e.own else 21) ∷ []
   -- a post that commands no part "is given 12 by release"
   checks (Release p number) e g =
-      (post_open e else 23) ∷ (release_in_turn e else 15) ∷ (commands c e else 12) ∷ (e.own.faults.one else 21) ∷ (not g.watched else 13)
+      (release_in_turn e else 15) ∷ (commands c e else 12) ∷ (e.own.faults.one else 21) ∷ (not g.watched else 13)
       ∷ (eqb g.last_ahead number else 17) ∷ []
   checks (Key p) e g =
-      (post_open e else 23) ∷ (is_turn e.walk e.post act.Set else 15) ∷ (e.own.faults.two else 21) ∷ (not g.watched else 13)
-      ∷ (fault1_confirmed e else 18) ∷ (measures_suffice e else 16) ∷ (not (eqb e.own.seals most_seals) else 20) ∷ []
+      (is_turn e.walk e.post act.Set else 15) ∷ (e.own.faults.two else 21) ∷ (not g.watched else 13) ∷ (fault1_confirmed e else 18)
+      ∷ (measures_suffice e else 16) ∷ (not (eqb e.own.seals most_seals) else 20) ∷ []
   -- "given 12 where no crossing lies in the block section ahead"
-  checks (Caution p number) e g = (post_open e else 23) ∷ (crossing_ahead c e else 12) ∷ []
-  -- "The checks of kinds 15 and 16, in order: 12, 21, 13, 11, for closing 16."
-  checks (Close p) e g =
-      (intermediate e else 12) ∷ (post_open e else 21) ∷ (both_empty g else 13) ∷ (both_settled e g else 11) ∷ (both_measured e g else 16) ∷ []
-  checks (Open p) e g = (intermediate e else 12) ∷ (not (post_open e) else 21) ∷ (both_empty g else 13) ∷ (both_settled e g else 11) ∷ []
+  checks (Caution p number) e g = (crossing_ahead c e else 12) ∷ []
 
   -- ## Effects
 
@@ -169,9 +144,6 @@ module _ (c : Line) where
   effect (Key p) e = setting e (sealed e.own)
   -- "handed out at that post"; "A newer form replaces the older"
   effect (Caution p number) e = keeping e (cautioned number e.own)
-  -- on each track: "closing drops the post's forms"; "On opening, its devices take each track's running direction."
-  effect (Close p) e = keeping e (cautioned 0 e.own)
-  effect (Open p) e = keeping e (turned e.cvt e.own)
 
   -- the block section before the post, left by its train: emptied where cells are cleared
   abbrev pub vacated : Bool → Site → List ℕ → List ℕ
@@ -193,7 +165,3 @@ module _ (c : Line) where
     cvt = (effect x e).cvt;
     walk = (effect x e).walk;
   }
-
--- which posts are closed after an accepted step: "Kind 15 closes and kind 16 opens"
-unfoldable pub closed_after : Step → List Bool → List Bool
-closed_after x closed = cond (is_both_kind (kind_of x)) (set closed (post_of x) (eqb (kind_of x) close_kind)) closed

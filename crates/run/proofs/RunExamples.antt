@@ -33,12 +33,9 @@ at kind post = kind ∷ 0 ∷ post ∷ 0 ∷ 0 ∷ 0 ∷ 0 ∷ 0 ∷ []
 abbrev start_at : ℕ → List ℕ
 start_at post = 5 ∷ 0 ∷ post ∷ 0 ∷ 7 ∷ 0 ∷ 0 ∷ 0 ∷ []
 
--- three posts, all signalled; two; and a line whose end post is not
+-- three posts, all signalled, and a line whose end post is not
 abbrev line : Section
 line = fresh (telephone 3 7)
-
-abbrev short_line : Section
-short_line = fresh (telephone 2 3)
 
 abbrev wrong_line : Section
 wrong_line = fresh (telephone 3 3)
@@ -49,10 +46,6 @@ pub runs :
     ((ran line (start_at 1 ++ start_at 0 ++ start_at 0) 7 gives 0 ∷ 0 ∷ 12 ∷ 0 ∷ 0 ∷ 0 ∷ 17 ∷ 0 ∷ 255 ∷ [])
     -- "0 or the refusal, then what is said": measures on, order, set and announce CVT
     ∷ (ran line (at 8 0 ++ at 1 0 ++ at 2 0 ++ at 3 0) 8 gives 0 ∷ 0 ∷ 0 ∷ 0 ∷ 0 ∷ 0 ∷ 0 ∷ 0 ∷ 0 ∷ 1 ∷ [])
-    -- "0 nothing, 1 CVT, 2 CVTz, 3 VNS, 4 VNSz": a reversal of a line of two posts to CVT, and back
-    ∷ (ran short_line
-    (at 8 0 ++ at 8 1 ++ at 1 0 ++ at 2 0 ++ at 3 0 ++ at 4 1 ++ at 2 1 ++ at 1 1 ++ at 2 1 ++ at 3 1 ++ at 4 0 ++ at 2 0) 25
-    gives 0 ∷ 0 ∷ 0 ∷ 0 ∷ 0 ∷ 0 ∷ 0 ∷ 0 ∷ 0 ∷ 0 ∷ 0 ∷ 1 ∷ 0 ∷ 2 ∷ 0 ∷ 0 ∷ 0 ∷ 0 ∷ 0 ∷ 0 ∷ 0 ∷ 3 ∷ 0 ∷ 4 ∷ 0 ∷ 0 ∷ 255 ∷ [])
     -- no steps, no answers
     ∷ (ran line [] 1 gives 0 ∷ 0 ∷ 255 ∷ [])
     -- "6" before "a malformed step"

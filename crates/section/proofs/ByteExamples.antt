@@ -11,14 +11,14 @@ use Rattle.section.specs.declared.Fault.TheVariants.{One, Two, Three, Four}
 use Rattle.section.specs.declared.Said.TheVariants.{Nothing, Cvt, Cvtz, Vns, Vnsz}
 use Rattle.section.specs.declared.Step.{Step}
 use Rattle.section.specs.declared.Step.TheVariants.{Order, Set, Announce, Acknowledge, Start, Pass, Leave}
-use Rattle.section.specs.declared.Step.TheVariants.{MeasuresOn, MeasuresOff, FaultOn, FaultOff, Release, Key, Caution, Close, Open}
+use Rattle.section.specs.declared.Step.TheVariants.{MeasuresOn, MeasuresOff, FaultOn, FaultOff, Release, Key, Caution}
 use Rattle.section.specs.declared.TrackStep.{TrackStep}
 use Rattle.section.specs.declared.Verdict.TheVariants.{Accepted, Refused}
 use Rattle.section.specs.declared.Walk.TheVariants.{Settled, Turn}
 use Rattle.section.specs.Bytes.{le16, within}
 use Rattle.section.specs.Crossings.{no_crossings, is_used, crossing_block, lacks_zones, lies_in, has_crossings}
 use Rattle.section.specs.Step.{fault_well_formed, number_well_formed, track_well_formed, place_well_formed, fields_well_formed, well_formed}
-use Rattle.section.specs.Step.{fault_of, step_of, step_said, decoded, fault_number, bytes_of, encoded, is_train_kind, stands_on}
+use Rattle.section.specs.Step.{fault_of, step_of, step_said, decoded, fault_number, bytes_of, encoded, is_train_kind}
 use Rattle.section.specs.Words.{refusal_of, said_by, said_number, said_numbered, letter}
 use Rattle.section.proofs.Rows.{◌gives◌, Holds}
 
@@ -39,7 +39,7 @@ a x = record { track = false; step = x }
 abbrev b : Step → TrackStep
 b x = record { track = true; step = x }
 
--- the sixteen kinds, at post 5; train 1,027 = 3 + 4 × 256
+-- the fourteen kinds, at post 5; train 1,027 = 3 + 4 × 256
 abbrev kinds : List StepBytes
 kinds =
     (1 ∷ 0 ∷ 5 ∷ 0 ∷ 0 ∷ 0 ∷ 0 ∷ 0 ∷ [] say a (Order 5))
@@ -62,8 +62,6 @@ kinds =
     ∷ (12 ∷ 0 ∷ 5 ∷ 0 ∷ 3 ∷ 4 ∷ 0 ∷ 0 ∷ [] say a (Release 5 1027))
     ∷ (13 ∷ 1 ∷ 5 ∷ 0 ∷ 0 ∷ 0 ∷ 0 ∷ 0 ∷ [] say b (Key 5))
     ∷ (14 ∷ 0 ∷ 5 ∷ 0 ∷ 3 ∷ 4 ∷ 0 ∷ 0 ∷ [] say a (Caution 5 1027))
-    ∷ (15 ∷ 0 ∷ 5 ∷ 0 ∷ 0 ∷ 0 ∷ 0 ∷ 0 ∷ [] say a (Close 5))
-    ∷ (16 ∷ 0 ∷ 5 ∷ 0 ∷ 0 ∷ 0 ∷ 0 ∷ 0 ∷ [] say a (Open 5))
     ∷ []
 
 -- what the bytes of a step say on a line of six posts, by computation
@@ -127,9 +125,6 @@ pub numbers_by_kind :
     ∷ (numbers 12 0 gives or_none)
     ∷ (numbers 13 0 gives zero_only)
     ∷ (numbers 14 0 gives of_atrain)
-    ∷ (numbers 15 0 gives zero_only)
-    ∷ (numbers 16 0 gives zero_only)
-    ∷ (numbers 17 0 gives never)
     ∷ (numbers 255 0 gives never)
     ∷ [])
 unfolding fits
@@ -163,24 +158,16 @@ pub faults_by_kind :
     ∷ (faults 12 0 gives no_fault)
     ∷ (faults 13 0 gives no_fault)
     ∷ (faults 14 7 gives no_fault)
-    ∷ (faults 15 0 gives no_fault)
-    ∷ (faults 16 0 gives no_fault)
     ∷ [])
 unfolding fits
 faults_by_kind = refl
 
-pub other_bytes_lem :
+pub other_bytes :
     Holds
     -- "byte 1 track, 0 or 1; byte 2 post, below n"
     ((fits (1 ∷ 1 ∷ 5 ∷ 0 ∷ 0 ∷ 0 ∷ 0 ∷ 0 ∷ []) gives true)
     ∷ (fits (1 ∷ 2 ∷ 5 ∷ 0 ∷ 0 ∷ 0 ∷ 0 ∷ 0 ∷ []) gives false)
     ∷ (fits (14 ∷ 2 ∷ 5 ∷ 0 ∷ 7 ∷ 0 ∷ 0 ∷ 0 ∷ []) gives false)
-    ∷ (fits (14 ∷ 1 ∷ 5 ∷ 0 ∷ 7 ∷ 0 ∷ 0 ∷ 0 ∷ []) gives true)
-    -- "for both tracks (track byte 0, else 4)"
-    ∷ (fits (15 ∷ 1 ∷ 5 ∷ 0 ∷ 0 ∷ 0 ∷ 0 ∷ 0 ∷ []) gives false)
-    ∷ (fits (16 ∷ 1 ∷ 5 ∷ 0 ∷ 0 ∷ 0 ∷ 0 ∷ 0 ∷ []) gives false)
-    ∷ (fits (15 ∷ 2 ∷ 5 ∷ 0 ∷ 0 ∷ 0 ∷ 0 ∷ 0 ∷ []) gives false)
-    ∷ (fits (15 ∷ 0 ∷ 6 ∷ 0 ∷ 0 ∷ 0 ∷ 0 ∷ 0 ∷ []) gives false)
     ∷ (fits (1 ∷ 0 ∷ 6 ∷ 0 ∷ 0 ∷ 0 ∷ 0 ∷ 0 ∷ []) gives false)
     ∷ (fits (7 ∷ 0 ∷ 6 ∷ 0 ∷ 7 ∷ 0 ∷ 0 ∷ 0 ∷ []) gives false)
     -- "bytes 6–7 zero"
@@ -191,30 +178,13 @@ pub other_bytes_lem :
     ∷ (fits (1 ∷ 0 ∷ 5 ∷ 0 ∷ 0 ∷ 0 ∷ 0 ∷ 0 ∷ 0 ∷ []) gives false)
     ∷ [])
 unfolding fits
-other_bytes_lem = refl
+other_bytes = refl
 
 -- a train's own steps are kinds 5 to 7
 pub train_kinds :
     map is_train_kind (0 ∷ 4 ∷ 5 ∷ 6 ∷ 7 ∷ 8 ∷ 12 ∷ 14 ∷ []) ≡ (false ∷ false ∷ true ∷ true ∷ true ∷ false ∷ false ∷ false ∷ [])
 unfolding within
 train_kinds = refl
-
--- a step stands on the track that its bytes name, kinds 15 and 16 on both: whether on A and on B
-abbrev tracks_of : ℕ → Bool → List Bool
-tracks_of kind track = map (stands_on kind track) (false ∷ true ∷ [])
-
-pub tracks_by_kind :
-    Holds
-    ((tracks_of 1 false gives true ∷ false ∷ [])
-    ∷ (tracks_of 1 true gives false ∷ true ∷ [])
-    ∷ (tracks_of 6 true gives false ∷ true ∷ [])
-    ∷ (tracks_of 14 false gives true ∷ false ∷ [])
-    ∷ (tracks_of 14 true gives false ∷ true ∷ [])
-    ∷ (tracks_of 15 false gives true ∷ true ∷ [])
-    ∷ (tracks_of 16 false gives true ∷ true ∷ [])
-    ∷ [])
-unfolding within
-tracks_by_kind = refl
 
 -- ## Answers
 

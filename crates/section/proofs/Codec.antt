@@ -127,7 +127,6 @@ module _ (n : ℕ) (s : List ℕ) (x : TrackStep) (d : decoded n s ≡ Well x) w
   track_again : truth_number x.track ≡ byte s 1
   track_again = rw decoded_track (truth_back (byte s 1) track_below)
 
-  -- in kinds 15 and 16 the track is A
   pub decoded_track_well_formed : track_well_formed (kind_of x.step) (truth_number x.track) ≡ true
   decoded_track_well_formed = rw (decoded_kind, track_again) tests.track_well_formed_lem
 

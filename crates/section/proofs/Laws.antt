@@ -1,7 +1,7 @@
 -- Laws that other crates cite: of ranks and block sections; what the ranges of a state say of each post and block section, both ways; that the
 -- fresh section is in its ranges.
 use Prim.Native.Nat.{ℕ, zero, suc, ◌-◌, ◌≤◌, ◌<◌}
-use mathlib.Core.Bool.{Bool, true, false, cond, not, ◌&&◌, and-eq-true_iff}
+use mathlib.Core.Bool.{Bool, true, false, cond, ◌&&◌, and-eq-true_iff}
 use mathlib.Core.List.{List, [], ◌∷◌}
 use mathlib.Core.Path.{◌≡◌, refl, sym, ap, ◌∙◌}
 use native.Mathlib.Nat.{not-suc-le-zero}
@@ -23,9 +23,9 @@ use Rattle.section.specs.Fresh.{fresh_track, fresh_section}
 use Rattle.section.specs.Geometry.{upward, rank, block, is_last}
 use Rattle.section.specs.Numbers.{least_posts, most_posts, most_blocks, most_seals, largest_train}
 use Rattle.section.specs.Post.{blank, permitted}
-use Rattle.section.specs.Range.{post_in_range, posts_in_range, numbers_in_range, act_in_range, walk_in_range, track_in_range, ends_open, in_range}
+use Rattle.section.specs.Range.{post_in_range, posts_in_range, numbers_in_range, act_in_range, walk_in_range, track_in_range, in_range}
 use Rattle.section.specs.Settings.{settings_in_range}
-use Rattle.section.specs.Store.{track_of, is_closed}
+use Rattle.section.specs.Store.{track_of}
 use Rattle.section.proofs.Tests.{stops, goes_on}
 
 -- ## Ranks and block sections
@@ -237,41 +237,28 @@ module _ (n : ℕ) (up : Bool) (p : ℕ) where
   unfolding act_in_range
   announce_right h = not-true (is_last n up p) h
 
--- the end posts are open
-pub ends_open_lem : (n : ℕ) (closed : List Bool) → ends_open n closed ≡ true → (is_closed closed 0 ≡ false) × (is_closed closed (n - 1) ≡ false)
-unfolding ends_open
-ends_open_lem n closed h =
-    let parts = and_parts (not (is_closed closed 0)) (not (is_closed closed (n - 1))) h in
-    (not-true _ parts.0, not-true _ parts.1)
-
--- a section in its ranges: its settings, its end posts, and each track
+-- a section in its ranges: its settings, and each track
 module _ (s : Section) where
   pub settings_in_range_lem : in_range s ≡ true → settings_in_range s.settings ≡ true
   unfolding in_range
   settings_in_range_lem h = and_left _ _ h
 
-  pub ends_in_range : in_range s ≡ true → ends_open s.settings.posts s.closed ≡ true
-  unfolding in_range
-  ends_in_range h = and_left _ _ (and_right (settings_in_range s.settings) _ h)
-
   tracks_in_range :
       in_range s ≡ true → (track_in_range s.settings.posts false s.a ≡ true) × (track_in_range s.settings.posts true s.b ≡ true)
   unfolding in_range
   tracks_in_range h =
-      let ends = ends_open s.settings.posts s.closed in
       let a = track_in_range s.settings.posts false s.a in
       let b = track_in_range s.settings.posts true s.b in
-      and_parts a b (and_right ends (a && b) (and_right (settings_in_range s.settings) (ends && (a && b)) h))
+      and_parts a b (and_right (settings_in_range s.settings) (a && b) h)
 
   pub track_in_range_lem : in_range s ≡ true → (track : Bool) → track_in_range s.settings.posts track (track_of s track) ≡ true
   track_in_range_lem h true = (tracks_in_range h).1
   track_in_range_lem h false = (tracks_in_range h).0
 
   pub section_in_range :
-      settings_in_range s.settings ≡ true → ends_open s.settings.posts s.closed ≡ true
-      → ((track : Bool) → track_in_range s.settings.posts track (track_of s track) ≡ true) → in_range s ≡ true
+      settings_in_range s.settings ≡ true → ((track : Bool) → track_in_range s.settings.posts track (track_of s track) ≡ true) → in_range s ≡ true
   unfolding in_range
-  section_in_range h ends tracks = both h (both ends (both (tracks false) (tracks true)))
+  section_in_range h tracks = both h (both (tracks false) (tracks true))
 
 -- ## The fresh section
 
@@ -299,11 +286,6 @@ unfolding fresh_section
 fresh_tracks c h true = ranges_hold c.posts true (fresh_track c.posts true) (fresh_track_ranges c.posts true h)
 fresh_tracks c h false = ranges_hold c.posts false (fresh_track c.posts false) (fresh_track_ranges c.posts false h)
 
-pub fresh_ends : (n : ℕ) → least_posts ≤ n → n ≤ most_posts → ends_open n (replicate most_posts false) ≡ true
-unfolding ends_open
-fresh_ends n least most = rw (get_or-replicate most_posts (n - 1) false false (omega arith)) refl
-
 pub fresh_in_range : (c : Settings) → settings_in_range c ≡ true → in_range (fresh_section c) ≡ true
 unfolding fresh_section
-fresh_in_range c h =
-    section_in_range (fresh_section c) h (fresh_ends c.posts (posts_right c h).0 (posts_right c h).1) (fresh_tracks c (posts_right c h).1)
+fresh_in_range c h = section_in_range (fresh_section c) h (fresh_tracks c (posts_right c h).1)

@@ -1,5 +1,5 @@
--- The ends of every range that settings and a state have, in plain numbers (document 01, "The section", "The day file"; document 02, requests 1,
--- 5 and 8), and a fresh section.
+-- The ends of every range that settings and a state have, in plain numbers (document 01, "The section", "The day file"; document 02, requests 1
+-- and 5), and a fresh section.
 use Prim.Native.Nat.{ℕ}
 use mathlib.Core.Bool.{Bool, true, false}
 use mathlib.Core.Path.{◌≡◌, refl}
@@ -17,7 +17,7 @@ use Rattle.section.specs.Crossings.{crossings_in_range}
 use Rattle.section.specs.Fresh.{fresh_track, fresh_section}
 use Rattle.section.specs.Geometry.{upward, rank, block, is_first, is_last}
 use Rattle.section.specs.Post.{permitted}
-use Rattle.section.specs.Range.{post_in_range, posts_in_range, numbers_in_range, act_in_range, walk_in_range, track_in_range, ends_open, in_range}
+use Rattle.section.specs.Range.{post_in_range, posts_in_range, numbers_in_range, act_in_range, walk_in_range, track_in_range, in_range}
 use Rattle.section.specs.Settings.{is_signalled, none_from, settings_in_range}
 use Rattle.section.specs.Store.{with_track, with_post}
 use Rattle.section.proofs.Rows.{◌gives◌, Holds}
@@ -191,34 +191,13 @@ pub fresh_settings : (fresh_section three_posts).settings ≡ three_posts
 unfolding fresh_section
 fresh_settings = refl
 
--- "A fresh section has all posts open": sixteen flags
-pub fresh_closed : (fresh_section three_posts).closed ≡ replicate 16 false
-unfolding fresh_section
-fresh_closed = refl
-
--- 6 looks at the settings, at the closed posts and at both tracks
+-- 6 looks at the settings and at both tracks
 unfoldable pub whole : Section → Bool
-unfolding in_range ends_open settings tracks fresh_section fresh_track
+unfolding in_range settings tracks fresh_section fresh_track
 whole s = in_range s
 
 abbrev broken : Bool → Section
 broken b = with_track (fresh_section three_posts) b (with_post (fresh_track 3 b) 1 (at 1000 0))
-
--- those of posts 0, 1, 2 and 3 of a line of three posts; post 3 it has not
-abbrev closed_at : List Bool → Bool
-closed_at closed = whole (record { settings = three_posts; closed = closed; a = fresh_track 3 false; b = fresh_track 3 true })
-
--- "a closed end post in a state is 6"; a flag past n−1 is not tested
-pub closed_ends :
-    Holds
-    ((closed_at (false ∷ false ∷ false ∷ false ∷ []) gives true)
-    ∷ (closed_at (true ∷ false ∷ false ∷ false ∷ []) gives false)
-    ∷ (closed_at (false ∷ true ∷ false ∷ false ∷ []) gives true)
-    ∷ (closed_at (false ∷ false ∷ true ∷ false ∷ []) gives false)
-    ∷ (closed_at (false ∷ false ∷ false ∷ true ∷ []) gives true)
-    ∷ [])
-unfolding whole
-closed_ends = refl
 
 pub sections_in_range :
     Holds

@@ -10,7 +10,7 @@ use Rattle.section.specs.declared.Decoded.{Decoded}
 use Rattle.section.specs.declared.Decoded.TheVariants.{Well, Malformed}
 use Rattle.section.specs.declared.Fault.TheVariants.{Four}
 use Rattle.section.specs.declared.Step.{Step}
-use Rattle.section.specs.declared.Step.TheVariants.{Order, Start, FaultOn, Release, Caution, Close, Open}
+use Rattle.section.specs.declared.Step.TheVariants.{Order, Start, FaultOn, Release, Caution}
 use Rattle.section.specs.declared.TrackStep.{TrackStep}
 use Rattle.section.specs.Bytes.{within, truth_number}
 use Rattle.section.specs.Numbers.{largest_train}
@@ -64,7 +64,7 @@ step_in_plain_words = in_words decodes_what_is_encoded encodes_in_eight_bytes en
 abbrev fits_three : Bool → Step → Bool
 fits_three track x = step_in_range 3 (record { track = track; step = x })
 
--- post 2 of three; numbers 1 to 59,999 of a train, from 0 on in a release; a closing and an opening name track A
+-- post 2 of three; numbers 1 to 59,999 of a train, from 0 on in a release
 pub steps_in_range :
     (fits_three false (Order 2) ≡ true)
     × ((fits_three true (FaultOn 2 Four) ≡ true)
@@ -72,11 +72,9 @@ pub steps_in_range :
     × ((fits_three false (Start 0 59999) ≡ true)
     × ((fits_three true (Caution 1 59999) ≡ true)
     × ((fits_three true (Release 1 0) ≡ true)
-    × ((fits_three true (Release 1 59999) ≡ true)
-    × ((fits_three false (Close 2) ≡ true)
-    × (fits_three false (Open 2) ≡ true))))))))
+    × (fits_three true (Release 1 59999) ≡ true))))))
 unfolding step_in_range track_well_formed kind_of post_of number_of number_well_formed within
-steps_in_range = (refl, (refl, (refl, (refl, (refl, (refl, (refl, (refl, refl))))))))
+steps_in_range = (refl, (refl, (refl, (refl, (refl, (refl, refl))))))
 
 pub steps_out_of_range :
     (fits_three false (Order 3) ≡ false)
@@ -84,9 +82,6 @@ pub steps_out_of_range :
     × ((fits_three false (Start 0 0) ≡ false)
     × ((fits_three false (Start 0 60000) ≡ false)
     × ((fits_three true (Caution 1 0) ≡ false)
-    × ((fits_three true (Release 1 60000) ≡ false)
-    × ((fits_three false (Close 3) ≡ false)
-    × ((fits_three true (Close 1) ≡ false)
-    × (fits_three true (Open 1) ≡ false))))))))
+    × (fits_three true (Release 1 60000) ≡ false)))))
 unfolding step_in_range track_well_formed kind_of post_of number_of number_well_formed within
-steps_out_of_range = (refl, (refl, (refl, (refl, (refl, (refl, (refl, (refl, refl))))))))
+steps_out_of_range = (refl, (refl, (refl, (refl, (refl, refl)))))

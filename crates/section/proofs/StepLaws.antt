@@ -12,11 +12,11 @@ use Rattle.section.specs.declared.Fault.{Fault}
 use Rattle.section.specs.declared.Fault.TheVariants.{One, Two, Three, Four}
 use Rattle.section.specs.declared.Step.{Step}
 use Rattle.section.specs.declared.Step.TheVariants.{Order, Set, Announce, Acknowledge, Start, Pass, Leave}
-use Rattle.section.specs.declared.Step.TheVariants.{MeasuresOn, MeasuresOff, FaultOn, FaultOff, Release, Key, Caution, Close, Open}
+use Rattle.section.specs.declared.Step.TheVariants.{MeasuresOn, MeasuresOff, FaultOn, FaultOff, Release, Key, Caution}
 use Rattle.section.specs.declared.Decoded.TheVariants.{Well, Malformed}
 use Rattle.section.specs.Bytes.{byte, le16, within, AllBytes, truth_number}
 use Rattle.section.specs.Numbers.{largest_train, step_length, last_fault, last_kind, release_kind, caution_kind}
-use Rattle.section.specs.Step.{is_kind, is_train_kind, is_fault_kind, is_both_kind, is_fault, is_train_number, track_well_formed}
+use Rattle.section.specs.Step.{is_kind, is_train_kind, is_fault_kind, is_fault, is_train_number, track_well_formed}
 use Rattle.section.specs.Step.{Fields, fields, fields_in, fault_well_formed, number_well_formed, place_well_formed, fields_well_formed, well_formed}
 use Rattle.section.specs.Step.{fault_of, step_of, step_said, decoded, fault_number, fields_of}
 use Rattle.section.proofs.Laws.{and_left, and_right}
@@ -111,7 +111,7 @@ module _ (p f z : ℕ) where
   unfolding step_of fault_well_formed number_well_formed within
   fields_again =
       from_one (λ (k : ℕ). fault_well_formed k f ≡ true → number_well_formed k z ≡ true → fields_of (step_of (fields k p f z)) ≡ fields k p f z) last_kind
-      (plain, (plain, (plain, (plain, (train, (train, (train, (plain, (plain, (faulted, (faulted, (train, (plain, (train, (plain, (plain, tt))))))))))))))))
+      (plain, (plain, (plain, (plain, (train, (train, (train, (plain, (plain, (faulted, (faulted, (train, (plain, (train, tt))))))))))))))
 
 pub fields_back :
     (f : Fields) → is_kind f.kind ≡ true → fault_well_formed f.kind f.fault ≡ true → number_well_formed f.kind f.number ≡ true →
@@ -156,8 +156,6 @@ own (FaultOff p f) = record { same = ap (FaultOff p) (fault_same f); kind_well_f
 own (Release p z) = record { same = refl; kind_well_formed = refl; fault_well_formed_lem = refl }
 own (Key p) = record { same = refl; kind_well_formed = refl; fault_well_formed_lem = refl }
 own (Caution p z) = record { same = refl; kind_well_formed = refl; fault_well_formed_lem = refl }
-own (Close p) = record { same = refl; kind_well_formed = refl; fault_well_formed_lem = refl }
-own (Open p) = record { same = refl; kind_well_formed = refl; fault_well_formed_lem = refl }
 
 pub truth_same : (b : Bool) → eqb (truth_number b) 1 ≡ b
 truth_same true = refl
@@ -183,11 +181,7 @@ kind_small kind e = leb-true kind last_kind (and_right (leb 1 kind) (leb kind la
 
 pub track_small : (kind track : ℕ) → track_well_formed kind track ≡ true → track < 2
 unfolding track_well_formed
-track_small kind track e = small (is_both_kind kind) e
-  where
-    small : (both : Bool) → cond both (eqb track 0) (ltb track 2) ≡ true → track < 2
-    small true h = omega (arith, eqb-true track 0 h)
-    small false h = ltb-true track 2 h
+track_small kind track e = ltb-true track 2 e
 
 pub fault_small : (kind fault : ℕ) → fault_well_formed kind fault ≡ true → fault ≤ last_fault
 unfolding fault_well_formed within

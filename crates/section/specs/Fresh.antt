@@ -1,4 +1,4 @@
--- The fresh section (document 01, "The section"; document 02, request 8).
+-- The fresh section (document 01, "The section").
 use Rattle.std.specs.Prelude.{ℕ, ◌-◌, Bool, true, false, cond, set, replicate}
 use Rattle.section.specs.declared.Settings.{Settings}
 use Rattle.section.specs.declared.Track.{Track}
@@ -17,11 +17,6 @@ fresh_track n track = record {
   walk = Settled;
 }
 
--- "A fresh section has all posts open"; for settings out of their ranges too: judging answers such a section with 6
+-- for settings out of their ranges too: judging answers such a section with 6
 unfoldable pub fresh_section : Settings → Section
-fresh_section c = record {
-  settings = c;
-  closed = replicate most_posts false;
-  a = fresh_track c.posts false;
-  b = fresh_track c.posts true;
-}
+fresh_section c = record { settings = c; a = fresh_track c.posts false; b = fresh_track c.posts true }

@@ -85,12 +85,6 @@ key_kind = 13
 abbrev pub caution_kind : ℕ
 caution_kind = 14
 
-abbrev pub close_kind : ℕ
-close_kind = 15
-
-abbrev pub open_kind : ℕ
-open_kind = 16
-
 -- they are numbered from 1 on
 abbrev pub last_kind : ℕ
-last_kind = open_kind
+last_kind = caution_kind

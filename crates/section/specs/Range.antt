@@ -1,4 +1,4 @@
--- The ranges of a state (document 01, "The section"; document 02, request 8; refusal 6). Cells past post n−1 or block section n−2 are not tested.
+-- The ranges of a state (document 01, "The section"; refusal 6). Cells past post n−1 or block section n−2 are not tested.
 use Rattle.std.specs.Prelude.{ℕ, zero, suc, ◌-◌, Bool, true, false, not, ◌&&◌, List, get_or, ltb, leb}
 use Rattle.section.specs.declared.Post.{Post}
 use Rattle.section.specs.declared.Act.{Act}
@@ -11,7 +11,6 @@ use Rattle.section.specs.Geometry.{upward, is_first, is_last}
 use Rattle.section.specs.Numbers.{most_seals, largest_train}
 use Rattle.section.specs.Post.{blank}
 use Rattle.section.specs.Settings.{settings_in_range}
-use Rattle.section.specs.Store.{is_closed}
 
 -- "a seal count 0 to 999"; a caution form for a train, 0 for none
 unfoldable pub post_in_range : Post → Bool
@@ -42,13 +41,8 @@ track_in_range n track t =
     posts_in_range n t.posts
     && (numbers_in_range (n - 1) t.trains && (numbers_in_range (n - 1) t.last && walk_in_range n (upward track t.cvt) t.walk))
 
--- "a closed end post in a state is 6"
-unfoldable pub ends_open : ℕ → List Bool → Bool
-ends_open n closed = not (is_closed closed 0) && not (is_closed closed (n - 1))
-
 -- what refusal 6 asks for
 unfoldable pub in_range : Section → Bool
 in_range s =
     settings_in_range s.settings
-    && (ends_open s.settings.posts s.closed
-    && (track_in_range s.settings.posts false s.a && track_in_range s.settings.posts true s.b))
+    && (track_in_range s.settings.posts false s.a && track_in_range s.settings.posts true s.b)

@@ -1,19 +1,18 @@
--- A step in its eight bytes (document 01, "The day file"; document 02, requests 1 and 8).
+-- A step in its eight bytes (document 01, "The day file"; document 02, request 1).
 use Rattle.std.specs.Prelude.{ℕ, ◌/◌, ◌%◌, Bool, cond, ◌&&◌, ◌||◌, List, [], ◌∷◌, length, eqb, ltb, leb}
 use Rattle.std.specs.Bool.{beq}
 use Rattle.section.specs.declared.Fault.{Fault}
 use Rattle.section.specs.declared.Fault.TheVariants.{One, Two, Three, Four}
 use Rattle.section.specs.declared.Step.{Step}
 use Rattle.section.specs.declared.Step.TheVariants.{Order, Set, Announce, Acknowledge, Start, Pass, Leave}
-use Rattle.section.specs.declared.Step.TheVariants.{MeasuresOn, MeasuresOff, FaultOn, FaultOff, Release, Key, Caution, Close, Open}
+use Rattle.section.specs.declared.Step.TheVariants.{MeasuresOn, MeasuresOff, FaultOn, FaultOff, Release, Key, Caution}
 use Rattle.section.specs.declared.TrackStep.{TrackStep}
 use Rattle.section.specs.declared.Decoded.{Decoded}
 use Rattle.section.specs.declared.Decoded.TheVariants.{Well, Malformed}
 use Rattle.section.specs.Bytes.{byte, le16, within, truth_number}
 use Rattle.section.specs.Numbers.{largest_train, step_length, last_fault, last_kind}
 use Rattle.section.specs.Numbers.{order_kind, set_kind, announce_kind, acknowledge_kind, start_kind, pass_kind, leave_kind}
-use Rattle.section.specs.Numbers.{measures_on_kind, measures_off_kind, fault_on_kind, fault_off_kind, release_kind, key_kind, caution_kind, close_kind}
-use Rattle.section.specs.Numbers.{open_kind}
+use Rattle.section.specs.Numbers.{measures_on_kind, measures_off_kind, fault_on_kind, fault_off_kind, release_kind, key_kind, caution_kind}
 
 -- ## The fields
 
@@ -33,7 +32,7 @@ fields_in s = fields (byte s 0) (byte s 2) (byte s 3) (le16 (byte s 4) (byte s 5
 
 -- ## The kinds
 
--- "kind, 1 to 13", and 14 to 16
+-- "kind, 1 to 13", and 14
 abbrev pub is_kind : ℕ → Bool
 is_kind kind = within 1 last_kind kind
 
@@ -45,13 +44,9 @@ is_train_kind kind = within start_kind leave_kind kind
 abbrev pub is_fault_kind : ℕ → Bool
 is_fault_kind kind = within fault_on_kind fault_off_kind kind
 
--- kinds 15 and 16: "Kind 15 closes and kind 16 opens an intermediate post for both tracks"
-abbrev pub is_both_kind : ℕ → Bool
-is_both_kind kind = within close_kind open_kind kind
-
--- a step of that kind whose bytes name that track stands on track b
+-- a step of that kind whose bytes name that track stands on track b: one of any kind on its own track alone
 abbrev pub stands_on : ℕ → Bool → Bool → Bool
-stands_on kind track b = is_both_kind kind || beq track b
+stands_on kind track b = beq track b
 
 abbrev pub is_fault : ℕ → Bool
 is_fault fault = within 1 last_fault fault
@@ -71,9 +66,9 @@ number_well_formed kind number =
     cond (is_train_kind kind || eqb kind caution_kind) (is_train_number number)
     (cond (eqb kind release_kind) (leb number largest_train) (eqb number 0))
 
--- "byte 1 track, 0 or 1"; in kinds 15 and 16 "track byte 0, else 4"
+-- "byte 1 track, 0 or 1", in every kind
 unfoldable pub track_well_formed : ℕ → ℕ → Bool
-track_well_formed kind track = cond (is_both_kind kind) (eqb track 0) (ltb track 2)
+track_well_formed kind track = ltb track 2
 
 -- "byte 0 kind, 1 to 13; byte 1 track, 0 or 1; byte 2 post, below n"
 unfoldable pub place_well_formed : ℕ → ℕ → ℕ → ℕ → Bool
@@ -108,9 +103,7 @@ step_of f =
     (cond (eqb f.kind fault_off_kind) (FaultOff f.post (fault_of f.fault))
     (cond (eqb f.kind release_kind) (Release f.post f.number)
     (cond (eqb f.kind key_kind) (Key f.post)
-    (cond (eqb f.kind caution_kind) (Caution f.post f.number)
-    (cond (eqb f.kind close_kind) (Close f.post)
-    (Open f.post)))))))))))))))
+    (Caution f.post f.number)))))))))))))
 
 -- the step that eight bytes say, right or not
 unfoldable pub step_said : List ℕ → TrackStep
@@ -143,8 +136,6 @@ fields_of (FaultOff p f) = fields fault_off_kind p (fault_number f) 0
 fields_of (Release p z) = fields release_kind p 0 z
 fields_of (Key p) = fields key_kind p 0 0
 fields_of (Caution p z) = fields caution_kind p 0 z
-fields_of (Close p) = fields close_kind p 0 0
-fields_of (Open p) = fields open_kind p 0 0
 
 unfoldable pub kind_of : Step → ℕ
 kind_of x = (fields_of x).kind

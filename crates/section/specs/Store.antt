@@ -1,5 +1,5 @@
--- The tracks of a section, the posts of a track, the closed posts.
-use Rattle.std.specs.Prelude.{ℕ, Bool, false, cond, List, get_or, set}
+-- The tracks of a section, the posts of a track.
+use Rattle.std.specs.Prelude.{ℕ, Bool, cond, get_or, set}
 use Rattle.section.specs.declared.Post.{Post}
 use Rattle.section.specs.declared.Track.{Track}
 use Rattle.section.specs.declared.Section.{Section}
@@ -10,11 +10,7 @@ abbrev pub track_of : Section → Bool → Track
 track_of s track = cond track s.b s.a
 
 abbrev pub with_track : Section → Bool → Track → Section
-with_track s track t = record { settings = s.settings; closed = s.closed; a = cond track s.a t; b = cond track t s.b }
-
--- post p is closed, by the flags of a section
-abbrev pub is_closed : List Bool → ℕ → Bool
-is_closed closed p = get_or closed p false
+with_track s track t = record { settings = s.settings; a = cond track s.a t; b = cond track t s.b }
 
 -- the record of post p; a post that the track has not is blank
 abbrev pub post_on : Track → ℕ → Post

@@ -41,7 +41,6 @@ pub fn fresh(c: Settings) -> Section
 {
     Section {
         settings: c,
-        closed: [false; MOST_POSTS as usize],
         a: fresh_track(c.posts, false),
         b: fresh_track(c.posts, true),
     }

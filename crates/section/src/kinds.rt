@@ -28,8 +28,4 @@ pub const KEY: u8 = 13;
 
 pub const CAUTION: u8 = 14;
 
-pub const CLOSE: u8 = 15;
-
-pub const OPEN: u8 = 16;
-
-pub const LAST: u8 = OPEN;
+pub const LAST: u8 = CAUTION;

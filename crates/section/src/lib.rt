@@ -61,8 +61,7 @@ pub enum Fault {
     Four,
 }
 
-// A step: one of sixteen kinds, each with only the fields it needs. Caution: a caution form (E.S. 379) for a train is handed out. Close, Open: a
-// post closes or opens, for both tracks.
+// A step: one of fourteen kinds, each with only the fields it needs. Caution: a caution form (E.S. 379) for a train is handed out.
 #[derive(Drop)]
 pub enum Step {
     Order { post: u8 },
@@ -79,11 +78,9 @@ pub enum Step {
     Release { post: u8, number: u16 },
     Key { post: u8 },
     Caution { post: u8, number: u16 },
-    Close { post: u8 },
-    Open { post: u8 },
 }
 
-// A step with its track: true for B, false for A; Close and Open name A and stand on both.
+// A step with its track: true for B, false for A.
 #[derive(Drop)]
 pub struct TrackStep {
     pub track: bool,
@@ -149,13 +146,9 @@ pub struct Track {
     pub walk: Walk,
 }
 
-// Which posts are closed, for both tracks: one flag a post.
-pub type ClosedPosts = [bool; MOST_POSTS as usize];
-
 #[derive(Drop)]
 pub struct Section {
     pub settings: Settings,
-    pub closed: ClosedPosts,
     pub a: Track,
     pub b: Track,
 }

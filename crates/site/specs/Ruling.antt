@@ -1,31 +1,27 @@
--- The table's ruling on a step, over the site, the cells of its track and what a check asks of the other track: its first check that fails, or its
--- effect; and the cells after it.
-use Rattle.std.specs.Prelude.{ℕ, Bool, false, cond, List, [], ◌∷◌}
+-- The table's ruling on a step, over the site, the cells of its track and whether the other track is settled on VNS: its first check that fails,
+-- or its effect; and the cells after it.
+use Rattle.std.specs.Prelude.{ℕ, Bool, cond, List, [], ◌∷◌}
 use Rattle.section.specs.declared.Step.{Step}
 use Rattle.section.specs.Step.{number_of}
 use Rattle.rules.specs.declared.Effect.{Effect}
 use Rattle.rules.specs.declared.Line.{Line}
 use Rattle.rules.specs.declared.Site.{Site}
-use Rattle.rules.specs.Site.{Other, occupancy_at}
+use Rattle.rules.specs.Site.{occupancy_at}
 use Rattle.rules.specs.Table.{Check, checks, effect, cells_after}
 use Rattle.site.specs.declared.ruling.Ruling.{Ruling}
 use Rattle.site.specs.declared.ruling.Ruling.TheVariants.{Refused, Accepted}
 
--- another track of which a check asks at most that: whether it is settled on VNS
-abbrev pub beside_vns : Bool → Other
-beside_vns on_vns = record { on_vns = on_vns; settled = false; anywhere = false; measures = false }
-
 -- the row of checks that the step meets
-abbrev pub row_at : Line → Other → Step → Site → List ℕ → List ℕ → List Check
-row_at c other x e trains last = checks c x e (occupancy_at c other e (number_of x) trains last)
+abbrev pub row_at : Line → Bool → Step → Site → List ℕ → List ℕ → List Check
+row_at c other_on_vns x e trains last = checks c x e (occupancy_at c (record { on_vns = other_on_vns }) e (number_of x) trains last)
 
 -- "Figures are the refusals below. Every step not refused is accepted."
 unfoldable pub ruling_of : List Check → Effect → Ruling
 ruling_of [] f = Accepted f
 ruling_of (k ∷ ks) f = cond k.holds (ruling_of ks f) (Refused k.refusal)
 
-abbrev pub ruling_at : Line → Other → Step → Site → List ℕ → List ℕ → Ruling
-ruling_at c other x e trains last = ruling_of (row_at c other x e trains last) (effect c x e)
+abbrev pub ruling_at : Line → Bool → Step → Site → List ℕ → List ℕ → Ruling
+ruling_at c other_on_vns x e trains last = ruling_of (row_at c other_on_vns x e trains last) (effect c x e)
 
 -- the cells of the block sections after it: of the trains, where what is left is cleared, or of the last trains
 abbrev pub cells_ruled : Line → Bool → Ruling → Site → List ℕ → List ℕ

@@ -1,9 +1,9 @@
 -- A site from what its track does, and what counts of the other track.
-use Rattle.std.specs.Prelude.{ℕ, ◌-◌, Bool, List}
+use Rattle.std.specs.Prelude.{ℕ, Bool}
 use Rattle.section.specs.declared.Post.{Post}
 use Rattle.section.specs.declared.Track.{Track}
 use Rattle.rules.specs.declared.Site.{Site}
-use Rattle.rules.specs.Site.{is_settled, settled_vns, is_train, any_of, Other}
+use Rattle.rules.specs.Site.{settled_vns}
 use Rattle.site.specs.declared.running.Running.{Running}
 
 abbrev pub running_of : Track → Running
@@ -13,15 +13,6 @@ running_of t = record { cvt = t.cvt; walk = t.walk }
 abbrev pub site_with : Bool → ℕ → Post → Running → Site
 site_with track p own r = record { track = track; post = p; cvt = r.cvt; walk = r.walk; own = own }
 
--- the track that runs so is settled on VNS: all that most steps ask of the other track
+-- the track that runs so is settled on VNS: all that counts of the other track
 abbrev pub on_vns : Running → Bool
 on_vns r = settled_vns r.walk r.cvt
-
--- what a check asks of the other track, on a line of n posts: it runs so, the post has that record there, and its block sections keep those trains
-abbrev pub other_with : ℕ → Post → Running → List ℕ → Other
-other_with n own r trains = record {
-  on_vns = on_vns r;
-  settled = is_settled r.walk;
-  anywhere = any_of is_train (n - 1) trains;
-  measures = own.measures;
-}

@@ -1,11 +1,10 @@
 // What the checks ask, apart from the trains.
 ghost use Rattle.std.specs.Prelude.{◌||◌, ◌≡◌};
 ghost use Rattle.rules.specs.Site.{is_settled, same_act, is_turn, at_sending_end, at_receiving_end};
-ghost use Rattle.rules.specs.Table.{order_allowed, release_in_turn, measures_suffice, fault1_confirmed, post_open};
+ghost use Rattle.rules.specs.Table.{order_allowed, release_in_turn, measures_suffice, fault1_confirmed};
 ghost use Rattle.site.specs.OnTheLine.{OnTheLine};
 
 use crate::ends::commands;
-use crate::line::is_open;
 use crate::place::{at_receiving_end, at_sending_end};
 use rules::{Line, Site};
 use section::{Act, Walk};
@@ -57,7 +56,7 @@ pub fn is_turn(walk: Walk, p: u8, act: Act) -> bool
     }
 }
 
-// 12 of pass, closing and opening: an end post.
+// 12 of pass: an end post.
 pub fn at_end(c: Line, e: Site) -> bool
     requires { OnTheLine c e }
     ensures { result ≡ (at_sending_end c e || at_receiving_end c e) }
@@ -115,12 +114,4 @@ pub fn fault1_confirmed(c: Line, e: Site) -> bool
         return true;
     }
     e.own.mark
-}
-
-// 23: the post is open.
-pub fn post_open(c: Line, e: Site) -> bool
-    requires { OnTheLine c e }
-    ensures { result ≡ post_open c e }
-{
-    is_open(c, e.post)
 }

@@ -5,24 +5,20 @@ ghost use Rattle.rules.specs.Site.{commands};
 ghost use Rattle.site.specs.Ends.{ends_at_rank};
 ghost use Rattle.site.specs.OnTheLine.{OnTheLine};
 
-use crate::line::{is_materialised, is_open};
+use crate::line::is_materialised;
 use crate::place::{at_receiving_end, rank_at};
 use rules::{Line, Site};
 use section::positions;
 
-// Whether a stretch or a part ends at the post of rank j: at an open post, or a signalled one of these. The rank of a rank is the post.
+// Whether a stretch or a part ends at the post of rank j. The rank of a rank is the post.
 pub fn ends_at(c: Line, signalled_only: bool, up: bool, j: u8) -> bool
     requires { (j < c.posts) × (c.posts ≤ most_posts) }
     ensures { result ≡ ends_at_rank c signalled_only up j }
 {
-    let p = positions::rank(c.posts, up, j);
-    if !is_open(c, p) {
-        return false;
-    }
     if !signalled_only {
         return true;
     }
-    positions::is_signalled(c.mask, p)
+    positions::is_signalled(c.mask, positions::rank(c.posts, up, j))
 }
 
 // Whether the post commands a part.
@@ -31,7 +27,7 @@ pub fn commands(c: Line, e: Site) -> bool
     ensures { result ≡ commands c e }
 {
     if at_receiving_end(c, e) {
-        return false; // it has none
+        return false;
     }
     ends_at(
         c,

@@ -3,7 +3,6 @@
 pub mod conditions;
 pub mod ends;
 pub mod line;
-pub mod open_posts;
 pub mod place;
 pub mod ruling;
 pub mod running;

@@ -41,8 +41,6 @@ pub fn post_of(x: Step) -> u8
         Step::Release { post, number: _ } => post,
         Step::Key { post } => post,
         Step::Caution { post, number: _ } => post,
-        Step::Close { post } => post,
-        Step::Open { post } => post,
     }
 }
 

@@ -1,29 +1,20 @@
 -- Sets of kinds, bit k for kind k. A set has the kinds that a test names: the checker computes both for every kind, and the law of items is the test
 -- at each kind. A field that is 0 chooses the set of the kinds that need not have it, any other the set of those that may.
 use Prim.Native.Nat.{ℕ, suc, ◌/◌, ◌%◌, ◌^◌, ◌≤◌}
-use mathlib.Core.Bool.{Bool, true, false, not, ◌||◌}
+use mathlib.Core.Bool.{Bool, false, not, ◌||◌}
 use mathlib.Core.List.{List}
 use mathlib.Core.Logic.{◌⊎◌, inl, inr}
 use mathlib.Core.Path.{◌≡◌, ap, sym, ◌∙◌}
 use native.Mathlib.Omega.{arith}
-use borrow.Author.Tests.{leb-true}
-use lib.Dec.{eqb, leb}
+use lib.Dec.{eqb}
 use lib.ListN.{get_or}
-use Rattle.section.specs.Bytes.{within}
 use Rattle.section.specs.Items.{items}
 use Rattle.section.specs.Numbers.{last_kind}
-use Rattle.section.specs.Step.{is_kind}
 use Rattle.section.proofs.Items.{item_at}
-use Rattle.section.proofs.Laws.{and_right}
 use Rattle.steps.proofs.UpTo.{fits, at_zero, up_to}
 
 abbrev pub has : ℕ → ℕ → Bool
 has set kind = eqb (set / 2 ^ kind % 2) 1
-
--- a kind of a step is one that a set may be asked for
-pub known_kind : (kind : ℕ) → is_kind kind ≡ true → kind ≤ last_kind
-unfolding within
-known_kind kind h = leb-true kind last_kind (and_right (leb 1 kind) (leb kind last_kind) h)
 
 -- a test of kinds, for all of them
 abbrev pub table : (ℕ → Bool) → List Bool

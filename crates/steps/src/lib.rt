@@ -55,12 +55,10 @@ fn step_of(kind: u8, post: u8, fault: u8, number: u16) -> Step
             number: number,
         },
         kinds::KEY => Step::Key { post: post },
-        kinds::CAUTION => Step::Caution {
+        _ => Step::Caution {
             post: post,
             number: number,
         },
-        kinds::CLOSE => Step::Close { post: post },
-        _ => Step::Open { post: post },
     }
 }
 

@@ -2,7 +2,7 @@
 ghost use Rattle.std.specs.Prelude.{◌≡◌, ◌/◌, ◌%◌, ◌^◌, ◌≤◌, eqb};
 ghost use Rattle.section.specs.Bytes.{within};
 ghost use Rattle.section.specs.Numbers.{last_kind};
-ghost use Rattle.section.specs.Step.{fields, track_well_formed, fault_well_formed, number_well_formed, place_well_formed, fields_well_formed, well_formed};
+ghost use Rattle.section.specs.Step.{fields, fault_well_formed, number_well_formed, place_well_formed, fields_well_formed, well_formed};
 
 use section::{LARGEST_TRAIN, LAST_FAULT, STEP_LENGTH, kinds, le16_of};
 
@@ -12,13 +12,8 @@ fn is_within(lo: u8, hi: u8, x: u8) -> bool
     if lo <= x { x <= hi } else { false }
 }
 
-// Sets of kinds, bit k for kind k: those whose track byte may be 1, those whose fault may be 0 and those that have one, those whose number may be 0
-// and those that may have another.
+// Sets of kinds, bit k for kind k: those whose fault may be 0 and those that have one, those whose number may be 0 and those that may have another.
 const ALL_KINDS: u32 = 0xFFFF_FFFF;
-
-const ON_BOTH_TRACKS: u32 = (1 << kinds::CLOSE) + (1 << kinds::OPEN);
-
-const ON_ONE_TRACK: u32 = ALL_KINDS - ON_BOTH_TRACKS;
 
 const WITH_FAULT: u32 = (1 << kinds::FAULT_ON) + (1 << kinds::FAULT_OFF);
 
@@ -41,19 +36,8 @@ fn is_in(set: u32, kind: u8) -> bool
     (set >> kind) & 1 == 1
 }
 
-// Track, fault and number are held against their largest value. Whether they are 0 says which kinds may have them: a set is chosen, and no jump
-// depends on the kind, which would slow down the test of a day's steps.
-fn track_well_formed(kind: u8, track: u8) -> bool
-    requires { kind ≤ last_kind }
-    ensures { result ≡ track_well_formed kind track }
-{
-    if track > 1 {
-        return false;
-    }
-    let set = if track == 0 { ALL_KINDS } else { ON_ONE_TRACK };
-    is_in(set, kind)
-}
-
+// Fault and number are held against their largest value. Whether they are 0 says which kinds may have them: a set is chosen, and no jump depends on
+// the kind, which would slow down the test of a day's steps.
 fn fault_well_formed(kind: u8, fault: u8) -> bool
     requires { kind ≤ last_kind }
     ensures { result ≡ fault_well_formed kind fault }
@@ -90,7 +74,7 @@ fn place_well_formed(n: u8, kind: u8, track: u8, post: u8) -> bool
     if !is_within(1, kinds::LAST, kind) {
         return false;
     }
-    if !track_well_formed(kind, track) {
+    if track >= 2 {
         return false;
     }
     post < n

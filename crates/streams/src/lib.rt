@@ -1,4 +1,4 @@
-// Standard input or a file, read whole, and standard output, written whole.
+// Standard input, read whole, and standard output, written whole.
 ghost use Rattle.std.specs.Prelude.{false, ◌≡◌};
 ghost use Rattle.streams.specs.LiesIn.{LiesIn};
 
@@ -12,10 +12,10 @@ pub enum Input {
 }
 
 // Reads once. No bytes: the input has ended.
-fn read_once(descriptor: i32, rest: &mut [u8]) -> Input
+fn read_once(rest: &mut [u8]) -> Input
     ensures { LiesIn result rest.new }
 {
-    let got = libc::read(descriptor, rest);
+    let got = libc::read(STDIN_FILENO, rest);
     if got < 0 {
         return Input::Failed;
     }
@@ -23,12 +23,12 @@ fn read_once(descriptor: i32, rest: &mut [u8]) -> Input
 }
 
 // Reads until the input ends or the buffer is full. No contract can say what the input holds: only that what is read is within the buffer.
-pub fn read_from(descriptor: i32, buffer: &mut [u8]) -> Input
+pub fn read_whole(buffer: &mut [u8]) -> Input
     ensures { LiesIn result buffer.new }
 {
     let mut done = 0;
     while done < buffer.len() {
-        let Input::Bytes(more) = read_once(descriptor, &mut buffer[done..]) else {
+        let Input::Bytes(more) = read_once(&mut buffer[done..]) else {
             return Input::Failed;
         };
         if more == 0 {
@@ -37,13 +37,6 @@ pub fn read_from(descriptor: i32, buffer: &mut [u8]) -> Input
         done += more;
     }
     Input::Bytes(done)
-}
-
-// Reads standard input so.
-pub fn read_whole(buffer: &mut [u8]) -> Input
-    ensures { LiesIn result buffer.new }
-{
-    read_from(STDIN_FILENO, buffer)
 }
 
 // Writes the text, if all before it was written, and answers whether all is written now. A failure is told on standard error, in the words of the

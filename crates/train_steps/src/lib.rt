@@ -2,7 +2,7 @@
 ghost use Rattle.std.specs.Prelude.{true, false, [], ◌≡◌};
 ghost use Rattle.section.specs.declared.Step.TheVariants.{Start, Pass, Leave};
 ghost use Rattle.site.specs.OnTheLine.{OnTheLine};
-ghost use Rattle.site.specs.Ruling.{beside_vns, ruling_at, cells_ruled};
+ghost use Rattle.site.specs.Ruling.{ruling_at, cells_ruled};
 
 use crate::movement::{enter, moving, used_up, vacate};
 use crossings::caution_held;
@@ -18,7 +18,7 @@ mod movement;
 
 pub fn start(c: Line, e: Site, number: u16, trains: &mut Trains, last: &mut Trains) -> Ruling
     requires { OnTheLine c e }
-    ensures value { result ≡ ruling_at c (beside_vns false) (Start e.post number) e trains.old [] }
+    ensures value { result ≡ ruling_at c false (Start e.post number) e trains.old [] }
     ensures trains_after { trains.new ≡ cells_ruled c true result e trains.old }
     ensures last_after { last.new ≡ cells_ruled c false result e last.old }
 {
@@ -53,7 +53,7 @@ pub fn start(c: Line, e: Site, number: u16, trains: &mut Trains, last: &mut Trai
 
 pub fn pass(c: Line, e: Site, number: u16, trains: &mut Trains, last: &mut Trains) -> Ruling
     requires { OnTheLine c e }
-    ensures value { result ≡ ruling_at c (beside_vns false) (Pass e.post number) e trains.old [] }
+    ensures value { result ≡ ruling_at c false (Pass e.post number) e trains.old [] }
     ensures trains_after { trains.new ≡ cells_ruled c true result e trains.old }
     ensures last_after { last.new ≡ cells_ruled c false result e last.old }
 {
@@ -79,7 +79,7 @@ pub fn pass(c: Line, e: Site, number: u16, trains: &mut Trains, last: &mut Train
 // What it leaves of the last trains is what was there.
 pub fn leave(c: Line, e: Site, number: u16, trains: &mut Trains) -> Ruling
     requires { OnTheLine c e }
-    ensures value { result ≡ ruling_at c (beside_vns false) (Leave e.post number) e trains.old [] }
+    ensures value { result ≡ ruling_at c false (Leave e.post number) e trains.old [] }
     ensures trains_after { trains.new ≡ cells_ruled c true result e trains.old }
 {
     if !at_receiving_end(c, e) {

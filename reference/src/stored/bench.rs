@@ -113,7 +113,7 @@ impl Bench {
         while post != last {
             self.accept(turn(post));
             self.accept(Step::Announce { post });
-            post = way.next_open_post(self.section.line(), post);
+            post = way.next_post(post);
             self.accept(Step::Acknowledge { post });
         }
         self.accept(turn(post));

@@ -120,9 +120,6 @@ fn out_of_reach(case: &Case) -> bool {
         (2 | 13, 13) => case.form == TELEPHONE || case.n == 2,
         // Two posts are both ends.
         (6, refusal) => case.n == 2 && refusal != 12,
-        (_, 23) => case.n == 2,
-        // For both tracks, with track byte 0.
-        (15 | 16, refusal) => case.track == 1 || case.n == 2 && refusal != 12,
         _ => false,
     }
 }

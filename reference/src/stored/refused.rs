@@ -87,8 +87,6 @@ fn settings() -> Vec<Named> {
         ("refused_3_byte_6", with_settings(&[(6, 1)])),
         ("refused_3_byte_7", with_settings(&[(7, 1)])),
         ("refused_3_before_4", with_malformed_step_and_form()),
-        ("refused_3_form_3", with_settings(&[(1, 3)])),
-        ("refused_3_form_3_before_4", with_kind_21_and_form_3()),
     ];
     demand_all(&files, 3);
     files
@@ -145,10 +143,6 @@ fn crossings() -> Vec<Named> {
         malformed_step_and_crossing(),
     ));
     files.push((
-        "refused_3_crossings_before_4_kind_21",
-        with_first_byte(malformed_step_and_crossing(), 21),
-    ));
-    files.push((
         "refused_3_bsr2_over_a_bsr1_file",
         under(Mark::Bsr2, good_day()),
     ));
@@ -162,7 +156,7 @@ fn crossings() -> Vec<Named> {
 
 fn steps() -> Vec<Named> {
     [
-        ("refused_4_first_step_kind_21", malformed(0, 0, 21)),
+        ("refused_4_first_step_kind_15", malformed(0, 0, 15)),
         ("refused_4_form_without_number", malformed(0, 0, 14)),
         ("refused_4_fault_in_a_form", malformed_form(3, 4)),
         ("refused_4_byte_6_of_a_form", malformed_form(6, 1)),
@@ -174,10 +168,6 @@ fn steps() -> Vec<Named> {
         ("refused_4_number_in_an_order", malformed(3, 4, 1)),
         ("refused_4_byte_6", malformed(3, 6, 1)),
         ("refused_4_byte_7", malformed(0, 7, 1)),
-        ("refused_4_closing_on_track_b", malformed_closing(0, 1, 1)),
-        ("refused_4_opening_on_track_b", malformed_closing(1, 1, 1)),
-        ("refused_4_fault_in_a_closing", malformed_closing(0, 3, 1)),
-        ("refused_4_number_in_an_opening", malformed_closing(1, 4, 1)),
         ("refused_4_step_4095", last_step_malformed(three_posts())),
         (
             "refused_4_step_4095_crossings",
@@ -346,25 +336,6 @@ fn with_malformed_step_and_form() -> Vec<u8> {
     let mut file = with_settings(&[(1, 2)]);
     file[0] = 15;
     file
-}
-
-fn with_kind_21_and_form_3() -> Vec<u8> {
-    with_first_byte(with_settings(&[(1, 3)]), 21)
-}
-
-fn with_first_byte(mut file: Vec<u8>, value: u8) -> Vec<u8> {
-    file[0] = value;
-    file
-}
-
-/// A closing and an opening of post 1 of three, with one byte of either changed.
-fn malformed_closing(index: usize, place: usize, value: u8) -> (Vec<u8>, u32) {
-    let mut bench = Bench::new(three_posts(), A);
-    bench.refuse(Step::Close { post: 1 }, 16);
-    bench.refuse(Step::Open { post: 1 }, 21);
-    let mut file = bench.day();
-    file[index * STEP_LENGTH + place] = value;
-    (file, index as u32)
 }
 
 fn last_step_malformed(settings: Settings) -> (Vec<u8>, u32) {

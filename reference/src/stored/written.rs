@@ -9,9 +9,8 @@
 //! set A1 shows 2/0/0 2/1/1
 //! ```
 //!
-//! The crossings may be left out; each is a block section. A step must be accepted unless `->`
-//! gives a refusal. `close` and `open` are for both tracks; the letter only says whose lamps are
-//! meant. `says` gives the announcement or acknowledgement, `shows` the lamps of the track's posts from post 0 on, as
+//! The crossings may be left out; each is a block section. A step must be accepted unless `->` gives a refusal. `says` gives the announcement or
+//! acknowledgement, `shows` the lamps of the track's posts from post 0 on, as
 //! CIRCULATION/TRONÇON/permission. A number after the place is the train's or, for
 //! `fault_on` and `fault_off`, the fault's. Empty lines and those that begin with `#` are
 //! for the reader.
@@ -127,8 +126,6 @@ fn step(kind: &str, post: u8, number: u16, line: &str) -> Step {
         "release" => Step::Release { post, train },
         "key" => Step::Key { post },
         "form" => Step::Form { post, train },
-        "close" => Step::Close { post },
-        "open" => Step::Open { post },
         _ => panic!("no such kind: {line}"),
     }
 }

@@ -32,13 +32,13 @@ returns c =
     let entry = c.before.before.before in
     sym (none_ended _ _ entry.requires (unused_not_sought entry.args.sought entry.args.block) l.i l.invariant.1 c.if1.true)
 
-is-sought-crossing-requires : tie.Need-is-sought-crossing-requires invariant-loop decreases-loop
-is-sought-crossing-requires c κs = tt
+is-sought-requires : tie.Need-is-sought-requires invariant-loop decreases-loop
+is-sought-requires c κs = tt
 
 returns-2 : tie.Need-returns-2 invariant-loop decreases-loop
 returns-2 c =
     let in-loop = c.before.before.before in
-    sym (any_found _ _ most_crossings in-loop.before.loop.i (omega arith) (told c.before.is-sought-crossing.ensures c.if2.true))
+    sym (any_found _ _ most_crossings in-loop.before.loop.i (omega arith) (told c.before.is-sought.ensures c.if2.true))
 
 add-i : tie.Need-overflow-add-i invariant-loop decreases-loop
 add-i c = omega arith
@@ -49,7 +49,7 @@ loop-less c = omega arith
 loop-again : tie.Need-loop-preserved invariant-loop decreases-loop
 loop-again c =
     let l = c.before.before.before.before.loop in
-    (omega arith, below_more _ _ l.invariant.1 (told c.before.is-sought-crossing.ensures c.if2.false))
+    (omega arith, below_more _ _ l.invariant.1 (told c.before.is-sought.ensures c.if2.false))
 
 returns-3 : tie.Need-returns-3 invariant-loop decreases-loop
 returns-3 c =
@@ -65,7 +65,7 @@ any-crossing-spec =
     loop-holds
     array-read-b
     returns
-    is-sought-crossing-requires
+    is-sought-requires
     returns-2
     add-i
     loop-less

@@ -14,7 +14,7 @@ returns c =
     let start = c.before.before in
     let a = start.args in
     let none : crossing_ahead a.t1 a.e ≡ false =
-    sym (crossing_sought a.t1 a.e) ∙ none_ahead a.t1 a.e start.requires.crossings c.if1.true in
+    sym (crossing_sought a.t1 a.e start.requires.post) ∙ none_ahead a.t1 a.e start.requires.crossings c.if1.true in
     ap
     (λ (b : Bool). not (b && (a.e.own.faults.four || (a.e.cvt && zones_lack_ahead a.t1 a.e))) || eqb a.e.own.caution a.number)
     (sym none)

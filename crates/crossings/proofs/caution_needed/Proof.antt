@@ -9,9 +9,10 @@ use Rattle.crossings.proofs.caution_needed.Tie as tie
 
 returns : tie.Need-returns
 returns c =
-    let a = c.before.before.args in
+    let start = c.before.before in
+    let a = start.args in
     c.sought-ahead.ensures
-    ∙ crossing_sought a.c a.e
+    ∙ crossing_sought a.c a.e start.requires.post
     ∙ needed_by_fault (crossing_ahead a.c a.e) a.e.own.faults.four a.e.cvt (zones_lack_ahead a.c a.e) c.before.if1.true
 
 returns-2 : tie.Need-returns-2
@@ -25,8 +26,8 @@ returns-3 : tie.Need-returns-3
 returns-3 c =
     let left = c.before.before.before in
     let a = left.before.args in
-    let crossing = crossing_sought a.c a.e in
-    let zones = zones_sought a.c a.e in
+    let crossing = crossing_sought a.c a.e left.before.requires.post in
+    let zones = zones_sought a.c a.e left.before.requires.post in
     c.sought-ahead2.ensures
     ∙ zones
     ∙ needed_in_cvt (crossing_ahead a.c a.e) a.e.own.faults.four a.e.cvt (zones_lack_ahead a.c a.e) left.if1.false

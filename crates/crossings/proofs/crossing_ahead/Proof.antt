@@ -6,7 +6,7 @@ use Rattle.crossings.proofs.crossing_ahead.Statement.{statement}
 use Rattle.crossings.proofs.crossing_ahead.Tie as tie
 
 returns : tie.Need-returns
-returns c = let a = c.before.args in c.sought-ahead.ensures ∙ crossing_sought a.c a.e
+returns c = let start = c.before in c.sought-ahead.ensures ∙ crossing_sought start.args.c start.args.e start.requires.post
 
 pub crossing-ahead-spec : {M : Type 1} → statement M
 crossing-ahead-spec = tie.close (tie.spec (λ c κs. search rules) returns)

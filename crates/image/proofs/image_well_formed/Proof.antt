@@ -1,4 +1,4 @@
--- Each return is past the tests that hold so far: the length, the layout's number, the settings' zeros, the closed posts, track A, track B.
+-- Each return is past the tests that hold so far: the length, the layout's number, the settings' zeros, track A, track B.
 use mathlib.Core.Path.{sym, ◌∙◌}
 use borrow.Author.Tests.{eq-eqb, ne_eqb}
 use Rattle.section.proofs.Tests.{Passed, first, ◌then◌}
@@ -17,11 +17,8 @@ layout c = long c.before.before then eq-eqb _ _ (sym c.before.number_at.ensures 
 abbrev zeros : tie.Else3 → Passed
 zeros c = layout c.before.before then eq-eqb _ _ (sym c.before.number-at2.ensures ∙ c.if3.false)
 
-abbrev closed : tie.Else4 → Passed
-closed c = zeros c.before.before then told_true c.before.closed_well_formed_lem.ensures c.if4.false
-
-abbrev track_a_lem : tie.Else5 → Passed
-track_a_lem c = closed c.before.before then told_true c.before.track_well_formed_lem.ensures c.if5.false
+abbrev track_a_lem : tie.Else4 → Passed
+track_a_lem c = zeros c.before.before then told_true c.before.track_well_formed_lem.ensures c.if4.false
 
 pub image-well-formed-spec : {M : Type 1} → statement M
 unfolding image_well_formed
@@ -34,8 +31,6 @@ image-well-formed-spec =
     (λ c κs. search rules)
     (λ c. rw ((layout c.before.before).say, ← c.before.number-at2.ensures, ne_eqb _ _ c.if3.true))
     (λ c κs. search rules)
-    (λ c. rw ((zeros c.before.before).say, told_false c.before.closed_well_formed_lem.ensures c.if4.true))
-    (λ c κs. search rules)
-    (λ c. rw ((closed c.before.before).say, told_false c.before.track_well_formed_lem.ensures c.if5.true))
+    (λ c. rw ((zeros c.before.before).say, told_false c.before.track_well_formed_lem.ensures c.if4.true))
     (λ c κs. search rules)
     (λ c. rw (track_a_lem c.before).say c.track-well-formed2.ensures))

@@ -16,8 +16,8 @@ use Rattle.layout.proofs.Parts.{settings_long}
 use Rattle.text.specs.Text.{written}
 use Rattle.text.proofs.Laws.{Putting, then}
 use Rattle.image.specs.Image.{posts_length, numbers_length, track_length, image_length, layout_number}
-use Rattle.image.specs.Image.{posts_image, numbers_image, walk_image, track_head, track_image, image_head, closed_image, image_of}
-use Rattle.image.proofs.Laws.{le16_length, posts_length_lem, numbers_length_lem, head_length_lem, track_length_lem, closed_length}
+use Rattle.image.specs.Image.{posts_image, numbers_image, walk_image, track_head, track_image, image_head, image_of}
+use Rattle.image.proofs.Laws.{le16_length, posts_length_lem, numbers_length_lem, head_length_lem, track_length_lem}
 
 -- ## Parts of what is written
 
@@ -53,20 +53,18 @@ module _ (l : List ℕ) (at : ℕ) (t : Track) {head b₁ b₂ b₃ b₄ : List 
       let four = then l _ _ at _ _ _ _ (simp length-append (omega arith)) three (sized b₃ p₃ numbers_length _ last h₄) in
       (omega (arith, h₁.0, h₂.0, h₃.0, h₄.0, n), rw (← e) (four.1 ∙ simp append_assoc))
 
-module _ (l : List ℕ) (s : Section) {number settings b₁ b₂ b₃ b₄ b₅ : List ℕ} {p₁ p₂ p₃ p₄ p₅ : ℕ} (room : image_length ≤ length l) where
+module _ (l : List ℕ) (s : Section) {number settings b₁ b₂ b₃ b₄ : List ℕ} {p₁ p₂ p₃ p₄ : ℕ} (room : image_length ≤ length l) where
   pub image_put :
       number ≡ le16_bytes layout_number → settings ≡ settings_bytes s.settings → Putting l 0 number p₁ b₁ →
-      Putting b₁ p₁ settings p₂ b₂ → Puts b₂ p₂ most_posts (closed_image most_posts s.closed) p₃ b₃ →
-      Puts b₃ p₃ track_length (track_image s.a) p₄ b₄ → Puts b₄ p₄ track_length (track_image s.b) p₅ b₅ → b₅ ≡ written l 0 (image_of s)
+      Putting b₁ p₁ settings p₂ b₂ → Puts b₂ p₂ track_length (track_image s.a) p₃ b₃ →
+      Puts b₃ p₃ track_length (track_image s.b) p₄ b₄ → b₄ ≡ written l 0 (image_of s)
   unfolding image_of image_head
-  image_put en es h₁ h₂ h₃ h₄ h₅ =
-      let c = closed_length most_posts s.closed in
+  image_put en es h₁ h₂ h₃ h₄ =
       let a = track_length_lem s.a in
       let b = track_length_lem s.b in
       let n = ap length en ∙ le16_length layout_number in
       let m = ap length es ∙ settings_long s.settings in
       let two = then l _ _ 0 _ _ number settings (omega arith) h₁ h₂ in
-      let three = then l _ _ 0 _ _ _ _ (simp length-append (omega arith)) two (sized b₂ p₂ most_posts _ c h₃) in
-      let four = then l _ _ 0 _ _ _ _ (simp length-append (omega arith)) three (sized b₃ p₃ track_length _ a h₄) in
-      let five = then l _ _ 0 _ _ _ _ (simp length-append (omega arith)) four (sized b₄ p₄ track_length _ b h₅) in
-      rw (← en, ← es) (five.1 ∙ simp append_assoc)
+      let three = then l _ _ 0 _ _ _ _ (simp length-append (omega arith)) two (sized b₂ p₂ track_length _ a h₃) in
+      let four = then l _ _ 0 _ _ _ _ (simp length-append (omega arith)) three (sized b₃ p₃ track_length _ b h₄) in
+      rw (← en, ← es) (four.1 ∙ simp append_assoc)

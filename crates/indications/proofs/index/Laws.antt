@@ -1,57 +1,50 @@
 -- The walk's count, whether the post before has set, and the index put together.
-use Prim.Native.Nat.{ℕ, zero, suc, ◌+◌, ◌*◌, ◌<◌}
+use Prim.Native.Nat.{ℕ, zero, suc, ◌+◌, ◌*◌, ◌<◌, ◌≤◌}
 use mathlib.Core.Bool.{Bool, true, false, not, ◌&&◌}
 use mathlib.Core.List.{List}
 use mathlib.Core.Path.{◌≡◌, refl, sym, ◌∙◌, ap}
+use native.Mathlib.Decide.{ℕ_discrete, dec_lt}
 use native.Mathlib.Omega.{arith}
-use lib.Dec.{ltb}
+use lib.Dec.{eqb, ltb}
+use borrow.Author.Tests.{lt-ltb, le-ltb, eq-eqb, ne_eqb}
 use Rattle.section.specs.declared.Act.{Act}
 use Rattle.section.specs.declared.Walk.{Walk}
 use Rattle.section.specs.declared.Walk.TheVariants.{Turn}
 use Rattle.section.specs.Bytes.{truth_number}
 use Rattle.section.specs.Range.{walk_in_range}
-use Rattle.section.proofs.Laws.{rank_rank, turn_right}
+use Rattle.section.proofs.Laws.{turn_right}
 use Rattle.rules.specs.declared.Line.{Line}
 use Rattle.rules.specs.declared.Site.{Site}
+use Rattle.rules.specs.AllOpen.{next_to_set_before}
 use Rattle.rules.specs.Indications.{set_count, is_next_to_set, lamps_at}
 use Rattle.rules.specs.LampTable.{index_of}
-use Rattle.rules.specs.Line.{is_materialised, is_open}
-use Rattle.rules.specs.Site.{last_before, up_at, rank_at, open_at, commands, watched_occupied}
-use Rattle.rules.specs.Table.{post_open}
-use Rattle.site.specs.Ends.{open_at_rank}
+use Rattle.rules.specs.Line.{is_materialised}
+use Rattle.rules.specs.Site.{up_at, rank_at, open_at, commands, watched_occupied}
+use Rattle.rules.proofs.AllOpen.{all_open_as_before}
 
 -- a turn's post is one of the line
 pub turn_below : (n : ℕ) (up : Bool) (w : Walk) (p : ℕ) (act : Act) → walk_in_range n up w ≡ true → w ≡ Turn p act → p < n
 turn_below n up w p act fits is = (turn_right n up p act (rw is at fits)).0
 
--- the post before has set, of a post that is not the sending end
-next_of : (in_service : ℕ → Bool) (count j : ℕ) → (j ≡ 0 → ⊥)
-    → (in_service j && (ltb (last_before in_service j) count && not (ltb j count))) ≡ is_next_to_set in_service count j
-unfolding is_next_to_set
-next_of in_service count zero z = absurd (z refl)
-next_of in_service count (suc j) z = refl
+-- every post is in service, so a post is next to set where as many have set as stand before it
+as_many : (c : Line) (count j : ℕ) → (j ≡ 0 → ⊥) → eqb count j ≡ next_to_set_before c count j
+as_many c count zero z = absurd (z refl)
+as_many c count (suc j) z = go (ℕ_discrete count (suc j)) (dec_lt j count)
+  where
+    go : Dec (count ≡ suc j) → Dec (j < count) → eqb count (suc j) ≡ (ltb j count && not (ltb (suc j) count))
+    go (yes e) k = rw (eq-eqb count (suc j) e, lt-ltb j count (omega arith), le-ltb (suc j) count (omega arith))
+    go (no e) (yes k) = rw (ne_eqb count (suc j) e, lt-ltb j count k, lt-ltb (suc j) count (omega arith))
+    go (no e) (no k) = rw (ne_eqb count (suc j) e, le-ltb j count (omega arith))
 
 module _ (c : Line) (e : Site) (below : e.post < c.posts) where
   abbrev next : ℕ → Bool
   next count = is_next_to_set (open_at c e.track e.cvt) count (rank_at c e)
 
   pub next_first : (count j : ℕ) → j ≡ rank_at c e → j ≡ 0 → false ≡ next count
-  unfolding is_next_to_set
-  next_first count j r z = rw (sym r ∙ z) refl
+  next_first count j r z = sym ((all_open_as_before c e below).lamp count ∙ rw (sym r ∙ z) refl)
 
-  -- the post of the rank of a post is that post
-  open_here : open_at c e.track e.cvt (rank_at c e) ≡ post_open c e
-  unfolding open_at
-  open_here = ap (is_open c) (rank_rank c.posts (up_at c e) e.post below)
-
-  pub next_closed : (count j : ℕ) → j ≡ rank_at c e → (j ≡ 0 → ⊥) → post_open c e ≡ false → false ≡ next count
-  next_closed count j r z h = rw (open_here ∙ h) at (next_of (open_at c e.track e.cvt) count (rank_at c e) (λ q. z (r ∙ q)))
-
-  pub next_open :
-      (count j : ℕ) → j ≡ rank_at c e → (j ≡ 0 → ⊥) → post_open c e ≡ true
-      → (ltb (last_before (open_at_rank c (up_at c e)) j) count && not (ltb j count)) ≡ next count
-  unfolding open_at
-  next_open count j r z h = rw r (rw (open_here ∙ h) at (next_of (open_at c e.track e.cvt) count (rank_at c e) (λ q. z (r ∙ q))))
+  pub next_later : (count j k : ℕ) → j ≡ rank_at c e → (j ≡ 0 → ⊥) → k ≡ count → eqb k j ≡ next count
+  next_later count j k r z h = rw (h, r) (as_many c count (rank_at c e) (λ q. z (r ∙ q)) ∙ sym ((all_open_as_before c e below).lamp count))
 
 -- the bits, put together
 pub index_parts :

@@ -22,14 +22,14 @@ returns-2 c =
 returns-3 : tie.Need-returns-3
 returns-3 c =
     let e = c.before in
-    let l = e.before.before.before.before in
+    let l = e.before.before.before in
     let i = l.before in
     c.all-dark3.ensures ∙ dark_post _ _ _ (told_true i.before.in_range_lem.ensures i.if1.false) (omega (arith, l.if2.false)) e.if3.true
 
 post-indications-requires : tie.Need-post-indications-requires
 post-indications-requires c κs =
     let e = c.before in
-    let i = e.before.before.before.before.before in
+    let i = e.before.before.before.before in
     let s = i.before.before.args.s in
     let r = told_true i.before.in_range_lem.ensures i.if1.false in
     (settings_in_range_lem s r, track_in_range_lem s r true, omega (arith, e.if3.false))
@@ -37,7 +37,7 @@ post-indications-requires c κs =
 returns-4 : tie.Need-returns-4
 returns-4 c =
     let e = c.before.before in
-    let l = e.before.before.before.before in
+    let l = e.before.before.before in
     let i = l.before in
     let a = i.before.before.args in
     let r = told_true i.before.in_range_lem.ensures i.if1.false in
@@ -46,7 +46,7 @@ returns-4 c =
 post-indications-requires-2 : tie.Need-post-indications-requires-2
 post-indications-requires-2 c κs =
     let e = c.before in
-    let i = e.before.before.before.before.before in
+    let i = e.before.before.before.before in
     let s = i.before.before.args.s in
     let r = told_true i.before.in_range_lem.ensures i.if1.false in
     (settings_in_range_lem s r, track_in_range_lem s r false, omega (arith, e.if3.false))
@@ -54,7 +54,7 @@ post-indications-requires-2 c κs =
 returns-5 : tie.Need-returns-5
 returns-5 c =
     let e = c.before.before in
-    let l = e.before.before.before.before in
+    let l = e.before.before.before in
     let i = l.before in
     let a = i.before.before.args in
     let r = told_true i.before.in_range_lem.ensures i.if1.false in

@@ -16,7 +16,7 @@ read-at-requires c κs =
     let made = ran.before in
     let start = made.before.before.before in
     let a = start.args in
-    let there = in_its_ranges a.c a.closed a.track a.t5 a.post start.requires.0 start.requires.1 start.requires.2 in
+    let there = in_its_ranges a.c a.track a.t4 a.post start.requires.0 start.requires.1 start.requires.2 in
     (made.table.ensures, rw (line.Line-of.ensures, e.site.ensures, ran.running-of.ensures) there)
 
 returns : tie.Need-returns

@@ -12,6 +12,7 @@ use native.Mathlib.Omega.{arith}
 use borrow.Author.Tests.{lt-ltb, le-ltb}
 use Rattle.section.specs.declared.Indications.{Indications}
 use Rattle.section.specs.declared.Section.{Section}
+use Rattle.section.specs.declared.Settings.{Settings}
 use Rattle.section.specs.declared.Track.{Track}
 use Rattle.section.specs.Items.{items}
 use Rattle.section.specs.Numbers.{most_posts}
@@ -19,8 +20,7 @@ use Rattle.section.specs.Range.{in_range}
 use Rattle.section.specs.Store.{track_of}
 use Rattle.section.proofs.Items.{same_items, items_length, item_at}
 use Rattle.section.proofs.Laws.{posts_right, settings_in_range_lem}
-use Rattle.rules.specs.declared.Line.{Line}
-use Rattle.rules.specs.Line.{line_in}
+use Rattle.rules.specs.Line.{line_of}
 use Rattle.rules.specs.Site.{site_on}
 use Rattle.rules.specs.Indications.{shown, lamps_at, dark, indications, indications_on, track_indications}
 use Rattle.indications.specs.OnTrack.{one_of_first, indications_at}
@@ -46,7 +46,7 @@ dark_track s track h k = dark_when s track (λ p. rw (h, le-ltb track 2 k))
 -- a section in its ranges, by one of its tracks
 pub by_track :
     (s : Section) (track : ℕ) (b : Bool) → in_range s ≡ true → track < 2 → eqb track 1 ≡ b
-    → items (indications_at (line_in s) b (track_of s b)) most_posts ≡ track_indications s track
+    → items (indications_at s.settings b (track_of s b)) most_posts ≡ track_indications s track
 unfolding track_indications indications indications_on one_of_first
 by_track s track b h k e = same_items _ _ most_posts (λ p l. rw (h, lt-ltb track 2 k, e))
 
@@ -90,13 +90,13 @@ item_set g h m p x below e other =
     at i k (yes q) = rw q (get_or-set_same (items g m) p x x (rw (items_length g m) below) ∙ e ∙ sym (item_at h x m p below))
     at i k (no q) = get_or-set_other (items g m) p i x x q ∙ item_at g x m i k ∙ other i q ∙ sym (item_at h x m i k)
 
-module _ (c : Line) (track : Bool) (t : Track) where
+module _ (c : Settings) (track : Bool) (t : Track) where
   pub none_yet : replicate most_posts dark ≡ items (one_of_first c track t 0) most_posts
   unfolding items one_of_first
   none_yet = refl
 
   pub one_more :
-      (p : ℕ) (x : Indications) → p < most_posts → x ≡ shown (lamps_at c (site_on track p t) t.trains)
+      (p : ℕ) (x : Indications) → p < most_posts → x ≡ shown (lamps_at (line_of c) (site_on track p t) t.trains)
       → set (items (one_of_first c track t p) most_posts) p x ≡ items (one_of_first c track t (p + 1)) most_posts
   unfolding one_of_first
   one_more p x below e =

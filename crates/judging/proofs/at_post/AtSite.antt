@@ -1,6 +1,6 @@
 -- What a step judged at its site comes to, by its ruling.
 use Prim.Native.Nat.{ℕ}
-use mathlib.Core.Bool.{true, false}
+use mathlib.Core.Bool.{Bool, true, false}
 use mathlib.Core.List.{List}
 use mathlib.Core.Path.{◌≡◌, sym, ◌∙◌, ap}
 use Rattle.section.specs.declared.Step.{Step}
@@ -8,27 +8,26 @@ use Rattle.section.specs.declared.Verdict.TheVariants as verdict
 use Rattle.rules.specs.declared.Effect.{Effect}
 use Rattle.rules.specs.declared.Line.{Line}
 use Rattle.rules.specs.declared.Site.{Site}
-use Rattle.rules.specs.Site.{Other}
 use Rattle.site.specs.declared.ruling.Ruling.{Ruling}
 use Rattle.site.specs.declared.ruling.Ruling.TheVariants.{Refused, Accepted}
 use Rattle.site.specs.Ruling.{ruling_at, cells_ruled}
 use Rattle.judging.specs.AtPost.{as_before, judged_of, judged_at_post, trains_at, last_at}
 
-module _ (c : Line) (other : Other) (x : Step) (e : Site) (trains last : List ℕ) {r : Ruling} (told : r ≡ ruling_at c other x e trains last) where
+module _ (c : Line) (other_on_vns : Bool) (x : Step) (e : Site) (trains last : List ℕ) {r : Ruling} (told : r ≡ ruling_at c other_on_vns x e trains last) where
   pub accepted : {f : Effect} → r ≡ Accepted f
       → record { verdict = verdict.Accepted f.said; own = f.own; running = record { cvt = f.cvt; walk = f.walk } }
-      ≡ judged_at_post c other x e trains last
+      ≡ judged_at_post c other_on_vns x e trains last
   unfolding judged_at_post judged_of
   accepted a = ap (λ (q : Ruling). judged_of q e) (sym a ∙ told)
 
-  pub refused : {k : ℕ} → r ≡ Refused k → as_before (verdict.Refused k) e ≡ judged_at_post c other x e trains last
+  pub refused : {k : ℕ} → r ≡ Refused k → as_before (verdict.Refused k) e ≡ judged_at_post c other_on_vns x e trains last
   unfolding judged_at_post judged_of
   refused a = ap (λ (q : Ruling). judged_of q e) (sym a ∙ told)
 
-  pub trains_told : {l : List ℕ} → l ≡ cells_ruled c true r e trains → l ≡ trains_at c other x e trains last
+  pub trains_told : {l : List ℕ} → l ≡ cells_ruled c true r e trains → l ≡ trains_at c other_on_vns x e trains last
   unfolding trains_at
   trains_told moved = moved ∙ ap (λ (q : Ruling). cells_ruled c true q e trains) told
 
-  pub last_told : {l : List ℕ} → l ≡ cells_ruled c false r e last → l ≡ last_at c other x e trains last
+  pub last_told : {l : List ℕ} → l ≡ cells_ruled c false r e last → l ≡ last_at c other_on_vns x e trains last
   unfolding last_at
   last_told noted = noted ∙ ap (λ (q : Ruling). cells_ruled c false q e last) told

@@ -1,38 +1,31 @@
 -- What a step judged at its site leaves, put in its places, is what judging the section says.
 use Prim.Native.Nat.{ℕ}
-use mathlib.Core.Bool.{Bool, true, false, not, true≢false}
+use mathlib.Core.Bool.{Bool, true, false}
 use mathlib.Core.List.{List, [], ◌∷◌}
-use mathlib.Core.Path.{◌≡◌, refl}
+use mathlib.Core.Path.{◌≡◌, refl, sym, ap}
 use lib.ListN.{set}
 use lib.Seq.{set-get_or}
-use Rattle.section.specs.declared.Answer.{Answer}
-use Rattle.section.specs.declared.Said.{Said}
-use Rattle.section.specs.declared.Step.{Step}
-use Rattle.section.specs.declared.Step.TheVariants.{Order, Set, Announce, Acknowledge, Start, Pass, Leave, MeasuresOn, MeasuresOff, FaultOn}
-use Rattle.section.specs.declared.Step.TheVariants.{FaultOff, Release, Key, Caution, Close, Open}
+use Rattle.rules.specs.declared.Line.{Line}
 use Rattle.section.specs.declared.Track.{Track}
 use Rattle.section.specs.declared.Section.{Section}
 use Rattle.section.specs.declared.Verdict.TheVariants as verdict
 use Rattle.section.specs.declared.TrackStep.{TrackStep}
 use Rattle.section.specs.declared.Decoded.{Decoded}
 use Rattle.section.specs.declared.Decoded.TheVariants.{Well, Malformed}
-use Rattle.section.specs.Bytes.{within}
 use Rattle.section.specs.Post.{blank}
 use Rattle.section.specs.Range.{in_range}
-use Rattle.section.specs.Step.{decoded, is_both_kind, kind_of, post_of}
+use Rattle.section.specs.Step.{decoded, post_of}
 use Rattle.section.specs.Store.{track_of, with_track, post_on}
 use Rattle.section.proofs.Codec.{decoded_post_below}
 use Rattle.section.proofs.Laws.{settings_in_range_lem, track_in_range_lem}
 use Rattle.rules.specs.declared.Effect.{Effect}
-use Rattle.rules.specs.declared.Line.{Line}
-use Rattle.rules.specs.declared.Site.{Site}
-use Rattle.rules.specs.Site.{site_on, other_settled_on_vns, Other, other_on, occupancy_at}
+use Rattle.rules.specs.Site.{site_on, other_settled_on_vns}
 use Rattle.rules.specs.Line.{line_in}
-use Rattle.rules.specs.Table.{Check, ◌else◌, checks, effect, track_after}
+use Rattle.rules.specs.Table.{Check, ◌else◌, effect, track_after}
 use Rattle.rules.specs.Judge.{verdict_of, answer_of, site_of, verdict_on, section_after, judge_step, judge_decoded, judge_in_range}
 use Rattle.rules.proofs.SectionAfter.{one_track_after}
 use Rattle.site.specs.declared.ruling.Ruling.TheVariants.{Refused, Accepted}
-use Rattle.site.specs.Ruling.{beside_vns, row_at, ruling_of}
+use Rattle.site.specs.Ruling.{row_at, ruling_of}
 use Rattle.site.specs.declared.running.Running.{Running}
 use Rattle.site.specs.Running.{running_of, site_with}
 use Rattle.site.specs.InItsRanges.{InItsRanges}
@@ -67,77 +60,29 @@ unfolding ruling_of verdict_of
 ruled [] f = accepts refl refl
 ruled (k ∷ ks) f = ruled_next k.holds k.refusal ks f (ruled ks f)
 
--- ## A step judged at its site, beside another track
-
--- a step of kinds 1 to 14 asks of the other track at most whether it is settled on VNS
-beside : (c : Line) (other : Other) (x : Step) (e : Site) (trains last : List ℕ) → is_both_kind (kind_of x) ≡ false
-    → row_at c (beside_vns other.on_vns) x e trains last ≡ row_at c other x e trains last
-unfolding checks occupancy_at kind_of within
-beside c other (Order p) e trains last h = refl
-beside c other (Set p) e trains last h = refl
-beside c other (Announce p) e trains last h = refl
-beside c other (Acknowledge p) e trains last h = refl
-beside c other (Start p z) e trains last h = refl
-beside c other (Pass p z) e trains last h = refl
-beside c other (Leave p z) e trains last h = refl
-beside c other (MeasuresOn p) e trains last h = refl
-beside c other (MeasuresOff p) e trains last h = refl
-beside c other (FaultOn p f) e trains last h = refl
-beside c other (FaultOff p f) e trains last h = refl
-beside c other (Release p z) e trains last h = refl
-beside c other (Key p) e trains last h = refl
-beside c other (Caution p z) e trains last h = refl
-beside c other (Close p) e trains last h = absurd (true≢false h)
-beside c other (Open p) e trains last h = absurd (true≢false h)
-
+-- a step judged at its site is a step judged on the section: an accepted one leaves the table's track, a refused one the track as it was
 module _ (s : Section) (x : TrackStep) where
   abbrev own : Track
   own = track_of s x.track
 
-  -- the other track, of which the step asks
-  abbrev opposite : Other
-  opposite = other_on s.settings.posts (post_of x.step) (track_of s (not x.track))
+  abbrev judged_here : PostAnswer
+  judged_here = judged_at_post (line_in s) (other_settled_on_vns s x.track) x.step (site_of s x) own.trains own.last
 
-  abbrev judged_beside : Other → PostAnswer
-  judged_beside other = judged_at_post (line_in s) other x.step (site_of s x) own.trains own.last
+  abbrev after : Section
+  after = with_track s x.track (track_at (line_in s) (other_settled_on_vns s x.track) x.step (site_of s x) own)
 
-  abbrev track_beside : Other → Track
-  track_beside other = track_at (line_in s) other x.step (site_of s x) own
+  by_ruling : Ruled (row_at (line_in s) (other_settled_on_vns s x.track) x.step (site_of s x) own.trains own.last)
+      (effect (line_in s) x.step (site_of s x))
+      → record { verdict = judged_here.verdict; section = after } ≡ answer_of (verdict_on s x) s (section_after s x)
+  unfolding verdict_on answer_of track_at judged_at_post trains_at last_at judged_of track_after
+  by_ruling (accepts r v) =
+      rw (r, v) (ap (λ (t : Section). record { verdict = verdict.Accepted (effect (line_in s) x.step (site_of s x)).said; section = t }) (sym (one_track_after s x)))
+  by_ruling (refuses k r v) =
+      rw (r, v, set-get_or own.posts (post_of x.step) blank) (ap (λ (t : Section). record { verdict = verdict.Refused k; section = t }) (same_track s x.track))
 
-  -- what it comes to: the table's verdict, and its track, as the table has it after an accepted step, else as it was
-  data Judged (other : Other) : Type 0 where
-    accepted :
-        (said : Said) → verdict_on s x ≡ verdict.Accepted said → (judged_beside other).verdict ≡ verdict.Accepted said
-        → track_beside other ≡ track_after (line_in s) x.step (site_of s x) own → Judged other
-    refused :
-        (k : ℕ) → verdict_on s x ≡ verdict.Refused k → (judged_beside other).verdict ≡ verdict.Refused k → track_beside other ≡ own → Judged other
-
-  module _
-      (other : Other)
-      (same : row_at (line_in s) other x.step (site_of s x) own.trains own.last
-      ≡ row_at (line_in s) opposite x.step (site_of s x) own.trains own.last) where
-    by_ruling : Ruled (row_at (line_in s) opposite x.step (site_of s x) own.trains own.last) (effect (line_in s) x.step (site_of s x))
-        → Judged other
-    unfolding verdict_on track_at judged_at_post trains_at last_at judged_of track_after
-    by_ruling (accepts r v) = accepted (effect (line_in s) x.step (site_of s x)).said v (rw (same, r)) (rw (same, r))
-    by_ruling (refuses k r v) = refused k v (rw (same, r)) (rw (same, r, set-get_or own.posts (post_of x.step) blank))
-
-    judged_beside_lem : Judged other
-    judged_beside_lem = by_ruling (ruled _ _)
-
-  -- ## Kinds 1 to 14
-
-  -- the section with what a step leaves on its track
-  abbrev left_by : Other → Answer
-  left_by other = record { verdict = (judged_beside other).verdict; section = with_track s x.track (track_beside other) }
-
-  one_track : (other : Other) → is_both_kind (kind_of x.step) ≡ false → Judged other → left_by other ≡ judge_step s x
-  unfolding judge_step answer_of
-  one_track other h (accepted said v w t) = rw (v, w, t, one_track_after s x h)
-  one_track other h (refused k v w t) = rw (v, w, t, same_track s x.track)
-
-  pub step_judged : is_both_kind (kind_of x.step) ≡ false → left_by (beside_vns (other_settled_on_vns s x.track)) ≡ judge_step s x
-  step_judged h = one_track _ h (judged_beside_lem _ (beside (line_in s) opposite x.step (site_of s x) own.trains own.last h))
+  pub step_judged : record { verdict = judged_here.verdict; section = after } ≡ judge_step s x
+  unfolding judge_step
+  step_judged = by_ruling (ruled _ _)
 
 -- ## From bytes
 
@@ -155,7 +100,6 @@ module _ (s : Section) (bytes : List ℕ) where
     in_ranges h =
         in_its_ranges
         s.settings
-        s.closed
         x.track
         (track_of s x.track)
         (post_of x.step)

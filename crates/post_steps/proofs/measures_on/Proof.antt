@@ -1,8 +1,7 @@
--- Each check is asked past those that held; the return on it is its refusal, the last return is past them all.
+-- One check: the return on it is its refusal, the other is past it.
 use mathlib.Core.Bool.{not}
 use mathlib.Core.Path.{ap}
 use borrow.Author.Rules.{rules}
-use Rattle.section.proofs.Told.{told_false, told_true}
 use Rattle.rules.specs.Table.{checks, effect}
 use Rattle.site.proofs.Row.{none, then, accepted, refused}
 use Rattle.post_steps.proofs.measures_on.Statement.{statement}
@@ -10,21 +9,11 @@ use Rattle.post_steps.proofs.measures_on.Tie as tie
 
 returns : tie.Need-returns
 unfolding checks
-returns c = refused _ none (told_false c.before.post_open_lem.ensures c.if1.true)
+returns c = λ l. refused _ none (ap not c.if1.true)
 
 returns-2 : tie.Need-returns-2
-unfolding checks
-returns-2 c =
-    let left = c.before.before in
-    refused _ (then none (told_true left.before.post_open_lem.ensures left.if1.false)) (ap not c.if2.true)
-
-returns-3 : tie.Need-returns-3
 unfolding checks effect
-returns-3 c =
-    let last = c.before.before in
-    let left = last.before.before in
-    accepted (rw (c.keeping.ensures, c.before.measured.ensures))
-    (then (then none (told_true left.before.post_open_lem.ensures left.if1.false)) (ap not last.if2.false))
+returns-2 c = λ l. accepted (rw (c.keeping.ensures, c.before.measured.ensures)) (then none (ap not c.before.before.if1.false))
 
 pub measures-on-spec : {M : Type 1} → statement M
-measures-on-spec = tie.close (tie.spec (λ c κs. search rules) returns returns-2 (λ c κs. search rules) (λ c κs. search rules) returns-3)
+measures-on-spec = tie.close (tie.spec returns (λ c κs. search rules) (λ c κs. search rules) returns-2)

@@ -10,11 +10,8 @@ use Rattle.ranges.proofs.in_range.Tie as tie
 abbrev settings : tie.Else1 → Passed
 settings c = first (told_true c.before.settings_in_range_lem.ensures c.if1.left)
 
-abbrev ends : tie.Else2 → Passed
-ends c = settings c.before.before.before.before then told_true c.before.ends_open.ensures c.if2.left
-
-abbrev track_a_lem : tie.Else3 → Passed
-track_a_lem c = ends c.before.before then told_true c.before.track_in_range_lem.ensures c.if3.left
+abbrev track_a_lem : tie.Else2 → Passed
+track_a_lem c = settings c.before.before then told_true c.before.track_in_range_lem.ensures c.if2.left
 
 pub in-range-spec : {M : Type 1} → statement M
 unfolding in_range
@@ -23,11 +20,7 @@ in-range-spec =
     (tie.spec
     (λ c κs. search rules)
     (λ c. rw (told_false c.before.settings_in_range_lem.ensures c.if1.taken))
-    (λ c κs. posts_right _ (told_true c.before.before.before.settings_in_range_lem.ensures c.before.before.if1.left))
-    (λ c. rw ((settings c.before.before.before.before).say, told_false c.before.ends_open.ensures c.if2.taken))
-    (λ c κs. let b = c.before.before.before.before in posts_right _ (told_true b.before.settings_in_range_lem.ensures b.if1.left))
-    (λ c. rw ((ends c.before.before).say, told_false c.before.track_in_range_lem.ensures c.if3.taken))
-    (λ c κs.
-    let b = c.before.before.before.before.before.before in
-    posts_right _ (told_true b.before.settings_in_range_lem.ensures b.if1.left))
+    (λ c κs. posts_right _ (told_true c.before.settings_in_range_lem.ensures c.if1.left))
+    (λ c. rw ((settings c.before.before).say, told_false c.before.track_in_range_lem.ensures c.if2.taken))
+    (λ c κs. let b = c.before.before in posts_right _ (told_true b.before.settings_in_range_lem.ensures b.if1.left))
     (λ c. rw (track_a_lem c.before).say c.track-in-range2.ensures))

@@ -1,7 +1,6 @@
 -- A site of a track in its ranges.
 use Prim.Native.Nat.{ℕ, ◌<◌}
 use mathlib.Core.Bool.{Bool, true}
-use mathlib.Core.List.{List}
 use mathlib.Core.Path.{◌≡◌}
 use Rattle.section.specs.declared.Settings.{Settings}
 use Rattle.section.specs.declared.Track.{Track}
@@ -15,9 +14,9 @@ use Rattle.site.specs.InItsRanges.{InItsRanges}
 use Rattle.site.proofs.UnusedLast.{unused_last}
 
 pub in_its_ranges :
-    (c : Settings) (closed : List Bool) (track : Bool) (t : Track) (p : ℕ) → settings_in_range c ≡ true → track_in_range c.posts track t ≡ true → p < c.posts
-    → InItsRanges (line_of c closed) (site_on track p t)
-in_its_ranges c closed track t p right fits below =
+    (c : Settings) (track : Bool) (t : Track) (p : ℕ) → settings_in_range c ≡ true → track_in_range c.posts track t ≡ true → p < c.posts
+    → InItsRanges (line_of c) (site_on track p t)
+in_its_ranges c track t p right fits below =
     let n = posts_right c right in
     let r = track_ranges c.posts track t fits in
     record {

@@ -59,18 +59,8 @@ returns-13 c = rw c.match.keys13
 
 returns-14 : tie.Need-returns-14
 unfolding step_of
-returns-14 c = rw c.match.keys14
-
-returns-15 : tie.Need-returns-15
-unfolding step_of
-returns-15 c = rw c.match.keys15
-
-returns-16 : tie.Need-returns-16
-unfolding step_of
-returns-16 c = let r = c.match.rest in
+returns-14 c = let r = c.match.rest in
     rw (
-      ne_eqb _ _ r.0.0.0.0.0.0.0.0.0.0.0.0.0.0.1,
-      ne_eqb _ _ r.0.0.0.0.0.0.0.0.0.0.0.0.0.1,
       ne_eqb _ _ r.0.0.0.0.0.0.0.0.0.0.0.0.1,
       ne_eqb _ _ r.0.0.0.0.0.0.0.0.0.0.0.1,
       ne_eqb _ _ r.0.0.0.0.0.0.0.0.0.0.1,
@@ -105,6 +95,4 @@ step-of-spec =
     returns-11
     returns-12
     returns-13
-    returns-14
-    returns-15
-    returns-16)
+    returns-14)

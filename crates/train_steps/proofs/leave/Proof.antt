@@ -7,7 +7,7 @@ use Rattle.section.specs.declared.Step.TheVariants.{Leave}
 use Rattle.section.proofs.Told.{told_true}
 use Rattle.rules.specs.Site.{at_sending_end, occupancy_at}
 use Rattle.rules.specs.Table.{Check, checks, effect, cells_after}
-use Rattle.site.specs.Ruling.{beside_vns, row_at}
+use Rattle.site.specs.Ruling.{row_at}
 use Rattle.site.proofs.place.Laws.{receiving_not_sending, has_before}
 use Rattle.site.proofs.Row.{AskedAt, AskedEqual, none, accepted, unless, unless_equal}
 use Rattle.train_steps.proofs.Moved.{moved}
@@ -15,7 +15,7 @@ use Rattle.train_steps.proofs.leave.Statement.{statement}
 use Rattle.train_steps.proofs.leave.Tie as tie
 
 abbrev row : tie.Start → List Check
-row c = row_at c.args.c (beside_vns false) (Leave c.args.e.post c.args.number) c.args.e c.args.trains.now []
+row c = row_at c.args.c false (Leave c.args.e.post c.args.number) c.args.e c.args.trains.now []
 
 -- the entry, from where each check is asked
 abbrev from-receiving : tie.After-at-receiving-end → tie.Start

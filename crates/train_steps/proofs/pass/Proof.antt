@@ -8,7 +8,7 @@ use Rattle.section.proofs.Told.{told}
 use Rattle.rules.specs.Site.{at_sending_end, at_receiving_end, occupancy_at}
 use Rattle.rules.specs.Table.{Check, checks, effect, cells_after}
 use Rattle.site.specs.OnTheLine.{OnTheLine, HasAhead}
-use Rattle.site.specs.Ruling.{beside_vns, row_at}
+use Rattle.site.specs.Ruling.{row_at}
 use Rattle.site.proofs.place.Laws.{or-false, has_ahead, has_before}
 use Rattle.site.proofs.Row.{AskedAt, AskedEqual, none, accepted, unless, unless_equal, when}
 use Rattle.train_steps.proofs.Moved.{moved}
@@ -16,7 +16,7 @@ use Rattle.train_steps.proofs.pass.Statement.{statement}
 use Rattle.train_steps.proofs.pass.Tie as tie
 
 abbrev row : tie.Start → List Check
-row c = row_at c.args.c (beside_vns false) (Pass c.args.e.post c.args.number) c.args.e c.args.trains.now []
+row c = row_at c.args.c false (Pass c.args.e.post c.args.number) c.args.e c.args.trains.now []
 
 -- the entry, from where each check is asked
 abbrev from-between : tie.After-at-end → tie.Start

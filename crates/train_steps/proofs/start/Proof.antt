@@ -10,7 +10,7 @@ use Rattle.section.proofs.Told.{told_true}
 use Rattle.rules.specs.Site.{occupancy_at}
 use Rattle.rules.specs.Table.{Check, checks, effect, cells_after}
 use Rattle.site.specs.OnTheLine.{OnTheLine, HasAhead}
-use Rattle.site.specs.Ruling.{beside_vns, row_at}
+use Rattle.site.specs.Ruling.{row_at}
 use Rattle.site.proofs.place.Laws.{sending_not_receiving, has_ahead}
 use Rattle.site.proofs.Row.{AskedAt, none, accepted, unless, when}
 use Rattle.train_steps.proofs.Moved.{moved}
@@ -18,7 +18,7 @@ use Rattle.train_steps.proofs.start.Statement.{statement}
 use Rattle.train_steps.proofs.start.Tie as tie
 
 abbrev row : tie.Start → List Check
-row c = row_at c.args.c (beside_vns false) (Start c.args.e.post c.args.number) c.args.e c.args.trains.now []
+row c = row_at c.args.c false (Start c.args.e.post c.args.number) c.args.e c.args.trains.now []
 
 -- the entry, from where each check is asked
 abbrev from_settled : tie.After-is-settled → tie.Start

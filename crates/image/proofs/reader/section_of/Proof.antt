@@ -5,13 +5,7 @@ use Rattle.image.proofs.reader.section_of.Tie as tie
 
 returns : tie.Need-returns
 unfolding section_of
-returns c =
-    rw (
-      c.before.before.before.settings_of_lem.ensures,
-      c.before.before.closed-from.ensures,
-      c.before.track-from.ensures,
-      c.track-from2.ensures,
-    )
+returns c = rw (c.before.before.settings_of_lem.ensures, c.before.track-from.ensures, c.track-from2.ensures)
 
 pub section-of-spec : {M : Type 1} → statement M
 section-of-spec =
@@ -20,7 +14,6 @@ section-of-spec =
     (λ c. search rules)
     (λ c. search rules)
     (λ c. search rules)
-    (λ c κs. search rules)
     (λ c κs. search rules)
     (λ c κs. search rules)
     (λ c κs. search rules)

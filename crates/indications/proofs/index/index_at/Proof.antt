@@ -13,9 +13,9 @@ returns c =
     let asked = next.before in
     let materialised = asked.before in
     let form = materialised.before in
-    let of_post_lem = form.before in
-    let a = of_post_lem.before.args in
-    index_parts a.c a.e a.trains.now _ _ _ _ _ of_post_lem.index-of-post.ensures.0 form.is-materialised.ensures
+    let of-post = form.before in
+    let a = of-post.before.args in
+    index_parts a.c a.e a.trains.now _ _ _ _ _ of-post.index-of-post.ensures.0 form.is-materialised.ensures
     materialised.truth-number.ensures.0 asked.is-next.ensures next.truth-number2.ensures.0 watched.watched-occupied.ensures
     occupied.truth-number3.ensures.0 commanded.commands.ensures c.truth-number4.ensures.0
 

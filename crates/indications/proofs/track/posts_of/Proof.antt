@@ -14,16 +14,15 @@ use Rattle.indications.proofs.track.posts_of.Tie as tie
 
 abbrev invariant-loop : tie.invariant-loop
 invariant-loop c track t table line trains running filled₀ p₀ filled p =
-    (p ≤ c.posts) × (filled ≡ items (one_of_first line track t p) most_posts)
+    (p ≤ c.posts) × (filled ≡ items (one_of_first c track t p) most_posts)
 
 abbrev decreases-loop : tie.decreases-loop
 decreases-loop c track t table line trains running filled₀ p₀ filled p = c.posts - p
 
 loop-holds : tie.Need-loop-init invariant-loop decreases-loop
 loop-holds c =
-    let line = c.before.before.before in
-    let a = line.before.before.args in
-    (omega arith, c.all-posts-dark.ensures ∙ none_yet line.Line-of.result a.track a.t4)
+    let a = c.before.before.before.before.before.args in
+    (omega arith, c.all-posts-dark.ensures ∙ none_yet a.c a.track a.t3)
 
 -- a post of the line is one of sixteen
 in_the_array : (c : tie.Then1 invariant-loop decreases-loop) → c.before.before.loop.p < most_posts
@@ -40,7 +39,7 @@ read-at-requires c κs =
     let line = ran.before.before in
     let start = line.before.before in
     let a = start.args in
-    let there = in_its_ranges a.c a.closed a.track a.t4 h.loop.p start.requires.0 start.requires.1 test.if1.true in
+    let there = in_its_ranges a.c a.track a.t3 h.loop.p start.requires.0 start.requires.1 test.if1.true in
     (line.before.table.ensures, rw (line.Line-of.ensures, e.site.ensures, ran.running-of.ensures) there)
 
 mul-filled : tie.Need-overflow-mul-filled invariant-loop decreases-loop
@@ -54,17 +53,15 @@ loop-again c =
     let ran = h.before.before in
     let line = ran.before.before in
     let a = line.before.before.args in
-    let read = rw (e.site.ensures, ran.running-of.ensures) at c.read_at.ensures in
-    let more = one_more line.Line-of.result a.track a.t4 h.loop.p c.read_at.result (in_the_array test) read in
-    (omega (arith, test.if1.true), rw h.loop.invariant.1 more)
+    let read = rw (line.Line-of.ensures, e.site.ensures, ran.running-of.ensures) at c.read_at.ensures in
+    (omega (arith, test.if1.true), rw h.loop.invariant.1 (one_more a.c a.track a.t3 h.loop.p c.read_at.result (in_the_array test) read))
 
 returns : tie.Need-returns invariant-loop decreases-loop
 returns c =
     let h = c.before.before in
-    let line = h.before.before.before.before in
-    let a = line.before.before.args in
+    let a = h.before.before.before.before.before.before.args in
     let e : h.loop.p ≡ a.c.posts = omega (arith, c.if1.false) in
-    rw (e, line.Line-of.ensures) at h.loop.invariant.1
+    rw e at h.loop.invariant.1
 
 pub posts-of-spec : {M : Type 1} → statement M
 posts-of-spec =

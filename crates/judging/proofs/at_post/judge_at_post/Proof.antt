@@ -17,11 +17,13 @@ site_is c =
 
 judge-at-requires : tie.Need-judge-at-requires
 judge-at-requires c κs =
-    let site = c.before.before in
+    let site = c.before.before.before in
     subst (InItsRanges site.before.before.args.c) (sym (site_is site)) site.before.before.requires
 
 returns : tie.Need-returns
-returns c = rw (site_is c.before.before.before) at c.judge-at.ensures
+returns c =
+    let other = c.before.before.before in
+    rw (site_is other.before, other.settled-on-vns.ensures) at c.judge-at.ensures
 
 pub judge-at-post-spec : {M : Type 1} → statement M
-judge-at-post-spec = tie.close (tie.spec (λ c κs. search rules) (λ c κs. search rules) judge-at-requires returns)
+judge-at-post-spec = tie.close (tie.spec (λ c κs. search rules) (λ c κs. search rules) (λ c κs. search rules) judge-at-requires returns)

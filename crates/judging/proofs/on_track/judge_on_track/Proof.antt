@@ -1,6 +1,5 @@
 use mathlib.Core.Path.{subst, sym}
 use Rattle.site.specs.InItsRanges.{InItsRanges}
-use Rattle.post_steps.specs.OtherTrack.{other_of}
 use Rattle.judging.proofs.at_post.OnTrack.{site_in}
 use Rattle.judging.proofs.on_track.OnTrack.{put_back}
 use borrow.Author.Rules.{rules}
@@ -21,7 +20,7 @@ returns c =
     let judged = c.before.before in
     let post = judged.before.before.before.before.before.before.before in
     let a = post.before.before.args in
-    put_back a.c a.x a.t (other_of a.other) post.place_of.ensures post.before.running-of.ensures
+    put_back a.c a.x a.t a.other post.place_of.ensures post.before.running-of.ensures
     judged.judge-at-post.ensures.0
     judged.judge-at-post.ensures.1.0
     judged.judge-at-post.ensures.1.1

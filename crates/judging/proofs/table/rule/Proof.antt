@@ -24,7 +24,7 @@ announce c = rw c.before.enum-told3.given.1 (nothing_moved _ _ _ _ _ _ refl c.an
 
 acknowledge : tie.Need-returns-4
 unfolding checks occupancy_at number_of effect
-acknowledge c = rw c.before.enum-told4.given.1 (nothing_moved _ _ _ _ _ _ refl c.acknowledge.ensures)
+acknowledge c = rw c.before.enum-told4.given.1 (nothing_moved _ _ _ _ _ _ refl (c.acknowledge.ensures c.before.before.before.args.c))
 
 start : tie.Need-returns-5
 unfolding checks occupancy_at number_of effect
@@ -40,11 +40,11 @@ leave c = rw c.before.before.before.x3.given.1 (c.leave.ensures.0, (c.leave.ensu
 
 measures-on : tie.Need-returns-8
 unfolding checks occupancy_at number_of effect
-measures-on c = rw c.before.enum-told5.given.1 (nothing_moved _ _ _ _ _ _ refl c.measures-on.ensures)
+measures-on c = rw c.before.enum-told5.given.1 (nothing_moved _ _ _ _ _ _ refl (c.measures-on.ensures c.before.before.before.args.c))
 
 measures-off : tie.Need-returns-9
 unfolding checks occupancy_at number_of effect
-measures-off c = rw c.before.enum-told6.given.1 (nothing_moved _ _ _ _ _ _ refl c.measures-off.ensures)
+measures-off c = rw c.before.enum-told6.given.1 (nothing_moved _ _ _ _ _ _ refl (c.measures-off.ensures c.before.before.before.args.c))
 
 fault-on : tie.Need-returns-10
 unfolding checks occupancy_at number_of effect
@@ -66,14 +66,6 @@ caution : tie.Need-returns-14
 unfolding checks occupancy_at number_of effect
 caution c = rw c.before.before.x7.given.1 (nothing_moved _ _ _ _ _ _ refl c.caution.ensures)
 
-close : tie.Need-returns-15
-unfolding checks occupancy_at number_of effect
-close c = rw c.before.before.enum-told8.given.1 (nothing_moved _ _ _ _ _ _ refl c.close.ensures)
-
-open-post : tie.Need-returns-16
-unfolding checks occupancy_at number_of effect
-open-post c = rw c.before.before.enum-told9.given.1 (nothing_moved _ _ _ _ _ _ refl c.open.ensures)
-
 pub rule-spec : {M : Type 1} → statement M
 rule-spec =
     tie.close
@@ -85,7 +77,7 @@ rule-spec =
     (λ c. search rules)
     (λ c κs. c.before.before.requires)
     (λ c. search rules)
-    (λ c κs. c.before.before.requires.on_the_line)
+    (λ c κs. tt)
     (λ c. search rules)
     (λ c κs. c.before.before.before.before.before.requires.on_the_line)
     (λ c. search rules)
@@ -93,9 +85,9 @@ rule-spec =
     (λ c. search rules)
     (λ c κs. c.before.before.before.before.requires.on_the_line)
     (λ c. search rules)
-    (λ c κs. c.before.before.requires.on_the_line)
+    (λ c κs. tt)
     (λ c. search rules)
-    (λ c κs. c.before.before.requires.on_the_line)
+    (λ c κs. tt)
     (λ c. search rules)
     (λ c κs. tt)
     (λ c. search rules)
@@ -104,10 +96,6 @@ rule-spec =
     (λ c κs. c.before.before.before.before.before.requires.on_the_line)
     (λ c. search rules)
     (λ c κs. c.before.before.before.requires)
-    (λ c. search rules)
-    (λ c κs. c.before.before.before.requires.on_the_line)
-    (λ c. search rules)
-    (λ c κs. c.before.before.before.requires.on_the_line)
     (λ c. search rules)
     (λ c κs. c.before.before.before.requires.on_the_line)
     order
@@ -123,6 +111,4 @@ rule-spec =
     fault-off
     release
     key
-    caution
-    close
-    open-post)
+    caution)

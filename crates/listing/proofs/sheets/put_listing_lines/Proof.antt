@@ -1,6 +1,5 @@
 -- The notes of all steps fit their room, so the day is noted, and the lines from the notes are those of the answers.
 use borrow.Author.Rules.{rules}
-use mathlib.Core.Path.{◌∙◌}
 use native.Mathlib.Omega.{arith}
 use lib.ListN.{length}
 use Rattle.judging_in_place.proofs.whole_day.Laws.{DayFits, day_done, notes_written}
@@ -29,7 +28,7 @@ returns c =
       notes_fit = omega (arith, room.room-for-notes.ensures, entry.requires.0.1);
     } in
     let so = day_done a.c a.steps.now a.count _ fits in
-    rw (noted.note-day.ensures.1 ∙ notes_written a.c a.steps.now a.count _ _ so, lines_noted a.c a.steps.now _ a.count)
+    rw (noted.note-day.ensures.1, notes_written a.c a.steps.now a.count _ _ so, lines_noted a.c a.steps.now _ a.count)
     at put.put-noted-lines.ensures
 
 pub put-listing-lines-spec : {M : Type 1} → statement M

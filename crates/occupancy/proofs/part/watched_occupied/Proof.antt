@@ -2,7 +2,7 @@
 use native.Mathlib.Omega.{arith}
 use borrow.Author.Rules.{rules}
 use Rattle.section.proofs.Told.{told_false, told_true}
-use Rattle.rules.specs.Site.{open_at, part_ends, watched_occupied}
+use Rattle.rules.specs.Site.{part_ends, watched_occupied}
 use Rattle.site.proofs.place.Laws.{rank_on_the_line}
 use Rattle.occupancy.proofs.part.watched_occupied.Statement.{statement}
 use Rattle.occupancy.proofs.part.watched_occupied.Tie as tie
@@ -17,7 +17,7 @@ holds-from-requires c κs =
     (omega (arith, c.rank-at.ensures, rank_on_the_line b.requires), b.requires.most)
 
 returns-2 : tie.Need-returns-2
-unfolding watched_occupied part_ends open_at
+unfolding watched_occupied part_ends
 returns-2 c =
     let r = c.before in
     let m = r.before in

@@ -1,11 +1,11 @@
 -- What is left to search is always what lies from rank j on. A turn finds a train, comes to the end, or goes one block section on.
-use Prim.Native.Nat.{◌-◌, ◌<◌}
+use Prim.Native.Nat.{suc, ◌-◌, ◌<◌}
 use mathlib.Core.Path.{◌≡◌, refl, sym, ◌∙◌}
 use native.Mathlib.Omega.{arith}
 use Rattle.section.proofs.Told.{told}
-use Rattle.site.proofs.Reach.{reach_here, reach_ended, reach_on, reach_last}
+use Rattle.rules.specs.Site.{reach}
 use Rattle.occupancy.specs.Reach.{holds_from}
-use Rattle.occupancy.proofs.reach.Laws.{is_train_lem, no_train}
+use Rattle.occupancy.proofs.reach.Laws.{reach_here, reach_ended, reach_on, is_train_lem, no_train}
 use Rattle.occupancy.proofs.reach.holds_from.Statement.{statement}
 use Rattle.occupancy.proofs.reach.holds_from.Tie as tie
 
@@ -54,7 +54,10 @@ loop-again c = let d = c.before.before in
     )
 
 returns-3 : tie.Need-returns-3 invariant-loop decreases-loop
-returns-3 c = sym (c.before.loop.invariant.1 ∙ reach_last _ _ _ _ (omega arith))
+unfolding reach
+returns-3 c =
+    let e : c.before.before.args.c.posts - suc c.before.loop.j ≡ 0 = omega arith in
+    sym (c.before.loop.invariant.1 ∙ rw e)
 
 pub holds-from-spec : {M : Type 1} → statement M
 holds-from-spec =

@@ -3,7 +3,7 @@ use mathlib.Core.Path.{◌≡◌}
 use native.Mathlib.Omega.{arith}
 use borrow.Author.Rules.{rules}
 use Rattle.section.proofs.Told.{told_false, told_true}
-use Rattle.rules.specs.Site.{rank_at, open_at, stretch_ends}
+use Rattle.rules.specs.Site.{rank_at, stretch_ends}
 use Rattle.site.proofs.place.Laws.{rank_on_the_line}
 use Rattle.occupancy.proofs.stretch.pass_occupied.Statement.{statement}
 use Rattle.occupancy.proofs.stretch.pass_occupied.Tie as tie
@@ -14,7 +14,7 @@ ends-at-requires c κs = let b = c.before.before in (omega (arith, c.rank-at.ens
 -- the test that was made is whether a stretch begins at the post
 begins : (c : tie.After-ends-at) → let a = c.before.before.before.args in
     c.ends_at.result ≡ stretch_ends a.c a.e.track a.e.cvt (rank_at a.c a.e)
-unfolding stretch_ends open_at
+unfolding stretch_ends
 begins c = rw (c.ends_at.ensures, c.before.rank-at.ensures, c.before.before.is-upward.ensures)
 
 returns : tie.Need-returns

@@ -24,13 +24,13 @@ sub-i c = omega arith
 train-in-requires : tie.Need-train-in-requires invariant-loop decreases-loop
 train-in-requires c κs = omega arith
 
-is-sought-train-requires : tie.Need-is-sought-train-requires invariant-loop decreases-loop
-is-sought-train-requires c κs = tt
+is-sought-requires : tie.Need-is-sought-requires invariant-loop decreases-loop
+is-sought-requires c κs = tt
 
 returns : tie.Need-returns invariant-loop decreases-loop
 returns c = let b = c.before.before.before in
     sym (b.before.loop.invariant.1 ∙ any_here _ _ _ (omega arith)
-    (told (rw c.before.before.train-in.ensures at c.before.is-sought-train.ensures) c.if1.true))
+    (told (rw c.before.before.train-in.ensures at c.before.is-sought.ensures) c.if1.true))
 
 loop-less : tie.Need-loop-smaller invariant-loop decreases-loop
 loop-less c = omega arith
@@ -39,7 +39,7 @@ loop-again : tie.Need-loop-preserved invariant-loop decreases-loop
 loop-again c = let b = c.before.before.before in (
   omega arith,
   b.before.loop.invariant.1 ∙ any_below _ _ _ (omega arith)
-      (told (rw c.before.before.train-in.ensures at c.before.is-sought-train.ensures) c.if1.false),
+      (told (rw c.before.before.train-in.ensures at c.before.is-sought.ensures) c.if1.false),
 )
 
 returns-2 : tie.Need-returns-2 invariant-loop decreases-loop
@@ -57,7 +57,7 @@ any-of-spec =
     loop-holds
     sub-i
     train-in-requires
-    is-sought-train-requires
+    is-sought-requires
     returns
     loop-less
     loop-again

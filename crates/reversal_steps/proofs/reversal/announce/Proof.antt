@@ -1,4 +1,4 @@
--- Two checks: the return on each is its refusal, the last is past them.
+-- One check: the return on it is its refusal, the other is past it.
 use borrow.Author.Rules.{rules}
 use Rattle.section.proofs.Told.{told_false, told_true}
 use Rattle.rules.specs.Table.{checks, effect}
@@ -9,39 +9,23 @@ use Rattle.reversal_steps.proofs.reversal.announce.Tie as tie
 
 returns : tie.Need-returns
 unfolding checks
-returns c = refused _ none (told_false c.before.post_open_lem.ensures c.if1.true)
-
-returns-2 : tie.Need-returns-2
-unfolding checks
-returns-2 c =
-    let opened = c.before.before in
-    refused _ (then none (told_true opened.before.post_open_lem.ensures opened.if1.false)) (told_false c.before.is_turn_lem.ensures c.if2.true)
+returns c = refused _ none (told_false c.before.is_turn_lem.ensures c.if1.true)
 
 next-post-requires : tie.Need-next-post-requires
 next-post-requires c κs =
     let left = c.before in
-    let start = left.before.before.before.before in
+    let start = left.before.before in
     let line = start.requires.on_the_line in
-    (line, announce_ahead start.args.c start.args.e line _ start.requires.walk (told_true left.before.is_turn_lem.ensures left.if2.false))
+    (line, announce_ahead start.args.c start.args.e line _ start.requires.walk (told_true left.before.is_turn_lem.ensures left.if1.false))
 
-returns-3 : tie.Need-returns-3
+returns-2 : tie.Need-returns-2
 unfolding checks effect
-returns-3 c =
+returns-2 c =
     let next = c.before.before in
     let left = next.before.before in
-    let opened = left.before.before in
     accepted (rw (c.walking.ensures, c.before.announcement.ensures, next.next_post_lem.ensures))
-    (then (then none (told_true opened.before.post_open_lem.ensures opened.if1.false)) (told_true left.before.is_turn_lem.ensures left.if2.false))
+    (then none (told_true left.before.is_turn_lem.ensures left.if1.false))
 
 pub announce-spec : {M : Type 1} → statement M
 announce-spec =
-    tie.close
-    (tie.spec
-    (λ c κs. c.requires.on_the_line)
-    returns
-    (λ c κs. search rules)
-    returns-2
-    next-post-requires
-    (λ c κs. search rules)
-    (λ c κs. search rules)
-    returns-3)
+    tie.close (tie.spec (λ c κs. search rules) returns next-post-requires (λ c κs. search rules) (λ c κs. search rules) returns-2)

@@ -5,13 +5,13 @@ use borrow.Author.Rules.{rules}
 use Rattle.section.specs.declared.Step.TheVariants.{Order}
 use Rattle.rules.specs.Site.{occupancy_at}
 use Rattle.rules.specs.Table.{Check, checks, effect}
-use Rattle.site.specs.Ruling.{beside_vns, row_at}
+use Rattle.site.specs.Ruling.{row_at}
 use Rattle.site.proofs.Row.{AskedAt, none, accepted, unless, when}
 use Rattle.reversal_steps.proofs.reversal.order.Statement.{statement}
 use Rattle.reversal_steps.proofs.reversal.order.Tie as tie
 
 abbrev row : tie.Start → List Check
-row c = row_at c.args.c (beside_vns c.args.other-on-vns) (Order c.args.e.post) c.args.e c.args.trains.now []
+row c = row_at c.args.c c.args.other-on-vns (Order c.args.e.post) c.args.e c.args.trains.now []
 
 -- the entry, from where each check is asked
 abbrev from_settled : tie.After-is-settled → tie.Start

@@ -2,7 +2,7 @@
 use native.Mathlib.Omega.{arith}
 use borrow.Author.Rules.{rules}
 use Rattle.section.proofs.Told.{told}
-use Rattle.rules.specs.Site.{open_at, part_ends, commands}
+use Rattle.rules.specs.Site.{part_ends, commands}
 use Rattle.site.proofs.place.Laws.{rank_on_the_line}
 use Rattle.site.proofs.ends.commands.Statement.{statement}
 use Rattle.site.proofs.ends.commands.Tie as tie
@@ -17,7 +17,7 @@ ends-at-requires c κs =
     (omega (arith, c.rank-at.ensures, rank_on_the_line b.requires), b.requires.most)
 
 returns-2 : tie.Need-returns-2
-unfolding commands part_ends open_at
+unfolding commands part_ends
 returns-2 c =
     let r = c.before in
     let u = r.before in

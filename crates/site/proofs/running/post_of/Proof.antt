@@ -60,20 +60,10 @@ returns-14 : tie.Need-returns-14
 unfolding post_of
 returns-14 c = rw c.before.x14.given.1
 
-returns-15 : tie.Need-returns-15
-unfolding post_of
-returns-15 c = rw c.before.x15.given.1
-
-returns-16 : tie.Need-returns-16
-unfolding post_of
-returns-16 c = rw c.before.x16.given.1
-
 pub post-of-spec : {M : Type 1} → statement M
 post-of-spec =
     tie.close
     (tie.spec
-    (λ c. search rules)
-    (λ c. search rules)
     (λ c. search rules)
     (λ c. search rules)
     (λ c. search rules)
@@ -101,6 +91,4 @@ post-of-spec =
     returns-11
     returns-12
     returns-13
-    returns-14
-    returns-15
-    returns-16)
+    returns-14)

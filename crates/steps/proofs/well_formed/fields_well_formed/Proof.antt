@@ -3,19 +3,22 @@ use Prim.Native.Nat.{ℕ, ◌≤◌}
 use mathlib.Core.Bool.{true, ◌&&◌}
 use mathlib.Core.Path.{◌≡◌}
 use borrow.Author.Rules.{rules}
-use lib.Dec.{ltb}
+use borrow.Author.Tests.{leb-true}
+use lib.Dec.{leb, ltb}
+use Rattle.section.specs.Bytes.{within}
 use Rattle.section.specs.Numbers.{last_kind}
 use Rattle.section.specs.Step.{is_kind, track_well_formed, place_well_formed, fields_well_formed}
-use Rattle.section.proofs.Laws.{and_left}
+use Rattle.section.proofs.Laws.{and_left, and_right}
 use Rattle.section.proofs.Tests.{Passed, first, ◌then◌}
 use Rattle.section.proofs.Told.{told_false, told_true}
-use Rattle.steps.proofs.Sets.{known_kind}
 use Rattle.steps.proofs.well_formed.fields_well_formed.Statement.{statement}
 use Rattle.steps.proofs.well_formed.fields_well_formed.Tie as tie
 
-known_by_place : (n kind track post : ℕ) → place_well_formed n kind track post ≡ true → kind ≤ last_kind
-unfolding place_well_formed
-known_by_place n kind track post h = known_kind kind (and_left (is_kind kind) (track_well_formed kind track && ltb post n) h)
+-- the kind is one that a set may be asked for
+known_kind : (n kind track post : ℕ) → place_well_formed n kind track post ≡ true → kind ≤ last_kind
+unfolding place_well_formed within
+known_kind n kind track post h =
+    leb-true kind last_kind (and_right (leb 1 kind) (leb kind last_kind) (and_left (is_kind kind) (track_well_formed kind track && ltb post n) h))
 
 abbrev place : tie.Else1 → Passed
 place c = first (told_true c.before.place-well-formed.ensures c.if1.false)
@@ -33,8 +36,8 @@ fields-well-formed-spec =
     (tie.spec
     (λ c κs. search rules)
     (λ c. rw (told_false c.before.place-well-formed.ensures c.if1.true))
-    (λ c κs. known_by_place _ _ _ _ (told_true c.before.place-well-formed.ensures c.if1.false))
+    (λ c κs. known_kind _ _ _ _ (told_true c.before.place-well-formed.ensures c.if1.false))
     (λ c. rw ((place c.before.before).say, told_false c.before.fault_well_formed_lem.ensures c.if2.true))
-    (λ c κs. let b = c.before.before in known_by_place _ _ _ _ (told_true b.before.place-well-formed.ensures b.if1.false))
+    (λ c κs. let b = c.before.before in known_kind _ _ _ _ (told_true b.before.place-well-formed.ensures b.if1.false))
     (λ c. rw ((fault c.before.before).say, told_false c.before.number_well_formed_lem.ensures c.if3.true))
     (λ c. rw (number c).say))
