@@ -1,4 +1,6 @@
 // Whether stored bytes are what the library makes of a day file.
+
+#![tactic(auto)]
 ghost use Rattle.std.specs.Prelude.{◌≡◌, true, ◌+◌, replicate};
 ghost use Rattle.layout.specs.Layout.{most_steps};
 ghost use Rattle.listing.specs.declared.sheets.Sheet.{Sheet};

@@ -1,4 +1,6 @@
 // Level crossings in the block section ahead, and the caution form (E.S. 379) that a train needs there.
+
+#![tactic(auto)]
 ghost use Rattle.std.specs.Prelude.{◌≡◌};
 ghost use Rattle.section.specs.Crossings.{lies_in};
 ghost use Rattle.section.specs.Numbers.{most_crossings};
@@ -13,7 +15,7 @@ use section::{Crossings, MOST_CROSSINGS, NO_ZONES, UNUSED};
 use site::place::{at_receiving_end, block_ahead};
 
 // What is looked for: any crossing, or one without counter-direction announcing zones.
-#[derive(Drop)]
+#[derive(Clone, Copy)]
 enum Sought {
     AnyCrossing,
     WithoutZones,

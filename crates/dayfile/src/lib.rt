@@ -1,4 +1,6 @@
 // Day files (document 01, "The day file"; document 02, request 1): the reader and the writer, of both marks.
+
+#![tactic(auto)]
 ghost use Rattle.std.specs.Prelude.{◌≡◌, ◌+◌, ◌≤◌, ◌++◌, length, take, drop};
 ghost use Rattle.layout.specs.Layout.{most_steps, steps_distance, tail_of, step_count, file_of, steps_part};
 ghost use Rattle.dayfile.specs.Answers.{not_read, read_of, write_verdict, written_into};
@@ -8,7 +10,7 @@ use ranges::settings;
 use section::{MOST_CROSSINGS, Outcome, STEP_LENGTH, Settings, UNUSED};
 
 // What the reader answers: how many steps are read, or the refusal. The settings beside a refusal are no_settings.
-#[derive(Drop)]
+#[derive(Clone, Copy)]
 pub struct ReadAnswer {
     pub reading: Outcome,
     pub settings: Settings,

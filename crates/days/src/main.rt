@@ -1,10 +1,12 @@
 // Runs the stored days. For each name among the arguments it reads NAME.day, NAME.listing and
 // NAME.panel, and compares what the library makes of the day with what is stored.
+
+#![tactic(auto)]
 use agreement::{agrees, sheet_room};
 use listing::sheets::Sheet;
 
 // What running a stored day shows.
-#[derive(Drop)]
+#[derive(Clone, Copy)]
 enum Day {
     Agrees,
     NotRead,

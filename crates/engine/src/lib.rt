@@ -1,5 +1,7 @@
 // The engine: a step offered to a section is judged or only tried, and a post's indications are shown.
 
+#![tactic(auto)]
+
 mod previews;
 
 ghost use Rattle.std.specs.Prelude.{◌≡◌};

@@ -11,7 +11,7 @@ use section::words::refusal_of;
 use section::{Section, Verdict};
 
 // The answer, what the posts of both tracks show after the step, and the section that came.
-#[derive(Drop)]
+#[derive(Clone, Copy)]
 pub struct Previewed {
     pub verdict: Verdict,
     pub a: PostsShown,

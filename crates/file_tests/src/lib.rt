@@ -1,4 +1,6 @@
 // The tests of a day file: its length, its trailer, its settings and its steps.
+
+#![tactic(auto)]
 ghost use Rattle.std.specs.Prelude.{◌≡◌, ◌≤◌, length};
 ghost use Rattle.section.specs.Numbers.{most_crossings};
 ghost use Rattle.layout.specs.Layout.{most_steps, shortest_file, trailer_length};

@@ -1,6 +1,8 @@
 // The image of a section, 466 bytes: its layout, and whether every byte of it stands for a value.
 // The layout may change with any delivery, and its number with it: an image of another layout is not well formed.
 
+#![tactic(auto)]
+
 pub mod reader;
 pub mod writer;
 

@@ -1,5 +1,7 @@
 // What posts show: CIRCULATION, TRONÇON, start permission, read from the lamp table. Here a post; `track` has all posts of a track.
 
+#![tactic(auto)]
+
 mod index;
 pub mod lamp_table;
 pub mod rule;

@@ -13,7 +13,7 @@ use site::running;
 use site::running::Running;
 
 // The verdict, and what the step leaves beside the trains: its post's record, and its track's running direction and walk.
-#[derive(Drop)]
+#[derive(Clone, Copy)]
 pub struct PostAnswer {
     pub verdict: Verdict,
     pub own: Post,

@@ -12,7 +12,7 @@ use site::running;
 use site::running::Running;
 
 // A step's verdict, and its track after it.
-#[derive(Drop)]
+#[derive(Clone, Copy)]
 pub struct TrackAnswer {
     pub verdict: Verdict,
     pub track: Track,

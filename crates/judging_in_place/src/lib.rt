@@ -1,6 +1,8 @@
 // Steps offered one after another to a section and judged in its cells: the one walk over steps. The cells of the two tracks stand side by side,
 // and a step changes them in their places; so nothing else of the section is copied between two steps.
 
+#![tactic(auto)]
+
 mod cells;
 pub mod whole_day;
 
@@ -23,7 +25,7 @@ use site::line::line_of;
 use site::running::{Running, place_of};
 
 // What is kept of the steps: their answers, or their notes.
-#[derive(Drop)]
+#[derive(Clone, Copy)]
 pub enum Entries {
     Answers,
     Notes,

@@ -1,4 +1,6 @@
 // Prints the lamp table for panel builders: 256 entries, one decimal number a line.
+
+#![tactic(auto)]
 use lines::lamps::{TABLE_ROOM, put_table};
 
 fn main() {

@@ -1,5 +1,7 @@
 // The layout of a day file, and its parts as they are read.
 
+#![tactic(auto)]
+
 pub mod writer;
 
 ghost use Rattle.std.specs.Prelude.{◌≡◌, ◌+◌, ◌*◌, ◌≤◌, length, get_or};

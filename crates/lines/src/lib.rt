@@ -1,5 +1,7 @@
 // A number in a line; the line of a refused file and the header of a day.
 
+#![tactic(auto)]
+
 pub mod lamps;
 pub mod listing;
 pub mod panel;

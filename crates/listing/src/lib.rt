@@ -1,5 +1,7 @@
 // The bench listing and the panel of a day file, from bytes to bytes.
 
+#![tactic(auto)]
+
 pub mod sheets;
 
 ghost use Rattle.std.specs.Prelude.{◌≡◌, ◌+◌, replicate};

@@ -25,7 +25,7 @@ use section::{Outcome, Settings};
 use text::copy_out;
 
 // What is printed of each step: what it did, or what the posts show after it.
-#[derive(Drop)]
+#[derive(Clone, Copy)]
 pub enum Sheet {
     Listing,
     Panel,

@@ -1,4 +1,6 @@
 // What is kept of a step that was judged: its answer, or its note, which is the answer and the letters of tracks A and B after it.
+
+#![tactic(auto)]
 ghost use Rattle.std.specs.Prelude.{◌≡◌, ◌+◌, ◌≤◌, length};
 ghost use Rattle.text.specs.Text.{written};
 ghost use Rattle.notes.specs.Note.{answer_length, answer_bytes, note_length, note_with};

@@ -27,7 +27,7 @@ pub fn train_after(cells: &Trains, n: u8, up: bool, j: u8) -> u16
 }
 
 // What is looked for: any train, or the one of that number.
-#[derive(Drop)]
+#[derive(Clone, Copy)]
 pub enum Sought {
     AnyTrain,
     Number(u16),

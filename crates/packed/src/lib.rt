@@ -1,4 +1,6 @@
 // What the C interface takes and returns: settings in a day file's bytes, and answers packed into one number.
+
+#![tactic(auto)]
 ghost use Rattle.std.specs.Prelude.{◌≡◌, ◌<◌, ◌≤◌, ◌^◌};
 ghost use Rattle.packed.specs.Packed.{packed_reading, packed_figure, packed_outcome, packed_verdict, packed_indications, packed_copied};
 ghost use Rattle.packed.specs.Settings.{lent_settings_well_formed};

@@ -1,4 +1,6 @@
 // Prints the panel of the day file on standard input.
+
+#![tactic(auto)]
 use section::Outcome;
 use streams::Input;
 

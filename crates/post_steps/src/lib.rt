@@ -1,5 +1,7 @@
 // The steps that a post takes for itself, a function a row of the table: measures, faults, caution forms. They look at no train; those of measures
 // and faults hold on any line.
+
+#![tactic(auto)]
 ghost use Rattle.std.specs.Prelude.{false, [], ◌≡◌};
 ghost use Rattle.section.specs.declared.Step.TheVariants.{MeasuresOn, MeasuresOff, FaultOn, FaultOff, Caution};
 ghost use Rattle.rules.specs.declared.Line.{Line};

@@ -1,5 +1,7 @@
 // The ranges of the settings of a line, its level crossings among them (refusal 3), and of a state (refusal 6).
 
+#![tactic(auto)]
+
 mod crossings;
 pub mod settings;
 

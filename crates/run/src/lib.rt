@@ -1,4 +1,6 @@
 // A run of steps in one call (document 02, request 4): from any section, steps and a buffer for their answers.
+
+#![tactic(auto)]
 ghost use Rattle.std.specs.Prelude.{◌≡◌, length};
 ghost use Rattle.run.specs.Run.{run_of, answers_after};
 
@@ -8,7 +10,7 @@ use notes::ANSWER_LENGTH;
 use section::{Outcome, Section};
 
 // What a call answers: how many steps are taken, or the refusal of the call; and the section afterwards.
-#[derive(Drop)]
+#[derive(Clone, Copy)]
 pub struct RunAnswer {
     pub outcome: Outcome,
     pub section: Section,

@@ -7,7 +7,7 @@ use rules::Site;
 use section::{Post, Step, Track, TrackStep, Walk};
 
 // A track's running direction (true for CVT) and its walk.
-#[derive(Drop)]
+#[derive(Clone, Copy)]
 pub struct Running {
     pub cvt: bool,
     pub walk: Walk,

@@ -1,5 +1,7 @@
 // A step from its eight bytes.
 
+#![tactic(auto)]
+
 pub mod well_formed;
 
 ghost use Rattle.std.specs.Prelude.{true, ◌≡◌, length};

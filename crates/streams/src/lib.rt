@@ -1,11 +1,13 @@
 // Standard input, read whole, and standard output, written whole.
+
+#![tactic(auto)]
 ghost use Rattle.std.specs.Prelude.{false, ◌≡◌};
 ghost use Rattle.streams.specs.LiesIn.{LiesIn};
 
 use libc::{STDIN_FILENO, STDOUT_FILENO};
 
 // What reading gave: so many bytes at the front of the buffer, or an error, which errno tells.
-#[derive(Drop)]
+#[derive(Clone, Copy)]
 pub enum Input {
     Bytes(usize),
     Failed,

@@ -1,4 +1,6 @@
 // Text written into a lent buffer, from a place on.
+
+#![tactic(auto)]
 ghost use Rattle.std.specs.Prelude.{◌≡◌, [], ◌∷◌, ◌+◌, ◌<◌, ◌≤◌, length};
 ghost use Rattle.text.specs.Text.{decimal_digits, decimal, written};
 ghost use Rattle.text.specs.Copied.{copied, copied_out};

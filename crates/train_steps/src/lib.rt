@@ -1,4 +1,6 @@
 // A train's own steps, a function a row of the table: the checks in its order, then what the step does, its movement among it.
+
+#![tactic(auto)]
 ghost use Rattle.std.specs.Prelude.{true, false, [], ◌≡◌};
 ghost use Rattle.section.specs.declared.Step.TheVariants.{Start, Pass, Leave};
 ghost use Rattle.site.specs.OnTheLine.{OnTheLine};
