@@ -1,4 +1,4 @@
-// The C interface to the steps of a day: for the comparison with a second implementation and for its benchmark.
+// The C interface to the steps of a day: for the comparison with a second implementation and for its benchmark. `capi_day_c` exports it.
 // It is not stable: names and the notes' layout may change with any delivery.
 
 #![tactic(auto)]
@@ -12,8 +12,7 @@ use section::Outcome;
 
 // Judges the steps, offered one after another from fresh, and writes the note of each, from the buffer's front on. The settings come in a day
 // file's bytes. The day is judged in place, as the listing judges it. How many steps are noted, or the refusal and its index.
-#[unsafe(no_mangle)]
-pub extern "C" fn bsr_day(settings: &[u8], steps: &[u8], buffer: &mut [u8]) -> u64
+pub fn bsr_day(settings: &[u8], steps: &[u8], buffer: &mut [u8]) -> u64
     ensures value { result ≡ packed_outcome (day_answer settings.now steps.now (length buffer.old)) }
     ensures buffer_after { buffer.new ≡ day_notes settings.now steps.now buffer.old }
 {
