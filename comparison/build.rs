@@ -1,4 +1,4 @@
-//! Links the static libraries of the proved implementation, made by `rt staticlib`: the crates of the C interface.
+//! Links the static libraries of the proved implementation, made by `.ci/libraries`: the crates of the C interface.
 
 use std::path::Path;
 use std::{env, process};
@@ -22,7 +22,7 @@ fn main() {
         println!("cargo:rerun-if-changed={}", archive.display());
         if !archive.exists() {
             eprintln!(
-                "{} is missing: `rt staticlib {library}` makes it",
+                "{} is missing: `.ci/libraries` makes it",
                 archive.display()
             );
             process::exit(1);

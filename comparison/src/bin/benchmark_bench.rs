@@ -1,5 +1,5 @@
 //! Times the two bench programs as whole processes on a day of 4,096 steps.
-//! Both are built first: `rt check bench`, and `cargo build --release` in `reference/`.
+//! Both are built first: `rt run </dev/null` in `crates/bench`, and `cargo build --release` in `reference/`.
 
 use comparison::report::{run, same_bytes, Outcome, Run};
 use comparison::timing::alternate;
@@ -16,7 +16,7 @@ fn main() -> ExitCode {
 
 fn benchmark_bench(run: &Run) -> Outcome {
     let top = Path::new(env!("CARGO_MANIFEST_DIR")).join("..");
-    let proved = top.join("target/bin/bench");
+    let proved = top.join("crates/bench/out/bench");
     let second = top.join("reference/target/release/bench");
     let day = top.join(DAY);
     same_bytes(
