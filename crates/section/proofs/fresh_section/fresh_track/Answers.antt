@@ -5,15 +5,13 @@ use mathlib.Core.List.{List}
 use mathlib.Core.Path.{◌≡◌, ◌∙◌, ap, sym}
 use lib.ListN.{set, replicate}
 use lib.Seq.{set_out}
-use borrow.Author.Rules.{rules}
 use Rattle.section.specs.declared.Post.{Post}
 use Rattle.section.specs.declared.Track.{Track}
 use Rattle.section.specs.declared.Walk.TheVariants.{Settled}
 use Rattle.section.specs.Fresh.{fresh_track}
 use Rattle.section.specs.Numbers.{most_posts, most_blocks}
 use Rattle.section.specs.Post.{blank, permitted}
-use Rattle.section.proofs.fresh_section.fresh_track.Statement.{statement}
-use Rattle.section.proofs.fresh_section.fresh_track.Tie as tie
+use Rattle.section.proofs.fresh_section.fresh_track.Goals as goal
 
 abbrev with_posts : List Post → Track
 with_posts l = record { posts = l; trains = replicate most_blocks 0; last = replicate most_blocks 0; cvt = false; walk = Settled }
@@ -30,27 +28,11 @@ module _ (n : ℕ) (track : Bool) {b : Post} {i : ℕ} (eb : b ≡ blank) (ei : 
   unfolding fresh_track
   past_the_end h = rw eb (ap with_posts (sym (set_out _ _ _ (rw ei at h))))
 
-returns : tie.Need-returns
-returns c =
-    let b = c.before.before.before in
-    let x = b.before.before.args in
-    in_place x.n x.track b.before.blank.ensures b.fresh_start.ensures (c.permitted.ensures ∙ ap (permitted true) c.before.blank2.ensures)
+pub returns-then-start-lt-MOST_POSTS : goal.returns-then-start-lt-MOST_POSTS
+returns-then-start-lt-MOST_POSTS c =
+    in_place c.args.n c.args.track c.blank-posts.ensures c.fresh_start-start.ensures
+    (c.permitted.ensures ∙ ap (permitted true) c.blank.ensures)
 
-returns-2 : tie.Need-returns-2
-returns-2 c =
-    let x = c.before.before.before.args in
-    past_the_end x.n x.track c.before.before.blank.ensures c.before.fresh_start.ensures c.if1.false
-
-pub fresh-track-spec : {M : Type 1} → statement M
-fresh-track-spec =
-    tie.close
-    (tie.spec
-    (λ c κs. search rules)
-    (λ c κs. search rules)
-    (λ c. search rules)
-    (λ c κs. search rules)
-    (λ c κs. search rules)
-    (λ c. search rules)
-    (λ c. search rules)
-    returns
-    returns-2)
+pub returns-else-start-lt-MOST_POSTS : goal.returns-else-start-lt-MOST_POSTS
+returns-else-start-lt-MOST_POSTS c =
+    past_the_end c.args.n c.args.track c.blank-posts.ensures c.fresh_start-start.ensures c.if-start-lt-MOST_POSTS.false
