@@ -5,16 +5,13 @@ usage: python3 tools/respell.py [--list]      at the top of the repository, once
 
 A definition, field or variable `atSendingEnd` becomes `at_sending_end`, a lemma `in-its-ranges` becomes `in_its_ranges`. A lemma that
 would have a definition's name gets `_lem`. Types, modules, names of src/, C names and strings keep their spelling, and so does what the
-library or Rattle itself names. Names that would still fall together in one file are printed, and nothing is written then.
+library or Rattle itself names. So do the paper's A, B, VNS and CVT in the worked examples. Names that would still fall together in one file are printed, and nothing is written then.
 """
 import os
 import re
 import sys
 
 WORD = r"[^\s(){}\[\].,;:\"`λ«»/|]+"
-# What is no type and begins with a capital.
-CAPITALS = {"A": "track_a", "B": "track_b", "VNS": "on_vns", "CVT": "on_cvt"}
-CAPITALS_IN = ("crates/rules/proofs/",)
 # Lemmas that port.py had given the name which a definition now gets.
 LEMMAS = {"tail_of": "tail_of_lem", "entry_length": "entry_length_lem", "closed_after": "closed_after_lem", "ends_open": "ends_open_lem"}
 
@@ -87,9 +84,7 @@ def code(path, text):
 
 
 def respelled(path, text, names, fields):
-    here = dict(names)
-    if path.startswith(CAPITALS_IN):
-        here.update(CAPITALS)
+    here = names
 
     def word(m, line):
         w = m.group(0)

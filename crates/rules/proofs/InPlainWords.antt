@@ -41,7 +41,7 @@ use Rattle.rules.proofs.Theorem.{demand3}
 
 -- ## Lists
 
-all_in : {track_a : Type 0} (P : track_a → Type 0) (l : List track_a) {x : track_a} → All P l → Memᴰ x l → P x
+all_in : {A : Type 0} (P : A → Type 0) (l : List A) {x : A} → All P l → Memᴰ x l → P x
 all_in P (y ∷ l) h (Memᴰ.head e) = subst P (sym e) h.0
 all_in P (y ∷ l) h (Memᴰ.tail m) = all_in P l h.1 m
 
@@ -49,8 +49,8 @@ some_end : (o : Option ℕ) → has_ended o ≡ true → (p : ℕ) × (o ≡ som
 some_end none h = absurd (false≢true h)
 some_end (some p) h = (p, refl)
 
-module _ {track_a : Type 0} (f g : track_a → Bool) (wider : (x : track_a) → g x ≡ true → f x ≡ true) where
-  keep_twice : (l : List track_a) → keep g (keep f l) ≡ keep g l
+module _ {A : Type 0} (f g : A → Bool) (wider : (x : A) → g x ≡ true → f x ≡ true) where
+  keep_twice : (l : List A) → keep g (keep f l) ≡ keep g l
   keep_twice [] = refl
   keep_twice (x ∷ l) = go (f x) (g x) refl refl (keep_twice l)
     where
@@ -61,7 +61,7 @@ module _ {track_a : Type 0} (f g : track_a → Bool) (wider : (x : track_a) → 
       go false false p q e = e
 
   -- what a test keeps in sequence, a narrower one does
-  narrower : (l m : List track_a) → keep f l ≡ keep f m → keep g l ≡ keep g m
+  narrower : (l m : List A) → keep f l ≡ keep f m → keep g l ≡ keep g m
   narrower l m e = sym (keep_twice l) ∙ ap (keep g) e ∙ keep_twice m
 
 as_often : (test : AcceptedStep → Bool) {l m : List AcceptedStep} → Reordering l m → how_many test l ≡ how_many test m

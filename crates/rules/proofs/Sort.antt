@@ -265,7 +265,7 @@ module _ (c : Settings) where
   other_vns s b p a r e = go (track_of s b).walk e (r.single b)
     where
       go : (w : Walk) → w ≡ Turn p a → (is_settled w && not (track_of s b).cvt || other_settled_on_vns s b) ≡ true → other_settled_on_vns s b ≡ true
-      go Settled f h = let z : ◌≡◌ {track_a = ℕ} 0 1 = cc in absurd (omega arith)
+      go Settled f h = let z : ◌≡◌ {A = ℕ} 0 1 = cc in absurd (omega arith)
       go (Turn q a') f h = h
 
   pub other_settled : (s : Section) (b : Bool) → other_settled_on_vns s b ≡ true → (track_of s (not b)).walk ≡ Settled
