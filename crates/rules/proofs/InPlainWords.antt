@@ -42,6 +42,7 @@ use Rattle.rules.proofs.Theorem.{demand3}
 -- ## Lists
 
 all_in : {A : Type 0} (P : A → Type 0) (l : List A) {x : A} → All P l → Memᴰ x l → P x
+all_in {A = A} P [] h x4 = elim x4 [ ]
 all_in P (y ∷ l) h (Memᴰ.head e) = subst P (sym e) h.0
 all_in P (y ∷ l) h (Memᴰ.tail m) = all_in P l h.1 m
 
