@@ -37,6 +37,7 @@ fn as_before(verdict: Verdict, e: Site) -> PostAnswer
 }
 
 // Judges a step at its site.
+#[tactic(auto, using(crate::proofs::at_post::AtSite::accepted, crate::proofs::at_post::AtSite::refused, crate::proofs::at_post::AtSite::trains_told, crate::proofs::at_post::AtSite::last_told))]
 fn judge_at(
     c: Line,
     x: Step,

@@ -25,6 +25,7 @@ pub fn file_room() -> [u8; FILE_ROOM]
 }
 
 // The bench listing of a file.
+#[tactic(auto, unfolding(crate::specs::Listing::listing, crate::specs::Sheet::line_on))]
 pub fn listing(file: &[u8], buffer: &mut [u8]) -> Outcome
     ensures value { result ≡ copied (listing file.now) buffer.old }
     ensures buffer_after { buffer.new ≡ copied_out (listing file.now) buffer.old }
@@ -33,6 +34,7 @@ pub fn listing(file: &[u8], buffer: &mut [u8]) -> Outcome
 }
 
 // The panel of a file.
+#[tactic(auto, unfolding(crate::specs::Panel::panel, crate::specs::Sheet::line_on))]
 pub fn panel(file: &[u8], buffer: &mut [u8]) -> Outcome
     ensures value { result ≡ copied (panel file.now) buffer.old }
     ensures buffer_after { buffer.new ≡ copied_out (panel file.now) buffer.old }

@@ -1,6 +1,7 @@
 // A run of steps in one call (document 02, request 4): from any section, steps and a buffer for their answers.
 
 #![tactic(auto)]
+
 ghost use Rattle.std.specs.Prelude.{◌≡◌, length};
 ghost use Rattle.run.specs.Run.{run_of, answers_after};
 
@@ -28,6 +29,7 @@ fn refused(refusal: Outcome, s: Section) -> RunAnswer
 
 // Offers the steps one after another and writes the answer to each, from the buffer's front on. What refuses the call is tested before the first
 // step is taken.
+#[tactic(auto, using(section::proofs::Told::told_false, section::proofs::Told::told_true, crate::proofs::Outcomes::answer_6, crate::proofs::Outcomes::answer_4, crate::proofs::Outcomes::answer_5_many, crate::proofs::Outcomes::answer_5_short, crate::proofs::Outcomes::answer_done, crate::proofs::Outcomes::whole_steps_lem, crate::proofs::Outcomes::well_steps), unfolding(judging_in_place::specs::Entries::entry_length))]
 pub fn run(s: Section, steps: &[u8], answers: &mut [u8]) -> RunAnswer
     ensures value { result ≡ run_of s steps.now (length answers.old) }
     ensures answers_after { answers.new ≡ answers_after s steps.now answers.old }

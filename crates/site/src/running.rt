@@ -23,6 +23,7 @@ pub fn running_of(t: Track) -> Running
     }
 }
 
+#[tactic(auto, unfolding(section::specs::Step::post_of))]
 pub fn post_of(x: Step) -> u8
     ensures { result ≡ post_of x }
 {
