@@ -1,5 +1,7 @@
 // The C interface to the steps of a day: for the comparison with a second implementation and for its benchmark.
 // It is not stable: names and the notes' layout may change with any delivery.
+
+#![tactic(auto)]
 ghost use Rattle.std.specs.Prelude.{◌≡◌, length};
 ghost use Rattle.packed.specs.Packed.{packed_outcome};
 ghost use Rattle.capi_day.specs.Day.{day_answer, day_notes};

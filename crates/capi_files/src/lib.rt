@@ -1,5 +1,7 @@
 // The C interface to day files, over lent bytes: for the comparison with a second implementation and for its benchmark.
 // It is not stable: names and packed numbers may change with any delivery.
+
+#![tactic(auto)]
 ghost use Rattle.std.specs.Prelude.{◌≡◌, length};
 ghost use Rattle.layout.specs.Layout.{steps_part};
 ghost use Rattle.dayfile.specs.Answers.{read_of};

@@ -1,5 +1,7 @@
 // The C interface to the listing and the panel of a day file, over lent bytes: for the comparison with a second implementation.
 // It is not stable: names and packed numbers may change with any delivery.
+
+#![tactic(auto)]
 ghost use Rattle.std.specs.Prelude.{◌≡◌};
 ghost use Rattle.listing.specs.Listing.{listing};
 ghost use Rattle.listing.specs.Panel.{panel};

@@ -1,5 +1,7 @@
 // The C interface to a step tried first, over a section's image: for test rigs and for the comparison with a second implementation.
 // It is not stable: names, packed numbers and the image's layout may change with any delivery.
+
+#![tactic(auto)]
 ghost use Rattle.std.specs.Prelude.{◌≡◌, cond, ◌+◌, ◌≤◌, length};
 ghost use Rattle.section.specs.Range.{in_range};
 ghost use Rattle.text.specs.Text.{written};

@@ -1,5 +1,7 @@
 // The C interface to a run of steps, over a section's image: for test rigs, and for the comparison with a second implementation.
 // It is not stable: names, packed numbers and the image's layout may change with any delivery.
+
+#![tactic(auto)]
 ghost use Rattle.std.specs.Prelude.{◌≡◌, length};
 ghost use Rattle.packed.specs.Packed.{packed_outcome};
 ghost use Rattle.capi_run.specs.Run.{run_outcome, run_image, run_answers};

@@ -1,5 +1,7 @@
 // The C interface to the engine, over a section's image: for the comparison with a second implementation.
 // It is not stable: names, packed numbers and the image's layout may change with any delivery.
+
+#![tactic(auto)]
 ghost use Rattle.std.specs.Prelude.{◌≡◌, length};
 ghost use Rattle.rules.specs.LampTable.{lamp_entry};
 ghost use Rattle.capi_sections.specs.Engine.{fresh_answer, fresh_image, judge_answer, judge_image, shown_of};

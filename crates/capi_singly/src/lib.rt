@@ -1,5 +1,7 @@
 // The C interface to the steps of a day, each offered singly to the engine: for the comparison and the benchmark of `engine::judge`.
 // It is not stable: names and the notes' layout may change with any delivery.
+
+#![tactic(auto)]
 ghost use Rattle.std.specs.Prelude.{◌≡◌, ◌+◌, ◌*◌, ◌≤◌, length};
 ghost use Rattle.section.specs.Numbers.{step_length};
 ghost use Rattle.text.specs.Text.{written};

@@ -1,4 +1,7 @@
 // Level crossings in the block section ahead, and the caution form (E.S. 379) that a train needs there.
+
+#![tactic(auto)]
+
 ghost use Rattle.std.specs.Prelude.{◌≡◌};
 ghost use Rattle.section.specs.Crossings.{lies_in};
 ghost use Rattle.section.specs.Numbers.{most_crossings};
@@ -13,7 +16,7 @@ use section::{Crossings, MOST_CROSSINGS, NO_ZONES, UNUSED};
 use site::place::{at_receiving_end, block_ahead};
 
 // What is looked for: any crossing, or one without counter-direction announcing zones.
-#[derive(Drop)]
+#[derive(Clone, Copy)]
 enum Sought {
     AnyCrossing,
     WithoutZones,
@@ -29,6 +32,7 @@ fn lies_in(block: usize, b: u8) -> bool
 }
 
 // The crossing of that byte lies in the block section, and is one that is looked for.
+#[tactic(auto, using(section::proofs::Told::told_false, section::proofs::Told::told_true, crate::proofs::Laws::elsewhere))]
 fn is_sought(sought: Sought, block: usize, b: u8) -> bool
     ensures { result ≡ is_sought_crossing sought block b }
 {
@@ -42,6 +46,7 @@ fn is_sought(sought: Sought, block: usize, b: u8) -> bool
 }
 
 // One that is looked for lies in the block section. The first unused byte ends the search.
+#[tactic(auto, using(section::proofs::Told::told, crate::proofs::Laws::any_found, crate::proofs::Laws::any_none, crate::proofs::Laws::none_ended, crate::proofs::Laws::unused_not_sought))]
 fn any_crossing(crossings: Crossings, sought: Sought, block: usize) -> bool
     requires { UnusedLast crossings }
     ensures { result ≡ any_of (is_sought_crossing sought block) most_crossings crossings }
@@ -61,6 +66,7 @@ fn any_crossing(crossings: Crossings, sought: Sought, block: usize) -> bool
 }
 
 // One that is looked for lies in the block section ahead; the receiving end has none ahead.
+#[tactic(auto, using(section::proofs::Told::told, site::proofs::place::Laws::has_ahead), unfolding(crate::specs::Crossings::sought_ahead))]
 fn sought_ahead(c: Line, e: Site, sought: Sought) -> bool
     requires { OnTheLine c e }
     ensures { result ≡ sought_ahead c e sought }
@@ -73,6 +79,7 @@ fn sought_ahead(c: Line, e: Site, sought: Sought) -> bool
 }
 
 // 12 of a caution form: a crossing lies in the block section ahead.
+#[tactic(auto, using(crate::proofs::Laws::crossing_sought))]
 pub fn crossing_ahead(c: Line, e: Site) -> bool
     requires { OnTheLine c e }
     ensures { result ≡ crossing_ahead c e }
@@ -81,6 +88,7 @@ pub fn crossing_ahead(c: Line, e: Site) -> bool
 }
 
 // A train that enters the block section ahead needs a caution form: under fault 4 for any crossing, in CVT for one without zones.
+#[tactic(auto, using(crate::proofs::Laws::crossing_sought, crate::proofs::Laws::zones_sought, crate::proofs::Laws::zones_lack_there, crate::proofs::Laws::needed_by_fault, crate::proofs::Laws::needed_in_cvt, crate::proofs::Laws::not_needed))]
 fn caution_needed(c: Line, e: Site) -> bool
     requires { OnTheLine c e }
     ensures { result ≡ caution_needed c e }
@@ -95,6 +103,7 @@ fn caution_needed(c: Line, e: Site) -> bool
 }
 
 // 22: the train needs no caution form, or the one at the post is for it. A line without crossings is known by its first byte.
+#[tactic(auto, using(section::proofs::Told::told_false, section::proofs::Told::told_true, crate::proofs::Laws::crossing_sought, crate::proofs::Laws::none_ahead))]
 pub fn caution_held(c: Line, e: Site, number: u16) -> bool
     requires { OnTheLine c e }
     ensures { result ≡ caution_held c number e }

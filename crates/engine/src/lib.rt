@@ -1,5 +1,7 @@
 // The engine: a step offered to a section is judged or only tried, and a post's indications are shown.
 
+#![tactic(auto)]
+
 mod previews;
 
 ghost use Rattle.std.specs.Prelude.{◌≡◌};
@@ -36,6 +38,7 @@ fn track_of(s: Section, track: bool) -> Track
 }
 
 // Judges bytes offered to a section: 6, then 4, then the table. A refusal returns the section as it came.
+#[tactic(auto, using(section::proofs::Told::told_false, section::proofs::Told::told_true, rules::proofs::RangeLaw::judged_in_range, judging::proofs::at_post::OnTrack::malformed, judging::proofs::at_post::OnTrack::in_ranges, judging::proofs::on_track::OnTrack::judged), unfolding(rules::specs::Judge::judge))]
 pub fn judge(s: Section, bytes: &[u8]) -> Answer
     ensures { result ≡ judge s bytes.now }
 {

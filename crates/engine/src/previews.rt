@@ -11,7 +11,7 @@ use section::words::refusal_of;
 use section::{Section, Verdict};
 
 // The answer, what the posts of both tracks show after the step, and the section that came.
-#[derive(Drop)]
+#[derive(Clone, Copy)]
 pub struct Previewed {
     pub verdict: Verdict,
     pub a: PostsShown,
@@ -33,6 +33,7 @@ fn out_of_range(state: Section) -> Previewed
 
 // Tries a step: what judging it would answer and show. The section comes back as it was. Judging tests the ranges, and only a state out of them
 // gives 6.
+#[tactic(auto, using(crate::proofs::PreviewLaws::out_of_range_is, crate::proofs::PreviewLaws::answered_6, crate::proofs::PreviewLaws::after_in_range, crate::proofs::PreviewLaws::tried_is))]
 pub fn preview(s: Section, bytes: &[u8]) -> Previewed
     ensures { result ≡ preview s bytes.now }
 {

@@ -1,4 +1,7 @@
 // The tests of a day file: its length, its trailer, its settings and its steps.
+
+#![tactic(auto)]
+
 ghost use Rattle.std.specs.Prelude.{◌≡◌, ◌≤◌, length};
 ghost use Rattle.section.specs.Numbers.{most_crossings};
 ghost use Rattle.layout.specs.Layout.{most_steps, shortest_file, trailer_length};
@@ -10,6 +13,7 @@ use section::STEP_LENGTH;
 use steps::well_formed;
 
 // Below 24, above 32,800 or not a multiple of 8.
+#[tactic(auto, unfolding(crate::specs::Tests::length_wrong))]
 pub fn length_wrong(size: usize) -> bool
     ensures { result ≡ length_wrong size }
 {
@@ -23,6 +27,7 @@ pub fn length_wrong(size: usize) -> bool
 }
 
 // Whether a file with such a tail can be so long.
+#[tactic(auto, unfolding(crate::specs::Tests::length_suits))]
 fn length_suits(tail: usize, size: usize) -> bool
     requires { tail ≤ most_crossings }
     ensures { result ≡ length_suits tail size }
@@ -34,6 +39,7 @@ fn length_suits(tail: usize, size: usize) -> bool
 }
 
 // Whether the trailer is that of a file with such a tail and so many steps.
+#[tactic(auto, using(section::proofs::Tests::first, section::proofs::Told::told_false, section::proofs::Told::told_true), unfolding(crate::specs::Tests::trailer_well_formed))]
 fn trailer_well_formed(tail: usize, count: usize, t: &[u8]) -> bool
     requires { (tail ≤ most_crossings) × ((count ≤ most_steps) × (trailer_length ≤ length t.now)) }
     ensures { result ≡ trailer_well_formed tail count t.now }
@@ -51,6 +57,7 @@ fn trailer_well_formed(tail: usize, count: usize, t: &[u8]) -> bool
 }
 
 // Whether the trailer is what the file's length demands.
+#[tactic(auto, using(layout::proofs::Parts::tail_in_lem, layout::proofs::Parts::trailer_length_lem, section::proofs::Told::told_false, section::proofs::Told::told_true, crate::proofs::Laws::length_suits_lem, crate::proofs::Laws::few_steps), unfolding(crate::specs::Tests::trailer_fits))]
 pub fn trailer_fits(file: &[u8]) -> bool
     requires { shortest_file ≤ length file.now }
     ensures { result ≡ trailer_fits file.now }
@@ -64,6 +71,7 @@ pub fn trailer_fits(file: &[u8]) -> bool
 }
 
 // Whether bytes are settings: eight of them, or sixteen with at least one crossing; within their ranges, and bytes 6 and 7 zero.
+#[tactic(auto, using(section::proofs::Told::told_false, section::proofs::Told::told_true, layout::proofs::Parts::tail_of_lem), unfolding(crate::specs::Tests::settings_well_formed, crate::specs::Tests::zeros_well_formed))]
 pub fn settings_well_formed(s: &[u8]) -> bool
     ensures { result ≡ settings_well_formed s.now }
 {
@@ -81,6 +89,7 @@ pub fn settings_well_formed(s: &[u8]) -> bool
 }
 
 // The index of the first malformed step, or the number of steps where none is. An incomplete step follows the whole ones, and is malformed.
+#[tactic(auto, using(section::proofs::Told::told_true, section::proofs::Told::told_false, crate::proofs::Laws::leading_is, crate::proofs::Laws::well_here, crate::proofs::Laws::incomplete), unfolding(crate::specs::Tests::first_malformed, layout::specs::Layout::step_count))]
 pub fn first_malformed(n: u8, steps: &[u8]) -> usize
     ensures { result ≡ first_malformed n steps.now }
 {

@@ -1,6 +1,8 @@
 // The image of a section, 466 bytes: its layout, and whether every byte of it stands for a value.
 // The layout may change with any delivery, and its number with it: an image of another layout is not well formed.
 
+#![tactic(auto)]
+
 pub mod reader;
 pub mod writer;
 
@@ -44,6 +46,7 @@ pub const TRACK_B: usize = TRACK_A + TRACK_LENGTH;
 pub const IMAGE_LENGTH: usize = TRACK_B + TRACK_LENGTH;
 
 // Of a post: device, permission, measures, faults, mark, zero.
+#[tactic(auto, using(section::proofs::Tests::first), unfolding(crate::specs::Image::post_well_formed))]
 fn post_well_formed(bytes: &[u8], at: usize) -> bool
     requires { at + post_length ≤ length bytes.now }
     ensures { result ≡ post_well_formed bytes.now at }
@@ -67,6 +70,7 @@ fn post_well_formed(bytes: &[u8], at: usize) -> bool
 }
 
 // Of all sixteen posts, from the last one down.
+#[tactic(auto, using(section::proofs::Told::told_false, section::proofs::Told::told_true, crate::proofs::Laws::posts_stop, crate::proofs::Laws::posts_go_on), unfolding(crate::specs::Image::posts_well_formed))]
 fn posts_well_formed(bytes: &[u8], at: usize) -> bool
     requires { at + posts_length ≤ length bytes.now }
     ensures { result ≡ posts_well_formed bytes.now at most_posts }
@@ -82,6 +86,7 @@ fn posts_well_formed(bytes: &[u8], at: usize) -> bool
 }
 
 // Of the act and the turn's post, which is zero with no reversal.
+#[tactic(auto, unfolding(crate::specs::Image::walk_well_formed))]
 fn walk_well_formed(act: u8, post: u8) -> bool
     ensures { result ≡ walk_well_formed act post }
 {
@@ -92,6 +97,7 @@ fn walk_well_formed(act: u8, post: u8) -> bool
 }
 
 // Of a track: direction, act and turn's post, zero, posts.
+#[tactic(auto, using(section::proofs::Tests::first, section::proofs::Told::told_false, section::proofs::Told::told_true), unfolding(crate::specs::Image::track_well_formed))]
 fn track_well_formed(bytes: &[u8], at: usize) -> bool
     requires { at + track_length ≤ length bytes.now }
     ensures { result ≡ track_well_formed bytes.now at }
@@ -109,6 +115,7 @@ fn track_well_formed(bytes: &[u8], at: usize) -> bool
 }
 
 // Of this length and this layout, zero where the settings say nothing, and both tracks.
+#[tactic(auto, using(section::proofs::Tests::first, section::proofs::Told::told_false, section::proofs::Told::told_true), unfolding(crate::specs::Image::image_well_formed))]
 pub fn image_well_formed(bytes: &[u8]) -> bool
     ensures { result ≡ image_well_formed bytes.now }
 {

@@ -10,6 +10,7 @@ use crate::{
 use section::{Act, Faults, MOST_BLOCKS, Post, Posts, Section, Track, Trains, Walk};
 
 // Two bytes, the lower first.
+#[tactic(auto, unfolding(crate::specs::Image::number_at))]
 pub fn number_at(bytes: &[u8], at: usize) -> u16
     requires { at + number_length ≤ length bytes.now }
     ensures { result ≡ number_at bytes.now at }
@@ -17,6 +18,7 @@ pub fn number_at(bytes: &[u8], at: usize) -> u16
     section::le16_of(bytes[at], bytes[at + 1])
 }
 
+#[tactic(auto, unfolding(crate::specs::Image::post_at))]
 fn post_at(bytes: &[u8], at: usize) -> Post
     requires { at + post_length ≤ length bytes.now }
     ensures { result ≡ post_at bytes.now at }
@@ -39,6 +41,7 @@ fn post_at(bytes: &[u8], at: usize) -> Post
     }
 }
 
+#[tactic(auto, using(section::proofs::Items::none_filled, section::proofs::Items::one_more, section::proofs::Items::all_filled), unfolding(crate::specs::Image::posts_from))]
 fn posts_from(bytes: &[u8], at: usize) -> Posts
     requires { at + posts_length ≤ length bytes.now }
     ensures { result ≡ posts_from bytes.now at most_posts }
@@ -52,6 +55,7 @@ fn posts_from(bytes: &[u8], at: usize) -> Posts
     posts
 }
 
+#[tactic(auto, using(section::proofs::Items::none_filled, section::proofs::Items::one_more, section::proofs::Items::all_filled), unfolding(crate::specs::Image::numbers_from))]
 fn numbers_from(bytes: &[u8], at: usize) -> Trains
     requires { at + numbers_length ≤ length bytes.now }
     ensures { result ≡ numbers_from bytes.now at most_blocks }
@@ -65,6 +69,7 @@ fn numbers_from(bytes: &[u8], at: usize) -> Trains
     numbers
 }
 
+#[tactic(auto, unfolding(crate::specs::Image::walk_of))]
 fn walk_of(act: u8, post: u8) -> Walk
     ensures { result ≡ walk_of act post }
 {
@@ -76,6 +81,7 @@ fn walk_of(act: u8, post: u8) -> Walk
     }
 }
 
+#[tactic(auto, unfolding(crate::specs::Image::track_from))]
 fn track_from(bytes: &[u8], at: usize) -> Track
     requires { at + track_length ≤ length bytes.now }
     ensures { result ≡ track_from bytes.now at }
@@ -90,6 +96,7 @@ fn track_from(bytes: &[u8], at: usize) -> Track
 }
 
 // The section that an image says.
+#[tactic(auto, unfolding(crate::specs::Image::section_of))]
 pub fn section_of(bytes: &[u8]) -> Section
     requires { image_length ≤ length bytes.now }
     ensures { result ≡ section_of bytes.now }

@@ -8,6 +8,7 @@ ghost use Rattle.image.specs.Image.{numbers_image, act_number, walk_image, track
 use crate::{LAYOUT_NUMBER, POST_LENGTH, POSTS_HELD};
 use section::{Act, MOST_BLOCKS, Post, Posts, Section, Track, Trains, Walk, truth_number};
 
+#[tactic(auto, unfolding(crate::specs::Image::faults_byte))]
 fn faults_byte(o: Post) -> u8
     ensures { result ≡ faults_byte o }
 {
@@ -15,6 +16,7 @@ fn faults_byte(o: Post) -> u8
     low + truth_number(o.faults.three) * 4 + truth_number(o.faults.four) * 8
 }
 
+#[tactic(auto, unfolding(crate::specs::Image::post_image, layout::specs::Layout::le16_bytes))]
 fn post_bytes(o: Post) -> [u8; POST_LENGTH]
     ensures { result ≡ post_image o }
 {
@@ -34,6 +36,7 @@ fn post_bytes(o: Post) -> [u8; POST_LENGTH]
     ]
 }
 
+#[tactic(auto, unfolding(crate::specs::Image::act_number))]
 fn act_number(act: Act) -> u8
     ensures { result ≡ act_number act }
 {
@@ -45,6 +48,7 @@ fn act_number(act: Act) -> u8
 }
 
 // The act and the turn's post.
+#[tactic(auto, unfolding(crate::specs::Image::walk_image))]
 fn walk_bytes(walk: Walk) -> [u8; 2]
     ensures { result ≡ walk_image walk }
 {
@@ -55,6 +59,7 @@ fn walk_bytes(walk: Walk) -> [u8; 2]
 }
 
 // What stands before a track's posts.
+#[tactic(auto, using(crate::proofs::writer::Laws::two_and_zero), unfolding(crate::specs::Image::track_head))]
 fn track_head(t: Track) -> [u8; 4]
     ensures { result ≡ track_head t }
 {
@@ -63,6 +68,7 @@ fn track_head(t: Track) -> [u8; 4]
     [truth_number(t.cvt), turn[0], turn[1], 0]
 }
 
+#[tactic(auto, using(text::proofs::Laws::none_put, text::proofs::Laws::one_more_put, crate::proofs::Laws::posts_length_lem), unfolding(crate::specs::Image::posts_image))]
 fn put_posts(buffer: &mut [u8], at: usize, posts: Posts) -> usize
     requires { at + posts_length ≤ length buffer.old }
     ensures value { result ≡ at + posts_length }
@@ -78,6 +84,7 @@ fn put_posts(buffer: &mut [u8], at: usize, posts: Posts) -> usize
     next
 }
 
+#[tactic(auto, using(text::proofs::Laws::none_put, text::proofs::Laws::one_more_put, crate::proofs::Laws::numbers_length_lem), unfolding(crate::specs::Image::numbers_image))]
 fn put_numbers(buffer: &mut [u8], at: usize, numbers: Trains) -> usize
     requires { at + numbers_length ≤ length buffer.old }
     ensures value { result ≡ at + numbers_length }
@@ -93,6 +100,7 @@ fn put_numbers(buffer: &mut [u8], at: usize, numbers: Trains) -> usize
     next
 }
 
+#[tactic(auto, using(crate::proofs::writer::Laws::track_put))]
 fn put_track(buffer: &mut [u8], at: usize, t: Track) -> usize
     requires { at + track_length ≤ length buffer.old }
     ensures value { result ≡ at + track_length }
@@ -109,6 +117,7 @@ fn put_track(buffer: &mut [u8], at: usize, t: Track) -> usize
 }
 
 // Writes a section's image to the front of the buffer.
+#[tactic(auto, using(crate::proofs::writer::Laws::image_put))]
 pub fn put_image(buffer: &mut [u8], s: Section)
     requires { image_length ≤ length buffer.old }
     ensures { buffer.new ≡ written buffer.old 0 (image_of s) }

@@ -16,6 +16,7 @@ use site::line::is_materialised;
 use site::place::rank_at;
 
 // How many posts, from the sending end on, have set in this reversal.
+#[tactic(auto, using(section::proofs::Laws::rank_lt, crate::proofs::index::Laws::turn_below), unfolding(rules::specs::Indications::set_count))]
 fn set_count(n: u8, up: bool, walk: Walk) -> u8
     requires { (n ≤ most_posts) × (walk_in_range n up walk ≡ true) }
     ensures { result ≡ set_count n up walk }
@@ -34,6 +35,7 @@ fn set_count(n: u8, up: bool, walk: Walk) -> u8
 }
 
 // The post before has set in this reversal and this one has not; the sending end has none before it.
+#[tactic(auto, using(crate::proofs::index::Laws::next_first, crate::proofs::index::Laws::next_later))]
 fn is_next(c: Line, e: Site) -> bool
     requires { InItsRanges c e }
     ensures { result ≡ is_next_to_set (open_at c e.track e.cvt) (set_count c.posts (up_at c e) e.walk) (rank_at c e) }
@@ -57,6 +59,7 @@ fn index_of_post(own: Post) -> u8
 }
 
 // The index of a site's eight bits in the lamp table.
+#[tactic(auto, using(crate::proofs::index::Laws::index_parts))]
 pub fn index_at(c: Line, e: Site, trains: &Trains) -> u8
     requires { InItsRanges c e }
     ensures { result ≡ index_of (lamps_at c e trains.now) }

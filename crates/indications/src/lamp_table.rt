@@ -21,6 +21,7 @@ const LAMP_TABLE: LampTable = [
 ];
 
 // The constant in a local, to be lent: every use of it writes it anew.
+#[tactic(auto, unfolding(rules::specs::LampTable::lamp_table, section::specs::Items::items, rules::specs::LampTable::lamp_entry, rules::specs::LampTable::entry_of, rules::specs::LampTable::lamps_of, rules::specs::Indications::circulation, rules::specs::Indications::troncon))]
 pub fn table() -> LampTable
     ensures { result ≡ lamp_table }
 {
@@ -28,6 +29,7 @@ pub fn table() -> LampTable
 }
 
 // The entry of the lent table at an index.
+#[tactic(auto, using(section::proofs::Items::item_at), unfolding(rules::specs::LampTable::lamp_table))]
 pub fn look_up(table: &LampTable, index: u8) -> u8
     requires { table.now ≡ lamp_table }
     ensures { result ≡ lamp_entry index }

@@ -1,5 +1,7 @@
 // What posts show: CIRCULATION, TRONÇON, start permission, read from the lamp table. Here a post; `track` has all posts of a track.
 
+#![tactic(auto)]
+
 mod index;
 pub mod lamp_table;
 pub mod rule;
@@ -21,6 +23,7 @@ use section::{Indications, Section, Settings, Track, Trains};
 use site::line::line_of;
 use site::running::{running_of, site};
 
+#[tactic(auto, unfolding(rules::specs::LampTable::taken_apart))]
 fn taken_apart(entry: u8) -> Indications
     ensures { result ≡ taken_apart entry }
 {
@@ -32,6 +35,7 @@ fn taken_apart(entry: u8) -> Indications
 }
 
 // What the post of a site shows, read from the lent table.
+#[tactic(auto, using(rules::proofs::LampTable::read_from_table))]
 fn read_at(table: &LampTable, c: Line, e: Site, trains: &Trains) -> Indications
     requires { (table.now ≡ lamp_table) × (InItsRanges c e) }
     ensures { result ≡ shown (lamps_at c e trains.now) }
@@ -40,6 +44,7 @@ fn read_at(table: &LampTable, c: Line, e: Site, trains: &Trains) -> Indications
 }
 
 // What a post of a track in its ranges shows.
+#[tactic(auto, using(section::proofs::Laws::posts_right, site::proofs::running::Laws::in_its_ranges))]
 fn post_indications(c: Settings, track: bool, post: u8, t: Track) -> Indications
     requires { (settings_in_range c ≡ true) × (track_in_range c.posts track t ≡ true) × (post < c.posts) }
     ensures { result ≡ shown (lamps_at (line_of c) (site_on track post t) t.trains) }
@@ -52,6 +57,7 @@ fn post_indications(c: Settings, track: bool, post: u8, t: Track) -> Indications
     read_at(&table, line_of(c), e, &trains)
 }
 
+#[tactic(auto, unfolding(rules::specs::Indications::dark))]
 fn all_dark() -> Indications
     ensures { result ≡ dark }
 {
@@ -63,6 +69,7 @@ fn all_dark() -> Indications
 }
 
 // What a post shows on a track; all 0 for a state that gives 6, and for a track or a post that the section has not.
+#[tactic(auto, using(section::proofs::Told::told_false, section::proofs::Told::told_true, section::proofs::Laws::settings_in_range_lem, section::proofs::Laws::track_in_range_lem, crate::proofs::Laws::dark_out, crate::proofs::Laws::dark_track, crate::proofs::Laws::dark_post, crate::proofs::Laws::on_track_is))]
 pub fn indications(s: Section, track: u8, post: u8) -> Indications
     ensures { result ≡ indications s track post }
 {

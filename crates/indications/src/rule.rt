@@ -34,6 +34,7 @@ fn circulation(fault3: bool, flashing: bool, cvt: bool) -> u8
     if cvt { CVT } else { VNS }
 }
 
+#[tactic(auto, using(crate::proofs::rule::Laws::no_part, crate::proofs::rule::Laws::red_by_fault, crate::proofs::rule::Laws::red_by_train, crate::proofs::rule::Laws::white))]
 fn troncon(commands: bool, fault1: bool, occupied: bool) -> u8
     ensures { result ≡ cond commands (cond (fault1 || occupied) 2 1) 0 }
 {
@@ -61,6 +62,7 @@ fn is_flashing(materialised: bool, next_to_set: bool) -> bool
 }
 
 // The entry at an index, by the rule.
+#[tactic(auto, using(rules::proofs::LampTable::at_most_4, rules::proofs::LampTable::at_most_2, crate::proofs::rule::Laws::entry_parts))]
 pub fn entry_by_rule(index: u8) -> u8
     ensures { result ≡ lamp_entry index }
 {

@@ -16,6 +16,7 @@ use site::running::{running_of, site};
 pub type PostsShown = [Indications; MOST_POSTS as usize];
 
 // The posts of a track, those that it has not dark. Line and table are made once.
+#[tactic(auto, using(section::proofs::Laws::posts_right, site::proofs::running::Laws::in_its_ranges, crate::proofs::track::Laws::none_yet, crate::proofs::track::Laws::one_more))]
 fn posts_of(c: Settings, track: bool, t: Track) -> PostsShown
     requires { (settings_in_range c ≡ true) × (track_in_range c.posts track t ≡ true) }
     ensures { result ≡ items (indications_at c track t) most_posts }
@@ -43,6 +44,7 @@ pub fn all_posts_dark() -> PostsShown
 }
 
 // All dark on a track that the section has not.
+#[tactic(auto, using(section::proofs::Laws::settings_in_range_lem, section::proofs::Laws::track_in_range_lem, crate::proofs::track::Laws::dark_track, crate::proofs::track::Laws::by_track))]
 pub fn track_indications(s: Section, track: u8) -> PostsShown
     requires { in_range s ≡ true }
     ensures { result ≡ track_indications s track }

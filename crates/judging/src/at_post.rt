@@ -13,7 +13,7 @@ use site::running;
 use site::running::Running;
 
 // The verdict, and what the step leaves beside the trains: its post's record, and its track's running direction and walk.
-#[derive(Drop)]
+#[derive(Clone, Copy)]
 pub struct PostAnswer {
     pub verdict: Verdict,
     pub own: Post,
@@ -37,6 +37,7 @@ fn as_before(verdict: Verdict, e: Site) -> PostAnswer
 }
 
 // Judges a step at its site.
+#[tactic(auto, using(crate::proofs::at_post::AtSite::accepted, crate::proofs::at_post::AtSite::refused, crate::proofs::at_post::AtSite::trains_told, crate::proofs::at_post::AtSite::last_told))]
 fn judge_at(
     c: Line,
     x: Step,

@@ -12,13 +12,14 @@ use site::running;
 use site::running::Running;
 
 // A step's verdict, and its track after it.
-#[derive(Drop)]
+#[derive(Clone, Copy)]
 pub struct TrackAnswer {
     pub verdict: Verdict,
     pub track: Track,
 }
 
 // Judges a well-formed step on its own track; of the other only the running direction and the walk count.
+#[tactic(auto, using(crate::proofs::at_post::OnTrack::site_in, crate::proofs::on_track::OnTrack::put_back))]
 pub fn judge_on_track(c: Line, x: TrackStep, t: Track, other: Running) -> TrackAnswer
     requires { InItsRanges c (site_on x.track (post_of x.step) t) }
     ensures { result ≡ judged_on_track c x t other }

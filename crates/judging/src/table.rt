@@ -9,6 +9,7 @@ use section::{Step, Trains};
 use site::ruling::Ruling;
 
 // The ruling on a step at a site, beside a track that is or is not settled on VNS; an accepted step has moved its train.
+#[tactic(auto, using(crate::proofs::table::Kept::kept, crate::proofs::table::Kept::nothing_moved), unfolding(rules::specs::Table::checks, rules::specs::Site::occupancy_at, section::specs::Step::number_of, rules::specs::Table::effect, rules::specs::Table::cells_after))]
 pub fn rule(
     c: Line,
     x: Step,

@@ -1,6 +1,8 @@
 // Steps offered one after another to a section and judged in its cells: the one walk over steps. The cells of the two tracks stand side by side,
 // and a step changes them in their places; so nothing else of the section is copied between two steps.
 
+#![tactic(auto)]
+
 mod cells;
 pub mod whole_day;
 
@@ -23,7 +25,7 @@ use site::line::line_of;
 use site::running::{Running, place_of};
 
 // What is kept of the steps: their answers, or their notes.
-#[derive(Drop)]
+#[derive(Clone, Copy)]
 pub enum Entries {
     Answers,
     Notes,
@@ -48,6 +50,7 @@ fn note_verdict(notes: &mut [u8], i: usize, verdict: Verdict, running: [Running;
 }
 
 // Writes what is kept of step i.
+#[tactic(auto, unfolding(crate::specs::Entries::entry_length, crate::specs::Entries::entry_with))]
 fn put_entry(entries: Entries, buffer: &mut [u8], i: usize, verdict: Verdict, running: [Running; 2])
     requires { entry_length entries * i + entry_length entries ≤ length buffer.old }
     ensures { buffer.new ≡ written buffer.old (i * entry_length entries) (entry_with entries verdict (letter_at running 0) (letter_at running 1)) }
@@ -60,6 +63,7 @@ fn put_entry(entries: Entries, buffer: &mut [u8], i: usize, verdict: Verdict, ru
 
 // Judges the first so many steps, each on the section that the one before left, writes what is kept of each from the buffer's front on, and
 // hands the section back. Judging keeps the ranges, so they are not tested again; nor are steps that are known to be well formed.
+#[tactic(auto, using(section::proofs::Codec::decoded_post_below, section::proofs::Laws::posts_right, section::proofs::Laws::settings_in_range_lem, crate::proofs::Rows::taken_from, crate::proofs::Rows::two_after, crate::proofs::Rows::in_ranges_at, crate::proofs::Rows::judged_at, crate::proofs::Walk::begins, crate::proofs::Walk::entry_fits, crate::proofs::Walk::goes_on, crate::proofs::Walk::passes_over, crate::proofs::Walk::ends))]
 pub fn judge_steps(
     s: Section,
     steps: &[u8],

@@ -8,6 +8,7 @@ use ranges::settings::settings_in_range;
 use section::{Outcome, STEP_LENGTH, Settings};
 
 // Whether so many steps of a day can be noted in so much room: how many, or the refusal.
+#[tactic(auto, using(section::proofs::Told::told_false, section::proofs::Told::told_true), unfolding(crate::specs::Notes::day_outcome))]
 pub fn day_outcome(c: Settings, steps: &[u8], count: usize, room: usize) -> Outcome
     ensures { result ≡ day_outcome c steps.now count room }
 {
@@ -25,6 +26,7 @@ pub fn day_outcome(c: Settings, steps: &[u8], count: usize, room: usize) -> Outc
 }
 
 // Judges so many steps of a day, offered one after another from fresh, and writes the note of each.
+#[tactic(auto, using(section::proofs::Outcomes::refused_so, crate::proofs::whole_day::Laws::started, crate::proofs::whole_day::Laws::day_fits, crate::proofs::whole_day::Laws::notes_kept, crate::proofs::whole_day::Laws::notes_written), unfolding(crate::specs::Entries::entry_length, crate::specs::Notes::notes_after))]
 pub fn note_day(c: Settings, steps: &[u8], count: usize, notes: &mut [u8]) -> Outcome
     ensures value { result ≡ day_outcome c steps.now count (length notes.old) }
     ensures notes_after { notes.new ≡ notes_after c steps.now count notes.old }

@@ -1,5 +1,7 @@
 // The layout of a day file, and its parts as they are read.
 
+#![tactic(auto)]
+
 pub mod writer;
 
 ghost use Rattle.std.specs.Prelude.{◌≡◌, ◌+◌, ◌*◌, ◌≤◌, length, get_or};
@@ -31,6 +33,7 @@ pub const SHORTEST_FILE: usize = SETTINGS_LENGTH + TRAILER_LENGTH;
 pub const LONGEST_FILE: usize = SHORTEST_FILE + MOST_CROSSINGS + STEP_LENGTH * MOST_STEPS;
 
 // The 32-bit number of four bytes.
+#[tactic(auto, unfolding(crate::specs::Layout::le32))]
 fn le32_of(a: u8, b: u8, c: u8, d: u8) -> u32
     ensures { result ≡ le32 a b c d }
 {
@@ -38,6 +41,7 @@ fn le32_of(a: u8, b: u8, c: u8, d: u8) -> u32
 }
 
 // The 32-bit number from byte i on.
+#[tactic(auto, unfolding(crate::specs::Layout::le32_at))]
 pub fn le32_at(s: &[u8], i: usize) -> u32
     requires { i + 4 ≤ length s.now }
     ensures { result ≡ le32_at s.now i }
@@ -72,6 +76,7 @@ fn crossings_of(s: &[u8]) -> Crossings
 }
 
 // The settings that eight bytes say, or sixteen.
+#[tactic(auto, unfolding(crate::specs::Layout::settings_of))]
 pub fn settings_of(s: &[u8]) -> Settings
     requires { settings_length ≤ length s.now }
     ensures { result ≡ settings_of s.now }
@@ -86,6 +91,7 @@ pub fn settings_of(s: &[u8]) -> Settings
 }
 
 // The trailer, as a part of the file.
+#[tactic(auto, unfolding(crate::specs::Layout::trailer_in, crate::specs::Layout::from_end))]
 pub fn trailer_in(file: &[u8]) -> &[u8]
     requires { shortest_file ≤ length file.now }
     ensures { result.now ≡ trailer_in file.now }
@@ -95,6 +101,7 @@ pub fn trailer_in(file: &[u8]) -> &[u8]
 }
 
 // Whether the trailer begins with the mark.
+#[tactic(auto, using(section::proofs::Tests::first), unfolding(crate::specs::Layout::has_mark))]
 pub fn has_mark(mark: [u8; 4], t: &[u8]) -> bool
     requires { trailer_length ≤ length t.now }
     ensures { result ≡ has_mark mark t.now }
@@ -112,6 +119,7 @@ pub fn has_mark(mark: [u8; 4], t: &[u8]) -> bool
 }
 
 // The length of the tail that a file with this mark has.
+#[tactic(auto, using(section::proofs::Told::told, crate::proofs::Parts::trailer_length_lem), unfolding(crate::specs::Layout::tail_in))]
 pub fn tail_in(file: &[u8]) -> usize
     requires { shortest_file ≤ length file.now }
     ensures { result ≡ tail_in file.now }
@@ -123,6 +131,7 @@ pub fn tail_in(file: &[u8]) -> usize
 }
 
 // The settings with their tail, as a part of the file.
+#[tactic(auto, unfolding(crate::specs::Layout::settings_in, crate::specs::Layout::from_end))]
 pub fn settings_in(file: &[u8]) -> &[u8]
     requires { settings_distance (tail_in file.now) ≤ length file.now }
     ensures { result.now ≡ settings_in file.now }
@@ -134,6 +143,7 @@ pub fn settings_in(file: &[u8]) -> &[u8]
 }
 
 // All that stands before the settings.
+#[tactic(auto, unfolding(crate::specs::Layout::steps_in))]
 pub fn steps_in(file: &[u8]) -> &[u8]
     requires { settings_distance (tail_in file.now) ≤ length file.now }
     ensures { result.now ≡ steps_in file.now }
@@ -144,6 +154,7 @@ pub fn steps_in(file: &[u8]) -> &[u8]
 }
 
 // The bytes of step i.
+#[tactic(auto, unfolding(crate::specs::Layout::step_at))]
 pub fn step_at(steps: &[u8], i: usize) -> &[u8]
     requires { step_length * i + step_length ≤ length steps.now }
     ensures { result.now ≡ step_at steps.now i }
@@ -154,6 +165,7 @@ pub fn step_at(steps: &[u8], i: usize) -> &[u8]
 }
 
 // How many steps these bytes are, an incomplete one at the end with them.
+#[tactic(auto, unfolding(crate::specs::Layout::step_count))]
 pub fn step_count(steps: &[u8]) -> usize
     ensures { result ≡ step_count steps.now }
 {

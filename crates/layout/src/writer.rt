@@ -7,6 +7,7 @@ use crate::{BSR1, BSR2, LONGEST_SETTINGS, SHORTEST_FILE, TRAILER_LENGTH};
 use section::{MOST_CROSSINGS, STEP_LENGTH, Settings, UNUSED};
 
 // The two bytes of a 16-bit number.
+#[tactic(auto, unfolding(crate::specs::Layout::le16_bytes))]
 pub fn le16_bytes(x: u16) -> [u8; 2]
     ensures { result ≡ le16_bytes x }
 {
@@ -14,6 +15,7 @@ pub fn le16_bytes(x: u16) -> [u8; 2]
 }
 
 // The four bytes of a 32-bit number.
+#[tactic(auto, unfolding(crate::specs::Layout::le32_bytes))]
 fn le32_bytes(x: usize) -> [u8; 4]
     ensures { result ≡ le32_bytes x }
 {
@@ -26,6 +28,7 @@ fn le32_bytes(x: usize) -> [u8; 4]
 }
 
 // The bytes of settings, the crossings last.
+#[tactic(auto, using(crate::proofs::Parts::settings_are))]
 pub fn settings_bytes(c: Settings) -> [u8; LONGEST_SETTINGS]
     ensures { result ≡ settings_bytes c }
 {
@@ -53,6 +56,7 @@ pub fn settings_bytes(c: Settings) -> [u8; LONGEST_SETTINGS]
 }
 
 // The length of the tail that a file of these settings has: none where no crossing is listed.
+#[tactic(auto, unfolding(crate::specs::Layout::tail_of))]
 pub fn tail_of(c: Settings) -> usize
     ensures { result ≡ tail_of c }
 {
@@ -63,6 +67,7 @@ pub fn tail_of(c: Settings) -> usize
 }
 
 // The mark of a file with such a tail.
+#[tactic(auto, unfolding(crate::specs::Layout::mark_of))]
 pub fn mark_of(tail: usize) -> [u8; 4]
     ensures { result ≡ mark_of tail }
 {
@@ -73,6 +78,7 @@ pub fn mark_of(tail: usize) -> [u8; 4]
 }
 
 // The trailer of a file with such a tail and so many steps.
+#[tactic(auto, using(crate::proofs::Parts::trailer_is))]
 pub fn trailer(tail: usize, count: usize) -> [u8; TRAILER_LENGTH]
     requires { (tail ≤ most_crossings) × (count ≤ most_steps) }
     ensures { result ≡ trailer tail count }

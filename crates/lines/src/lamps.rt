@@ -13,6 +13,7 @@ const LINE_ROOM: usize = 6;
 pub const TABLE_ROOM: usize = LINE_ROOM * TABLE_LENGTH;
 
 // Writes the table from the buffer's front on, and returns its length.
+#[tactic(auto, using(text::proofs::Laws::none_put, text::proofs::Laws::one_more_put, crate::proofs::lamps::Laws::lines_fit), unfolding(crate::specs::PrintedTable::table_text))]
 pub fn put_table(buffer: &mut [u8]) -> usize
     requires { table_room ≤ length buffer.old }
     ensures value { result ≡ length table_text }

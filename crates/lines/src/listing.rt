@@ -11,6 +11,7 @@ use section::Said;
 use section::words::said_numbered;
 
 // Writes what is said, and returns the next place.
+#[tactic(auto, unfolding(crate::specs::Lines::word))]
 fn put_said(buffer: &mut [u8], at: usize, said: Said) -> usize
     requires { at + 4 ≤ length buffer.old }
     ensures value { result ≡ at + length (word said) }
@@ -26,6 +27,7 @@ fn put_said(buffer: &mut [u8], at: usize, said: Said) -> usize
 }
 
 // Writes 0 or the refusal, and what is said, and returns the next place.
+#[tactic(auto, using(crate::proofs::Puts::number_length_lem, crate::proofs::Puts::number_then), unfolding(crate::specs::Lines::verdict_fields))]
 fn put_verdict(buffer: &mut [u8], at: usize, refusal: u8, said: Said) -> usize
     requires { at + 10 ≤ length buffer.old }
     ensures value { result ≡ at + length (verdict_fields refusal said) }
@@ -36,6 +38,7 @@ fn put_verdict(buffer: &mut [u8], at: usize, refusal: u8, said: Said) -> usize
 }
 
 // Writes the line of a step, and returns the next place.
+#[tactic(auto, using(text::proofs::Laws::then, crate::proofs::Puts::number_length_lem, crate::proofs::Puts::verdict_length, crate::proofs::Puts::number_then), unfolding(crate::specs::Lines::fields))]
 fn put_fields(
     buffer: &mut [u8],
     at: usize,
@@ -55,6 +58,7 @@ fn put_fields(
 }
 
 // Writes the line of a step of which that was noted, and returns the next place.
+#[tactic(auto, unfolding(crate::specs::Noted::noted_line))]
 fn put_noted(buffer: &mut [u8], at: usize, index: usize, note: &[u8]) -> usize
     requires { (at + step_line_room ≤ length buffer.old) × (note_length ≤ length note.now) }
     ensures value { result ≡ at + length (noted_line index note.now) }
@@ -65,6 +69,7 @@ fn put_noted(buffer: &mut [u8], at: usize, index: usize, note: &[u8]) -> usize
 }
 
 // Writes the lines of all steps from their notes, and returns the next place.
+#[tactic(auto, using(text::proofs::Laws::none_put, text::proofs::Laws::one_more_put, crate::proofs::listing::Laws::line_of, crate::proofs::listing::Laws::one_more_fits, crate::proofs::listing::Laws::note_part, crate::proofs::listing::Laws::note_length_lem), unfolding(crate::specs::Noted::noted_lines))]
 pub fn put_noted_lines(buffer: &mut [u8], at: usize, notes: &[u8], count: usize) -> usize
     requires { (at + step_line_room * count ≤ length buffer.old) × (note_length * count ≤ length notes.now) }
     ensures value { result ≡ at + length (noted_lines notes.now count) }

@@ -9,6 +9,7 @@ use indications::track::track_indications;
 use section::{Indications, Section};
 
 // Writes what a post shows, and returns the next place.
+#[tactic(auto, unfolding(crate::specs::PanelLine::post_field))]
 fn put_post(buffer: &mut [u8], at: usize, l: Indications) -> usize
     requires at_in_bounds { at + 6 ≤ length buffer.old }
     requires circulation_bound { (l.circulation < 10) × ((l.troncon < 10) × (l.permission < 10)) }
@@ -30,6 +31,7 @@ fn put_post(buffer: &mut [u8], at: usize, l: Indications) -> usize
 }
 
 // Writes what every post shows on a track, and returns the next place.
+#[tactic(auto, using(text::proofs::Laws::none_put, text::proofs::Laws::one_more_put, crate::proofs::panel::Laws::one_digit_at, crate::proofs::panel::Laws::field_at, crate::proofs::panel::Laws::fields_listed, crate::proofs::panel::Laws::six_each, crate::proofs::panel::Laws::few_posts), unfolding(rules::specs::Indications::dark))]
 fn put_posts(buffer: &mut [u8], at: usize, s: Section, track: u8) -> usize
     requires { (at + 6 * s.settings.posts ≤ length buffer.old) × (in_range s ≡ true) }
     ensures value { result ≡ at + length (post_fields s track) }
@@ -48,6 +50,7 @@ fn put_posts(buffer: &mut [u8], at: usize, s: Section, track: u8) -> usize
 }
 
 // The letter of a step's track.
+#[tactic(auto, unfolding(crate::specs::PanelLine::track_name))]
 fn track_name(track: u8) -> u8
     ensures { result ≡ track_name track }
 {
@@ -55,6 +58,7 @@ fn track_name(track: u8) -> u8
 }
 
 // Writes the line of a step, and returns the next place.
+#[tactic(auto, using(text::proofs::Laws::then, crate::proofs::Puts::number_length_lem, crate::proofs::Puts::number_then, crate::proofs::panel::Laws::post_fields_length, crate::proofs::panel::Laws::few_posts), unfolding(crate::specs::PanelLine::panel_fields))]
 pub fn put_panel(buffer: &mut [u8], at: usize, index: usize, track: u8, s: Section) -> usize
     requires { (at + panel_line_room ≤ length buffer.old) × (in_range s ≡ true) }
     ensures value { result ≡ at + length (panel_fields index track s) }

@@ -1,5 +1,7 @@
 // The bench listing and the panel of a day file, from bytes to bytes.
 
+#![tactic(auto)]
+
 pub mod sheets;
 
 ghost use Rattle.std.specs.Prelude.{◌≡◌, ◌+◌, replicate};
@@ -23,6 +25,7 @@ pub fn file_room() -> [u8; FILE_ROOM]
 }
 
 // The bench listing of a file.
+#[tactic(auto, unfolding(crate::specs::Listing::listing, crate::specs::Sheet::line_on))]
 pub fn listing(file: &[u8], buffer: &mut [u8]) -> Outcome
     ensures value { result ≡ copied (listing file.now) buffer.old }
     ensures buffer_after { buffer.new ≡ copied_out (listing file.now) buffer.old }
@@ -31,6 +34,7 @@ pub fn listing(file: &[u8], buffer: &mut [u8]) -> Outcome
 }
 
 // The panel of a file.
+#[tactic(auto, unfolding(crate::specs::Panel::panel, crate::specs::Sheet::line_on))]
 pub fn panel(file: &[u8], buffer: &mut [u8]) -> Outcome
     ensures value { result ≡ copied (panel file.now) buffer.old }
     ensures buffer_after { buffer.new ≡ copied_out (panel file.now) buffer.old }

@@ -25,7 +25,7 @@ use section::{Outcome, Settings};
 use text::copy_out;
 
 // What is printed of each step: what it did, or what the posts show after it.
-#[derive(Drop)]
+#[derive(Clone, Copy)]
 pub enum Sheet {
     Listing,
     Panel,
@@ -45,6 +45,7 @@ pub const PANEL_ROOM: usize = HEADER_ROOM + PANEL_LINE_ROOM * MOST_STEPS;
 const NOTES_ROOM: usize = NOTE_LENGTH * MOST_STEPS;
 
 // The length of the longest sheet.
+#[tactic(auto, unfolding(crate::specs::Sheet::room, crate::specs::Sheet::line_room))]
 fn room_for(sheet: Sheet) -> usize
     ensures { result ≡ room sheet most_steps }
 {
@@ -55,6 +56,7 @@ fn room_for(sheet: Sheet) -> usize
 }
 
 // Room for the longest listing.
+#[tactic(auto, unfolding(crate::specs::Sheet::room, crate::specs::Sheet::line_room))]
 pub fn listing_room() -> [u8; LISTING_ROOM]
     ensures { result ≡ replicate (room Sheet.Listing most_steps) 0 }
 {
@@ -62,6 +64,7 @@ pub fn listing_room() -> [u8; LISTING_ROOM]
 }
 
 // Room for the longest panel.
+#[tactic(auto, unfolding(crate::specs::Sheet::room, crate::specs::Sheet::line_room))]
 pub fn panel_room() -> [u8; PANEL_ROOM]
     ensures { result ≡ replicate (room Sheet.Panel most_steps) 0 }
 {
@@ -77,6 +80,7 @@ fn room_for_notes() -> [u8; NOTES_ROOM]
 
 // Writes the listing's lines of all steps, from the notes taken of them, and returns the next place. Such a day can be noted, so the answer
 // is not looked at.
+#[tactic(auto, using(judging_in_place::proofs::whole_day::Laws::day_done, judging_in_place::proofs::whole_day::Laws::notes_written, crate::proofs::sheets::Laws::lines_noted))]
 fn put_listing_lines(buffer: &mut [u8], at: usize, c: Settings, steps: &[u8], count: usize) -> usize
     requires count_in_bounds { (at + step_line_room * count ≤ length buffer.old) × (count ≤ most_steps) }
     requires count_in_bounds_2 { (step_length * count ≤ length steps.now) × (settings_in_range c ≡ true) }
@@ -90,6 +94,7 @@ fn put_listing_lines(buffer: &mut [u8], at: usize, c: Settings, steps: &[u8], co
 
 // Writes the panel's lines of all steps, each judged on the section that the one before left, and returns the next place. A line shows the posts
 // after its step, so the walk is taken a step at a time; the answers are not shown.
+#[tactic(auto, using(text::proofs::Laws::none_put, text::proofs::Laws::one_more_put, judging_in_place::proofs::Laws::in_range_before, judging_in_place::proofs::Laws::step_after, judging_in_place::proofs::whole_day::Laws::started, crate::proofs::sheets::Laws::line_at, crate::proofs::sheets::Laws::in_range_after, crate::proofs::sheets::Laws::one_more_fits, crate::proofs::sheets::Laws::line_put, crate::proofs::sheets::Laws::step_length_lem, crate::proofs::sheets::Laws::one_step), unfolding(judging_in_place::specs::Offered::section_before, judging_in_place::specs::Entries::entry_length, crate::specs::Printed::lines, crate::specs::Sheet::line_on))]
 fn put_panel_lines(buffer: &mut [u8], at: usize, c: Settings, steps: &[u8], count: usize) -> usize
     requires count_in_bounds { at + panel_line_room * count ≤ length buffer.old }
     requires count_in_bounds_2 { (step_length * count ≤ length steps.now) × (settings_in_range c ≡ true) }
@@ -110,6 +115,7 @@ fn put_panel_lines(buffer: &mut [u8], at: usize, c: Settings, steps: &[u8], coun
 }
 
 // Writes the lines of all steps, and returns the next place.
+#[tactic(auto, unfolding(crate::specs::Sheet::line_room))]
 fn put_lines(
     sheet: Sheet,
     buffer: &mut [u8],
@@ -130,6 +136,7 @@ fn put_lines(
 }
 
 // Writes what is printed of a day, and returns its length.
+#[tactic(auto, using(text::proofs::Laws::then, lines::proofs::Puts::header_length), unfolding(crate::specs::Sheet::room, crate::specs::Printed::printed_read, section::specs::Outcome::told, section::specs::Outcome::if_done))]
 fn put_day(sheet: Sheet, buffer: &mut [u8], c: Settings, steps: &[u8], count: usize) -> usize
     requires count_in_bounds { (room sheet count ≤ length buffer.old) × (count ≤ most_steps) }
     requires count_in_bounds_2 { (step_length * count ≤ length steps.now) × (settings_in_range c ≡ true) }
@@ -141,6 +148,7 @@ fn put_day(sheet: Sheet, buffer: &mut [u8], c: Settings, steps: &[u8], count: us
 }
 
 // Writes what is printed of a file, and returns its length.
+#[tactic(auto, using(crate::proofs::sheets::Laws::fewer_fit, crate::proofs::sheets::Laws::few_steps_read, crate::proofs::sheets::Laws::steps_whole, crate::proofs::sheets::Laws::settings_read_right, crate::proofs::sheets::Laws::printed_refused, crate::proofs::sheets::Laws::printed_malformed, crate::proofs::sheets::Laws::printed_day, crate::proofs::sheets::Laws::same_text), unfolding(crate::specs::Sheet::room))]
 fn put_sheet(sheet: Sheet, file: &[u8], buffer: &mut [u8]) -> usize
     requires { room sheet most_steps ≤ length buffer.old }
     ensures value { result ≡ length (printed (line_on sheet) file.now) }
@@ -162,6 +170,7 @@ fn put_sheet(sheet: Sheet, file: &[u8], buffer: &mut [u8]) -> usize
 }
 
 // What is printed of a file, at the front of the buffer, if it is long enough. A buffer that any sheet fits is written to at once.
+#[tactic(auto, using(crate::proofs::sheets::Front::front_fits, crate::proofs::sheets::Front::front_taken, crate::proofs::sheets::Front::put_at_once, crate::proofs::sheets::Laws::most_room))]
 pub fn print(sheet: Sheet, file: &[u8], buffer: &mut [u8]) -> Outcome
     ensures value { result ≡ copied (printed (line_on sheet) file.now) buffer.old }
     ensures buffer_after { buffer.new ≡ copied_out (printed (line_on sheet) file.now) buffer.old }

@@ -1,4 +1,7 @@
 // What is kept of a step that was judged: its answer, or its note, which is the answer and the letters of tracks A and B after it.
+
+#![tactic(auto)]
+
 ghost use Rattle.std.specs.Prelude.{◌≡◌, ◌+◌, ◌≤◌, length};
 ghost use Rattle.text.specs.Text.{written};
 ghost use Rattle.notes.specs.Note.{answer_length, answer_bytes, note_length, note_with};
@@ -11,6 +14,7 @@ pub const ANSWER_LENGTH: usize = 2;
 pub const NOTE_LENGTH: usize = 4;
 
 // Writes the answer to a step: 0 or the refusal, then the number of what is said.
+#[tactic(auto, using(crate::proofs::Laws::two_stored), unfolding(crate::specs::Note::answer_bytes))]
 pub fn put_answer(answers: &mut [u8], at: usize, verdict: Verdict)
     requires { at + answer_length ≤ length answers.old }
     ensures { answers.new ≡ written answers.old at (answer_bytes verdict) }
@@ -20,6 +24,7 @@ pub fn put_answer(answers: &mut [u8], at: usize, verdict: Verdict)
 }
 
 // Writes the note of a step.
+#[tactic(auto, using(crate::proofs::Laws::letters_stored))]
 pub fn put_note(notes: &mut [u8], at: usize, verdict: Verdict, a: u8, b: u8)
     requires { at + note_length ≤ length notes.old }
     ensures { notes.new ≡ written notes.old at (note_with verdict a b) }

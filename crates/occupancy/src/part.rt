@@ -13,6 +13,7 @@ use site::line::is_materialised;
 use site::place::rank_at;
 
 // A train in it; on materialised lines it reaches to the next signalled post.
+#[tactic(auto, using(section::proofs::Told::told_false, section::proofs::Told::told_true, site::proofs::place::Laws::rank_on_the_line), unfolding(rules::specs::Site::watched_occupied, rules::specs::Site::part_ends))]
 pub fn watched_occupied(c: Line, e: Site, trains: &Trains) -> bool
     requires { OnTheLine c e }
     ensures { result ≡ watched_occupied c e trains.now }
@@ -25,6 +26,7 @@ pub fn watched_occupied(c: Line, e: Site, trains: &Trains) -> bool
 }
 
 // 13 of order: by telephone a train anywhere on the track, materialised one in the part.
+#[tactic(auto, using(section::proofs::Told::told))]
 pub fn order_occupied(c: Line, e: Site, trains: &Trains) -> bool
     requires { OnTheLine c e }
     ensures { result ≡ cond (is_materialised c) (watched_occupied c e trains.now) (any_of is_train (c.posts - 1) trains.now) }

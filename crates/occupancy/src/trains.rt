@@ -19,6 +19,7 @@ fn train_in(cells: &Trains, i: usize) -> u16
 }
 
 // The same of the block section that follows the post of rank j.
+#[tactic(auto, using(site::proofs::place::Laws::block_below))]
 pub fn train_after(cells: &Trains, n: u8, up: bool, j: u8) -> u16
     requires { (j + 1 < n) × (n ≤ most_posts) }
     ensures { result ≡ get_or cells.now (block n up j) 0 }
@@ -27,7 +28,7 @@ pub fn train_after(cells: &Trains, n: u8, up: bool, j: u8) -> u16
 }
 
 // What is looked for: any train, or the one of that number.
-#[derive(Drop)]
+#[derive(Clone, Copy)]
 pub enum Sought {
     AnyTrain,
     Number(u16),
@@ -43,6 +44,7 @@ fn is_sought(sought: Sought, number: u16) -> bool
 }
 
 // One of the first m block sections keeps what is looked for.
+#[tactic(auto, using(section::proofs::Told::told, crate::proofs::trains::Laws::any_here, crate::proofs::trains::Laws::any_below), unfolding(rules::specs::Site::any_of))]
 pub fn any_of(m: u8, sought: Sought, trains: &Trains) -> bool
     requires { m ≤ most_blocks }
     ensures { result ≡ any_of (is_sought_train sought) m trains.now }
@@ -58,6 +60,7 @@ pub fn any_of(m: u8, sought: Sought, trains: &Trains) -> bool
 }
 
 // The train in the block section before the post.
+#[tactic(auto, using(site::proofs::place::Laws::has_before), unfolding(rules::specs::Site::train_before))]
 pub fn train_before(c: Line, e: Site, trains: &Trains) -> u16
     requires { (OnTheLine c e) × (at_sending_end c e ≡ false) }
     ensures { result ≡ train_before c e trains.now }
@@ -66,6 +69,7 @@ pub fn train_before(c: Line, e: Site, trains: &Trains) -> u16
 }
 
 // The train, or the last train, of the block section ahead.
+#[tactic(auto, using(site::proofs::place::Laws::has_ahead))]
 pub fn train_ahead(c: Line, e: Site, cells: &Trains) -> u16
     requires { (OnTheLine c e) × (at_receiving_end c e ≡ false) }
     ensures { result ≡ get_or cells.now (block_ahead c e) 0 }

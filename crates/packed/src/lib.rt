@@ -1,4 +1,7 @@
 // What the C interface takes and returns: settings in a day file's bytes, and answers packed into one number.
+
+#![tactic(auto)]
+
 ghost use Rattle.std.specs.Prelude.{◌≡◌, ◌<◌, ◌≤◌, ◌^◌};
 ghost use Rattle.packed.specs.Packed.{packed_reading, packed_figure, packed_outcome, packed_verdict, packed_indications, packed_copied};
 ghost use Rattle.packed.specs.Settings.{lent_settings_well_formed};
@@ -14,6 +17,7 @@ pub fn lent_settings_well_formed(bytes: &[u8]) -> bool
 }
 
 // The refusal, and the count of steps or the refusal's index: every reading of a file fits.
+#[tactic(auto, unfolding(crate::specs::Packed::packed_reading, section::specs::Outcome::refusal_number, section::specs::Outcome::told, section::specs::Outcome::refusal_index))]
 pub fn packed_reading(reading: Outcome) -> u32
     requires { packed_reading reading < 2 ^ 32 }
     ensures { result ≡ packed_reading reading }
@@ -26,6 +30,7 @@ pub fn packed_reading(reading: Outcome) -> u32
 }
 
 // A refusal, 0 for none, and a figure beside it, of which the lowest 32 bits are kept.
+#[tactic(auto, unfolding(crate::specs::Packed::packed_figure))]
 pub fn packed_figure(number: u8, figure: usize) -> u64
     ensures { result ≡ packed_figure number figure }
 {
@@ -33,6 +38,7 @@ pub fn packed_figure(number: u8, figure: usize) -> u64
 }
 
 // The refusal, and how much was done or the refusal's index.
+#[tactic(auto, unfolding(crate::specs::Packed::packed_outcome, section::specs::Outcome::refusal_number, section::specs::Outcome::told, section::specs::Outcome::refusal_index))]
 pub fn packed_outcome(outcome: Outcome) -> u64
     ensures { result ≡ packed_outcome outcome }
 {
@@ -44,6 +50,7 @@ pub fn packed_outcome(outcome: Outcome) -> u64
 }
 
 // The refusal, and what is said.
+#[tactic(auto, using(section::proofs::words::Laws::said_small), unfolding(crate::specs::Packed::packed_verdict))]
 pub fn packed_verdict(verdict: Verdict) -> u16
     ensures { result ≡ packed_verdict verdict }
 {
@@ -51,6 +58,7 @@ pub fn packed_verdict(verdict: Verdict) -> u16
 }
 
 // What a post shows.
+#[tactic(auto, unfolding(crate::specs::Packed::packed_indications))]
 pub fn packed_indications(shown: Indications) -> u16
     ensures { result ≡ packed_indications shown }
 {
@@ -58,6 +66,7 @@ pub fn packed_indications(shown: Indications) -> u16
 }
 
 // The length and 1, or 0. No buffer, and so no text in it, is as long as 2^63 bytes.
+#[tactic(auto, unfolding(crate::specs::Packed::packed_copied, section::specs::Outcome::told, section::specs::Outcome::if_done))]
 pub fn packed_copied(done: Outcome) -> u64
     requires { packed_copied done ≤ 2 ^ 63 }
     ensures { result ≡ packed_copied done }

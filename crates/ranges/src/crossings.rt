@@ -31,6 +31,7 @@ fn may_follow(before: u8, crossing: u8) -> bool
 }
 
 // Byte i: its own range, and its order after the byte before it.
+#[tactic(auto, using(section::proofs::Tests::first, section::proofs::Told::told_false, section::proofs::Told::told_true, crate::proofs::crossings::Laws::falls_never))]
 fn byte_in_range(n: u8, crossings: &Crossings, i: usize) -> bool
     requires { (least_posts ≤ n) × (i < most_crossings) }
     ensures { result ≡ (crossing_in_range n (byte crossings.now i) && never_falls crossings.now i) }
@@ -45,6 +46,7 @@ fn byte_in_range(n: u8, crossings: &Crossings, i: usize) -> bool
 }
 
 // Every byte, in one loop from the last down.
+#[tactic(auto, using(section::proofs::Told::told_false, section::proofs::Told::told_true, crate::proofs::crossings::Laws::crossings_stop, crate::proofs::crossings::Laws::crossings_go_on), unfolding(section::specs::Crossings::crossings_in_range))]
 pub fn crossings_in_range(n: u8, crossings: &Crossings) -> bool
     requires { least_posts ≤ n }
     ensures { result ≡ crossings_in_range n most_crossings crossings.now }

@@ -1,5 +1,7 @@
 // The ranges of the settings of a line, its level crossings among them (refusal 3), and of a state (refusal 6).
 
+#![tactic(auto)]
+
 mod crossings;
 pub mod settings;
 
@@ -12,6 +14,7 @@ use section::positions::{is_first, is_last, is_upward};
 use section::{Act, LARGEST_TRAIN, MOST_SEALS, Post, Section, Track, Walk};
 
 // A post's seal count, and the train of its caution form.
+#[tactic(auto, unfolding(section::specs::Range::post_in_range))]
 fn post_in_range(own: Post) -> bool
     ensures { result ≡ post_in_range own }
 {
@@ -22,6 +25,7 @@ fn post_in_range(own: Post) -> bool
 }
 
 // A post's record, and the train and the last train of the block section beside it.
+#[tactic(auto, using(section::proofs::Tests::first, section::proofs::Told::told_false, section::proofs::Told::told_true))]
 fn post_and_block_in_range(own: Post, train: u16, last: u16) -> bool
     ensures { result ≡ (post_in_range own && (leb train largest_train && leb last largest_train)) }
 {
@@ -35,6 +39,7 @@ fn post_and_block_in_range(own: Post, train: u16, last: u16) -> bool
 }
 
 // The end post n−1, and every other post with the block section beside it, in one loop from the last down.
+#[tactic(auto, using(section::proofs::Laws::posts_stop, section::proofs::Laws::posts_go_on, section::proofs::Laws::cells, section::proofs::Laws::cells_stop, section::proofs::Laws::cells_go_on, section::proofs::Told::told_false, section::proofs::Told::told_true), unfolding(section::specs::Range::posts_in_range, section::specs::Range::numbers_in_range))]
 fn cells_in_range(n: u8, t: Track) -> bool
     requires { (least_posts ≤ n) × (n ≤ most_posts) }
     ensures { result ≡ (posts_in_range n t.posts && (numbers_in_range (n - 1) t.trains && numbers_in_range (n - 1) t.last)) }
@@ -54,6 +59,7 @@ fn cells_in_range(n: u8, t: Track) -> bool
 }
 
 // Announce is never at the last post, acknowledge never at the first.
+#[tactic(auto, unfolding(section::specs::Range::act_in_range))]
 fn act_in_range(n: u8, up: bool, p: u8, act: Act) -> bool
     requires { p < n }
     ensures { result ≡ act_in_range n up p act }
@@ -65,6 +71,7 @@ fn act_in_range(n: u8, up: bool, p: u8, act: Act) -> bool
     }
 }
 
+#[tactic(auto, unfolding(section::specs::Range::walk_in_range))]
 fn walk_in_range(n: u8, up: bool, walk: Walk) -> bool
     ensures { result ≡ walk_in_range n up walk }
 {
@@ -80,6 +87,7 @@ fn walk_in_range(n: u8, up: bool, walk: Walk) -> bool
     }
 }
 
+#[tactic(auto, using(section::proofs::Laws::track_cells, section::proofs::Told::told_false, section::proofs::Told::told_true))]
 fn track_in_range(n: u8, track: bool, t: Track) -> bool
     requires { (least_posts ≤ n) × (n ≤ most_posts) }
     ensures { result ≡ track_in_range n track t }
@@ -92,6 +100,7 @@ fn track_in_range(n: u8, track: bool, t: Track) -> bool
 }
 
 // What refusal 6 asks for.
+#[tactic(auto, using(section::proofs::Laws::posts_right, section::proofs::Tests::first, section::proofs::Told::told_false, section::proofs::Told::told_true), unfolding(section::specs::Range::in_range))]
 pub fn in_range(s: Section) -> bool
     ensures { result ≡ in_range s }
 {

@@ -8,6 +8,7 @@ use section::positions::is_signalled;
 use section::{LARGEST_LINE, LEAST_POSTS, MOST_POSTS, Settings};
 
 // No bit at n or above. (At 16 bits a shift by 16 is an error, so the mask is widened.)
+#[tactic(auto, unfolding(section::specs::Settings::none_from))]
 fn none_from(mask: u16, n: u8) -> bool
     requires { n ≤ most_posts }
     ensures { result ≡ none_from mask n }
@@ -15,6 +16,7 @@ fn none_from(mask: u16, n: u8) -> bool
     (mask as u32) >> n == 0
 }
 
+#[tactic(auto, using(section::proofs::Laws::both, section::proofs::Tests::first, section::proofs::Told::told_false, section::proofs::Told::told_true), unfolding(section::specs::Settings::settings_in_range, section::specs::Bytes::within))]
 pub fn settings_in_range(c: Settings) -> bool
     ensures { result ≡ settings_in_range c }
 {

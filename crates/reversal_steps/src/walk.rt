@@ -43,6 +43,7 @@ pub fn setting(c: Line, e: Site, own: Post) -> Effect
 }
 
 // The post at which the walk goes on after an announcement.
+#[tactic(auto, using(crate::proofs::Ahead::above_zero, crate::proofs::Ahead::next_is))]
 pub fn next_post(c: Line, e: Site) -> u8
     requires { (OnTheLine c e) × (HasAhead c e) }
     ensures { result ≡ next_post c e }

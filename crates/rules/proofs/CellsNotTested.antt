@@ -70,11 +70,11 @@ holds_alike ends f g zero j h = refl
 holds_alike ends f g (suc m) j h = rw (h j (omega arith), holds_alike ends f g m (suc j) (λ i k. h i (omega arith))) refl
 
 -- a value that is looked at only where the test says so
-where_true : {track_a : Type 0} (x y : Bool) (a b d : track_a) → (x ≡ true → a ≡ b) → x ≡ y → cond x a d ≡ cond y b d
+where_true : {A : Type 0} (x y : Bool) (a b d : A) → (x ≡ true → a ≡ b) → x ≡ y → cond x a d ≡ cond y b d
 where_true true y a b d h e = rw (← e) (h refl)
 where_true false y a b d h e = rw (← e) refl
 
-where_false : {track_a : Type 0} (x : Bool) (d a b : track_a) → (x ≡ false → a ≡ b) → cond x d a ≡ cond x d b
+where_false : {A : Type 0} (x : Bool) (d a b : A) → (x ≡ false → a ≡ b) → cond x d a ≡ cond x d b
 where_false true d a b h = refl
 where_false false d a b h = h refl
 

@@ -26,7 +26,7 @@ use Rattle.section.specs.Post.{blank, turned, permitted, measured, faulty, marke
 use Rattle.rules.specs.Line.{line_in}
 use Rattle.rules.specs.Table.{checks}
 use Rattle.rules.specs.Judge.{site_of, occupancy_of, verdict_on}
-use Rattle.rules.proofs.Days.{on_vns, on_cvt, with_crossings, changed_track, running, holding_last, step_on}
+use Rattle.rules.proofs.Days.{VNS, CVT, with_crossings, changed_track, running, holding_last, step_on}
 use Rattle.rules.proofs.Rows.{Row, ◌gives◌, Holds, failing_of, judged}
 use Rattle.rules.proofs.RecordExamples.{full}
 use Rattle.rules.proofs.Directions.{Way, Form, every_way, each, telephone_else, vns_else, place, block_after, entry, mask_without1, mask_without2}
@@ -133,11 +133,11 @@ module _ (form : Form) (w : Way) where
       ∷ (answer signalled Settled free own 1 Order gives refused 12)
       ∷ (answer signalled Settled free own 3 Order gives refused 12)
       -- "order to CVT while the other track isn't settled on VNS (art. 915)"
-      ∷ (ordered free own on_vns Settled gives accepted)
-      ∷ (ordered free own on_cvt Settled gives vns_else w (refused 14) accepted)
-      ∷ (ordered free own on_vns (Turn 1 act.Set) gives vns_else w (refused 14) accepted)
-      ∷ (ordered free own on_cvt (Turn 1 act.Set) gives vns_else w (refused 14) accepted)
-      ∷ (ordered in_third own on_cvt Settled gives vns_else w (refused 14) accepted ++ telephone_else form (refused 13) accepted)
+      ∷ (ordered free own VNS Settled gives accepted)
+      ∷ (ordered free own CVT Settled gives vns_else w (refused 14) accepted)
+      ∷ (ordered free own VNS (Turn 1 act.Set) gives vns_else w (refused 14) accepted)
+      ∷ (ordered free own CVT (Turn 1 act.Set) gives vns_else w (refused 14) accepted)
+      ∷ (ordered in_third own CVT Settled gives vns_else w (refused 14) accepted ++ telephone_else form (refused 13) accepted)
       -- "telephone form: a train anywhere on the track (art. 907)"; materialised: in the part
       ∷ (answer signalled Settled in_first own 0 Order gives refused 13)
       ∷ (answer signalled Settled in_second own 0 Order gives telephone_else form (refused 13) accepted)

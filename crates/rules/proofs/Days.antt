@@ -35,17 +35,17 @@ use Rattle.rules.specs.Judge.{verdict_of, answer_of, verdict_on, track_after_on,
 
 -- ## Tracks, directions, lines
 
-abbrev pub track_a : Bool
-track_a = false
+abbrev pub A : Bool
+A = false
 
-abbrev pub track_b : Bool
-track_b = true
+abbrev pub B : Bool
+B = true
 
-abbrev pub on_vns : Bool
-on_vns = false
+abbrev pub VNS : Bool
+VNS = false
 
-abbrev pub on_cvt : Bool
-on_cvt = true
+abbrev pub CVT : Bool
+CVT = true
 
 -- n posts, with that mask; line 1, no level crossing
 abbrev pub telephone : ℕ → ℕ → Settings

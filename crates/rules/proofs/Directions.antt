@@ -11,7 +11,7 @@ use Rattle.section.specs.declared.Walk.{Walk}
 use Rattle.section.specs.declared.Track.{Track}
 use Rattle.section.specs.declared.Section.{Section}
 use Rattle.section.specs.Store.{with_post}
-use Rattle.rules.proofs.Days.{track_a, track_b, on_vns, on_cvt, telephone, materialised, fresh, changed_track, running, holding}
+use Rattle.rules.proofs.Days.{A, B, VNS, CVT, telephone, materialised, fresh, changed_track, running, holding}
 use Rattle.rules.proofs.Rows.{Row}
 
 pub record Way : Type 0 where
@@ -22,10 +22,10 @@ pub record Way : Type 0 where
 -- "Normal direction, VNS, runs upward (from post 0) on A and downward on B. Counter direction, CVT, is the reverse (art. 901)."
 abbrev pub ways : List Way
 ways =
-    record { track = track_a; cvt = on_vns; upward = true }
-    ∷ record { track = track_b; cvt = on_vns; upward = false }
-    ∷ record { track = track_a; cvt = on_cvt; upward = false }
-    ∷ record { track = track_b; cvt = on_cvt; upward = true }
+    record { track = A; cvt = VNS; upward = true }
+    ∷ record { track = B; cvt = VNS; upward = false }
+    ∷ record { track = A; cvt = CVT; upward = false }
+    ∷ record { track = B; cvt = CVT; upward = true }
     ∷ []
 
 -- a line of n posts with that mask

@@ -105,7 +105,7 @@ troncon_small l = at_most_2 l.commands (l.fault1 || l.occupied)
 -- three numbers, and what they add
 apart :
     (x y z n : ℕ) → x ≤ 4 → y ≤ 2 → z ≤ 1 → n ≡ x + 5 * y + 15 * z
-    → ◌≡◌ {track_a = Indications} (record { circulation = n % 5; troncon = n / 5 % 3; permission = n / 15 }) (record { circulation = x; troncon = y; permission = z })
+    → ◌≡◌ {A = Indications} (record { circulation = n % 5; troncon = n / 5 % 3; permission = n / 15 }) (record { circulation = x; troncon = y; permission = z })
 apart x y z n hx hy hz sum =
     let first : n % 5 ≡ x = omega arith in
     let fifths : n / 5 ≡ y + 3 * z = omega arith in

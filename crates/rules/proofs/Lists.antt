@@ -6,60 +6,60 @@ use mathlib.Core.Path.{◌≡◌, refl, sym, ap, ◌∙◌}
 use mathlib.Core.List.{List, [], ◌∷◌, ◌++◌, append-nil}
 use Rattle.rules.specs.Demand3.{AcceptedStep, keep, All, Reordering, none_left, same, swapped, chained, is_of_post, is_step_of_train, is_announcement}
 
-module _ {track_a : Type 0} where
+module _ {A : Type 0} where
   -- ## All
 
-  pub all_last : (P : track_a → Type 0) (l : List track_a) (x : track_a) → All P l → P x → All P (l ++ x ∷ [])
+  pub all_last : (P : A → Type 0) (l : List A) (x : A) → All P l → P x → All P (l ++ x ∷ [])
   all_last P [] x h p = (p, tt)
   all_last P (y ∷ l) x h p = (h.0, all_last P l x h.1 p)
 
-  pub all_map : (P Q : track_a → Type 0) (l : List track_a) → ((x : track_a) → P x → Q x) → All P l → All Q l
+  pub all_map : (P Q : A → Type 0) (l : List A) → ((x : A) → P x → Q x) → All P l → All Q l
   all_map P Q [] f h = tt
   all_map P Q (x ∷ l) f h = (f x h.0, all_map P Q l f h.1)
 
   -- ## Reordering
 
-  reordering_refl : (l : List track_a) → Reordering l l
+  reordering_refl : (l : List A) → Reordering l l
   reordering_refl [] = none_left
   reordering_refl (x ∷ l) = same x (reordering_refl l)
 
-  reordering_right : (c : List track_a) {a b : List track_a} → Reordering a b → Reordering (a ++ c) (b ++ c)
+  reordering_right : (c : List A) {a b : List A} → Reordering a b → Reordering (a ++ c) (b ++ c)
   reordering_right c none_left = reordering_refl c
   reordering_right c (same x h) = same x (reordering_right c h)
   reordering_right c (swapped x y l) = swapped x y (l ++ c)
   reordering_right c (chained h k) = chained (reordering_right c h) (reordering_right c k)
 
-  reordering_last : (x : track_a) (l : List track_a) → Reordering (x ∷ l) (l ++ x ∷ [])
+  reordering_last : (x : A) (l : List A) → Reordering (x ∷ l) (l ++ x ∷ [])
   reordering_last x [] = reordering_refl (x ∷ [])
   reordering_last x (y ∷ l) = chained (swapped x y l) (same y (reordering_last x l))
 
-  reordering_insert : (x : track_a) (a l : List track_a) → Reordering ((a ++ x ∷ []) ++ l) ((a ++ l) ++ x ∷ [])
+  reordering_insert : (x : A) (a l : List A) → Reordering ((a ++ x ∷ []) ++ l) ((a ++ l) ++ x ∷ [])
   reordering_insert x [] l = reordering_last x l
   reordering_insert x (y ∷ a) l = same y (reordering_insert x a l)
 
   -- ## keep
 
-  cond_cons : (t : Bool) (x : track_a) (l m n : List track_a) → l ≡ m ++ n → cond t (x ∷ l) l ≡ cond t (x ∷ m) m ++ n
+  cond_cons : (t : Bool) (x : A) (l m n : List A) → l ≡ m ++ n → cond t (x ∷ l) l ≡ cond t (x ∷ m) m ++ n
   cond_cons true x l m n e = ap (λ k. x ∷ k) e
   cond_cons false x l m n e = e
 
-  pub keep_append : (f : track_a → Bool) (a b : List track_a) → keep f (a ++ b) ≡ keep f a ++ keep f b
+  pub keep_append : (f : A → Bool) (a b : List A) → keep f (a ++ b) ≡ keep f a ++ keep f b
   keep_append f [] b = refl
   keep_append f (x ∷ a) b = cond_cons (f x) x (keep f (a ++ b)) (keep f a) (keep f b) (keep_append f a b)
 
-  cond_none : (t : Bool) (x : track_a) (l : List track_a) → t ≡ false → l ≡ [] → cond t (x ∷ l) l ≡ []
+  cond_none : (t : Bool) (x : A) (l : List A) → t ≡ false → l ≡ [] → cond t (x ∷ l) l ≡ []
   cond_none true x l h e = absurd (true≢false h)
   cond_none false x l h e = e
 
-  pub keep_none : (f : track_a → Bool) (l : List track_a) → All (λ x. f x ≡ false) l → keep f l ≡ []
+  pub keep_none : (f : A → Bool) (l : List A) → All (λ x. f x ≡ false) l → keep f l ≡ []
   keep_none f [] h = refl
   keep_none f (x ∷ l) h = cond_none (f x) x (keep f l) h.0 (keep_none f l h.1)
 
-  insert_kept : (t : Bool) (x : track_a) (a l : List track_a) → (t ≡ true → l ≡ []) → (a ++ cond t (x ∷ []) []) ++ l ≡ (a ++ l) ++ cond t (x ∷ []) []
+  insert_kept : (t : Bool) (x : A) (a l : List A) → (t ≡ true → l ≡ []) → (a ++ cond t (x ∷ []) []) ++ l ≡ (a ++ l) ++ cond t (x ∷ []) []
   insert_kept true x a l h = rw (h refl) (append-nil (a ++ x ∷ []) ∙ ap (λ k. k ++ x ∷ []) (sym (append-nil a)))
   insert_kept false x a l h = ap (λ k. k ++ l) (append-nil a) ∙ sym (append-nil (a ++ l))
 
-  keep_insert : (f : track_a → Bool) (x : track_a) (a l : List track_a) → (f x ≡ true → keep f l ≡ []) → keep f ((a ++ x ∷ []) ++ l) ≡ keep f (a ++ l) ++ keep f (x ∷ [])
+  keep_insert : (f : A → Bool) (x : A) (a l : List A) → (f x ≡ true → keep f l ≡ []) → keep f ((a ++ x ∷ []) ++ l) ≡ keep f (a ++ l) ++ keep f (x ∷ [])
   keep_insert f x a l h =
       keep_append f (a ++ x ∷ []) l ∙ ap (λ k. k ++ keep f l) (keep_append f a (x ∷ []))
       ∙ insert_kept (f x) x (keep f a) (keep f l) h ∙ ap (λ k. k ++ keep f (x ∷ [])) (sym (keep_append f a l))

@@ -6,7 +6,7 @@ use Rattle.section.specs.declared.Act.TheVariants as act
 use Rattle.section.specs.declared.Walk.TheVariants.{Turn}
 use Rattle.section.specs.declared.Section.{Section}
 use Rattle.section.specs.Post.{cautioned}
-use Rattle.rules.proofs.Days.{track_a, track_b, on_vns, telephone, with_crossings, fresh, changed_track, changed_post, running, holding, sealed_at, refusals}
+use Rattle.rules.proofs.Days.{A, B, VNS, telephone, with_crossings, fresh, changed_track, changed_post, running, holding, sealed_at, refusals}
 use Rattle.rules.proofs.Rows.{◌gives◌, Holds}
 
 -- one byte string offered to a section: 0 or the refusal
@@ -65,19 +65,19 @@ pub out_of_range_refused_6 :
     Holds
     -- the end post 2 not signalled, a seal count of 1,000, a train 60,000, post 3 of three in turn, the last post to announce
     ((answer_to (fresh (telephone 3 3)) order_a0 gives 6 ∷ [])
-    ∷ (answer_to (sealed_at track_b 1 1000 (fresh (telephone 3 7))) order_a0 gives 6 ∷ [])
-    ∷ (answer_to (changed_track track_b (holding (0 ∷ 60000 ∷ [])) (fresh (telephone 3 7))) order_a0 gives 6 ∷ [])
-    ∷ (answer_to (changed_track track_b (running on_vns (Turn 3 act.Set)) (fresh (telephone 3 7))) order_a0 gives 6 ∷ [])
-    ∷ (answer_to (changed_track track_b (running on_vns (Turn 0 act.Announce)) (fresh (telephone 3 7))) order_a0 gives 6 ∷ [])
+    ∷ (answer_to (sealed_at B 1 1000 (fresh (telephone 3 7))) order_a0 gives 6 ∷ [])
+    ∷ (answer_to (changed_track B (holding (0 ∷ 60000 ∷ [])) (fresh (telephone 3 7))) order_a0 gives 6 ∷ [])
+    ∷ (answer_to (changed_track B (running VNS (Turn 3 act.Set)) (fresh (telephone 3 7))) order_a0 gives 6 ∷ [])
+    ∷ (answer_to (changed_track B (running VNS (Turn 0 act.Announce)) (fresh (telephone 3 7))) order_a0 gives 6 ∷ [])
     -- before 4
     ∷ (answer_to (fresh (telephone 3 3)) no_kind gives 6 ∷ [])
     ∷ (answer_to (fresh (telephone 3 3)) [] gives 6 ∷ [])
     -- "Cells past post n−1 or block section n−2 are neither tested nor changed."
-    ∷ (answer_to (sealed_at track_a 3 1000 (fresh (telephone 3 7))) order_a0 gives 0 ∷ [])
-    ∷ (answer_to (changed_track track_a (holding (0 ∷ 0 ∷ 60000 ∷ [])) (fresh (telephone 3 7))) order_a0 gives 0 ∷ [])
-    ∷ (answer_to (changed_track track_a (holding (0 ∷ 0 ∷ 7 ∷ [])) (fresh (telephone 3 7))) (5 ∷ 0 ∷ 0 ∷ 0 ∷ 7 ∷ 0 ∷ 0 ∷ 0 ∷ []) gives 0 ∷ [])
+    ∷ (answer_to (sealed_at A 3 1000 (fresh (telephone 3 7))) order_a0 gives 0 ∷ [])
+    ∷ (answer_to (changed_track A (holding (0 ∷ 0 ∷ 60000 ∷ [])) (fresh (telephone 3 7))) order_a0 gives 0 ∷ [])
+    ∷ (answer_to (changed_track A (holding (0 ∷ 0 ∷ 7 ∷ [])) (fresh (telephone 3 7))) (5 ∷ 0 ∷ 0 ∷ 0 ∷ 7 ∷ 0 ∷ 0 ∷ 0 ∷ []) gives 0 ∷ [])
     -- "A state inside the ranges is judged by the table of steps, reachable or not."
-    ∷ (answer_to (changed_track track_b (running on_vns (Turn 0 act.Acknowledge)) (fresh (telephone 3 7))) order_a0 gives 14 ∷ [])
+    ∷ (answer_to (changed_track B (running VNS (Turn 0 act.Acknowledge)) (fresh (telephone 3 7))) order_a0 gives 14 ∷ [])
     ∷ [])
 unfolding answer_to
 out_of_range_refused_6 = refl
@@ -94,9 +94,9 @@ pub crossings_out_of_range_refused_6 :
     ∷ (answer_to (fresh (with_crossings (128 ∷ 0 ∷ []) (telephone 3 7))) order_a0 gives 6 ∷ [])
     ∷ (answer_to (fresh (with_crossings (255 ∷ 0 ∷ []) (telephone 3 7))) order_a0 gives 6 ∷ [])
     -- a form for 60,000; one for 59,999 at the receiving end; one at post 3 of three
-    ∷ (answer_to (changed_post track_b 1 (cautioned 60000) (fresh (telephone 3 7))) order_a0 gives 6 ∷ [])
-    ∷ (answer_to (changed_post track_a 2 (cautioned 59999) (fresh (telephone 3 7))) order_a0 gives 0 ∷ [])
-    ∷ (answer_to (changed_post track_a 3 (cautioned 60000) (fresh (telephone 3 7))) order_a0 gives 0 ∷ [])
+    ∷ (answer_to (changed_post B 1 (cautioned 60000) (fresh (telephone 3 7))) order_a0 gives 6 ∷ [])
+    ∷ (answer_to (changed_post A 2 (cautioned 59999) (fresh (telephone 3 7))) order_a0 gives 0 ∷ [])
+    ∷ (answer_to (changed_post A 3 (cautioned 60000) (fresh (telephone 3 7))) order_a0 gives 0 ∷ [])
     ∷ [])
 unfolding answer_to
 crossings_out_of_range_refused_6 = refl

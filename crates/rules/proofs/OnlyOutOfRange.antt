@@ -52,7 +52,7 @@ figure_of k = k.refusal
 -- a row refuses with one of its figures
 refused_from_the_state : (ks : List Check) (w : Said) (k : ℕ) → from_the_state (map figure_of ks) ≡ true → verdict_of ks w ≡ Refused k → leb 11 k ≡ true
 unfolding verdict_of
-refused_from_the_state [] w k h e = let z : ◌≡◌ {track_a = ℕ} 0 1 = cc in absurd (omega arith)
+refused_from_the_state [] w k h e = let z : ◌≡◌ {A = ℕ} 0 1 = cc in absurd (omega arith)
 refused_from_the_state (x ∷ ks) w k h e =
     go x.holds refl (λ q. refused_from_the_state ks w k (and_right (leb 11 x.refusal) _ h) q)
   where
@@ -72,7 +72,7 @@ never_by_the_table s x e = go (verdict_on s x) refl e
     row = checks (line_in s) x.step (site_of s x) (occupancy_of s x)
 
     go : (v : Verdict) → verdict_on s x ≡ v → (answer_of v s (section_after s x)).verdict ≡ Refused 6 → ⊥
-    go (Accepted said) q r = let z : ◌≡◌ {track_a = ℕ} 0 1 = cc in omega arith
+    go (Accepted said) q r = let z : ◌≡◌ {A = ℕ} 0 1 = cc in omega arith
     go (Refused k) q r =
         let six : k ≡ 6 = cc in
         let from : from_the_state (map figure_of row) ≡ true =
@@ -88,7 +88,7 @@ is_refused (Refused n) k h e = ap Refused e
 never_in_range : (s : Section) (d : Decoded) → (judge_decoded s d).verdict ≡ Refused 6 → ⊥
 unfolding judge_decoded
 never_in_range s (Well x) e = never_by_the_table s x e
-never_in_range s Malformed e = let z : ◌≡◌ {track_a = ℕ} 4 6 = cc in omega arith
+never_in_range s Malformed e = let z : ◌≡◌ {A = ℕ} 4 6 = cc in omega arith
 
 pub only_out_of_range : (s : Section) (bytes : List ℕ) → refusal_of (judge s bytes).verdict ≡ 6 → in_range s ≡ false
 unfolding judge judge_in_range

@@ -19,7 +19,7 @@ use Rattle.section.specs.Step.{encoded}
 use Rattle.rules.specs.Line.{line_in}
 use Rattle.rules.specs.Table.{Check, checks}
 use Rattle.rules.specs.Judge.{site_of, occupancy_of, judge}
-use Rattle.rules.proofs.Days.{track_a, fresh, step_on, reversal, reversal_to_cvt, offered_as, refusals, after}
+use Rattle.rules.proofs.Days.{A, fresh, step_on, reversal, reversal_to_cvt, offered_as, refusals, after}
 
 -- ## Rows
 
@@ -58,7 +58,7 @@ unfoldable pub judged_from : Section → List TrackStep → Option Decided
 unfolding after judged_step
 judged_from s day =
     let earlier = length day - 1 in
-    Option.map (judged_step (get_or day earlier (step_on track_a (Order 0)))) (after s (take earlier day))
+    Option.map (judged_step (get_or day earlier (step_on A (Order 0)))) (after s (take earlier day))
 
 -- from a fresh section
 unfoldable pub judged : Settings → List TrackStep → Option Decided

@@ -59,7 +59,7 @@ module _ (c : Settings) where
   Sends s b p = (p < c.posts) × ((rank c.posts (upward b (track_of s b).cvt) p ≡ 0) × (is_settled (track_of s b).walk ≡ true))
 
   not_refused : (v : Verdict) (w : Said) (k : ℕ) → v ≡ Accepted w → v ≡ Refused k → ⊥
-  not_refused v w k e f = let z : ◌≡◌ {track_a = ℕ} 0 1 = cc in omega arith
+  not_refused v w k e f = let z : ◌≡◌ {A = ℕ} 0 1 = cc in omega arith
 
   start_sends : (s : Section) (d : AcceptedStep) (x : Seen) → kind d ≡ start_kind → Says c.posts d.bytes (as_step x) → AcceptedIn c s x
       → Sends s (track d) (post d)

@@ -16,7 +16,7 @@ use Rattle.section.specs.Geometry.{upward, rank}
 use Rattle.rules.specs.Demand3.{AcceptedStep, accepted_steps, kind, track, post, number, is_on_track, is_step_of_train, is_of_train, is_of_post, is_spoken}
 use Rattle.rules.specs.Demand3.{is_announcement, keep, Run, runs_of, has_ended, other_end, under_way, place_of, sending_end, in_turn}
 use Rattle.rules.specs.InPlainWords.{entry_post, is_at_post, moves_train, spoken, how_many}
-use Rattle.rules.proofs.Days.{track_a, track_b, on_vns, on_cvt, telephone, fresh, running, refusals}
+use Rattle.rules.proofs.Days.{A, B, VNS, CVT, telephone, fresh, running, refusals}
 use Rattle.rules.proofs.Rows.{◌gives◌, Holds}
 
 -- ## Steps in their bytes
@@ -57,13 +57,13 @@ bytes_say_numbers = refl
 
 pub bytes_say_whose :
     Holds
-    ((track (plain 1 0 0) gives track_a)
-    ∷ (track (plain 1 1 0) gives track_b)
+    ((track (plain 1 0 0) gives A)
+    ∷ (track (plain 1 1 0) gives B)
     -- on one track
-    ∷ (is_on_track track_a (plain 1 0 0) gives true)
-    ∷ (is_on_track track_b (plain 1 0 0) gives false)
-    ∷ (is_on_track track_a (plain 1 1 0) gives false)
-    ∷ (is_on_track track_b (plain 1 1 0) gives true)
+    ∷ (is_on_track A (plain 1 0 0) gives true)
+    ∷ (is_on_track B (plain 1 0 0) gives false)
+    ∷ (is_on_track A (plain 1 1 0) gives false)
+    ∷ (is_on_track B (plain 1 1 0) gives true)
     -- "A train's own steps are its starts, passes and leaves": not an acknowledgement, not measures, not the release or the form of its number
     ∷ (is_step_of_train 7 (of_seven 4 0 0) gives false)
     ∷ (is_step_of_train 7 (of_seven 5 0 0) gives true)
@@ -76,16 +76,16 @@ pub bytes_say_whose :
     ∷ (is_step_of_train 263 (of_seven 5 0 0) gives false)
     -- those of both tracks; a run has those of one
     ∷ (is_step_of_train 7 (of_seven 5 1 2) gives true)
-    ∷ (is_of_train track_a 7 (of_seven 5 0 0) gives true)
-    ∷ (is_of_train track_b 7 (of_seven 5 0 0) gives false)
-    ∷ (is_of_train track_b 7 (of_seven 5 1 2) gives true)
-    ∷ (is_of_train track_a 8 (of_seven 5 0 0) gives false)
+    ∷ (is_of_train A 7 (of_seven 5 0 0) gives true)
+    ∷ (is_of_train B 7 (of_seven 5 0 0) gives false)
+    ∷ (is_of_train B 7 (of_seven 5 1 2) gives true)
+    ∷ (is_of_train A 8 (of_seven 5 0 0) gives false)
     -- "every step, these too, is its post's own"
-    ∷ (is_of_post track_a 1 (of_seven 6 0 1) gives true)
-    ∷ (is_of_post track_a 1 (plain 1 0 1) gives true)
-    ∷ (is_of_post track_a 2 (of_seven 6 0 1) gives false)
-    ∷ (is_of_post track_b 1 (of_seven 6 0 1) gives false)
-    ∷ (is_of_post track_b 1 (of_seven 6 1 1) gives true)
+    ∷ (is_of_post A 1 (of_seven 6 0 1) gives true)
+    ∷ (is_of_post A 1 (plain 1 0 1) gives true)
+    ∷ (is_of_post A 2 (of_seven 6 0 1) gives false)
+    ∷ (is_of_post B 1 (of_seven 6 0 1) gives false)
+    ∷ (is_of_post B 1 (of_seven 6 1 1) gives true)
     ∷ [])
 unfolding le16 within
 bytes_say_whose = refl
@@ -107,10 +107,10 @@ spoken_words = refl
 
 pub plain_tests :
     Holds
-    ((is_at_post track_a 1 (of_seven 6 0 1) gives true)
-    ∷ (is_at_post track_b 1 (of_seven 6 0 1) gives false)
-    ∷ (is_at_post track_b 1 (of_seven 6 1 1) gives true)
-    ∷ (is_at_post track_a 2 (of_seven 6 0 1) gives false)
+    ((is_at_post A 1 (of_seven 6 0 1) gives true)
+    ∷ (is_at_post B 1 (of_seven 6 0 1) gives false)
+    ∷ (is_at_post B 1 (of_seven 6 1 1) gives true)
+    ∷ (is_at_post A 2 (of_seven 6 0 1) gives false)
     ∷ (moves_train 7 (of_seven 4 0 1) gives false)
     ∷ (moves_train 7 (of_seven 5 0 1) gives true)
     ∷ (moves_train 7 (of_seven 7 1 1) gives true)
@@ -122,12 +122,12 @@ plain_tests = refl
 
 pub plain_counts :
     Holds
-    ((how_many (is_at_post track_a 1) (of_seven 6 0 1 ∷ of_seven 6 0 2 ∷ of_seven 6 0 1 ∷ []) gives 2)
-    ∷ (how_many (is_at_post track_a 3) (of_seven 6 0 1 ∷ of_seven 6 0 2 ∷ []) gives 0)
-    ∷ (entry_post 4 track_a on_vns gives 0)
-    ∷ (entry_post 4 track_a on_cvt gives 3)
-    ∷ (entry_post 4 track_b on_vns gives 3)
-    ∷ (entry_post 4 track_b on_cvt gives 0)
+    ((how_many (is_at_post A 1) (of_seven 6 0 1 ∷ of_seven 6 0 2 ∷ of_seven 6 0 1 ∷ []) gives 2)
+    ∷ (how_many (is_at_post A 3) (of_seven 6 0 1 ∷ of_seven 6 0 2 ∷ []) gives 0)
+    ∷ (entry_post 4 A VNS gives 0)
+    ∷ (entry_post 4 A CVT gives 3)
+    ∷ (entry_post 4 B VNS gives 3)
+    ∷ (entry_post 4 B CVT gives 0)
     ∷ [])
 plain_counts = refl
 
@@ -152,10 +152,10 @@ pub positions_of_four :
     ∷ (place_of (telephone 4 15) 3 2 gives 0)
     ∷ (other_end 4 0 gives 3)
     ∷ (other_end 4 3 gives 0)
-    ∷ (sending_end (telephone 4 15) track_a (running on_vns Settled (fresh_track 4 track_a)) gives 0)
-    ∷ (sending_end (telephone 4 15) track_a (running on_cvt Settled (fresh_track 4 track_a)) gives 3)
-    ∷ (sending_end (telephone 4 15) track_b (running on_vns Settled (fresh_track 4 track_b)) gives 3)
-    ∷ (sending_end (telephone 4 15) track_b (running on_cvt Settled (fresh_track 4 track_b)) gives 0)
+    ∷ (sending_end (telephone 4 15) A (running VNS Settled (fresh_track 4 A)) gives 0)
+    ∷ (sending_end (telephone 4 15) A (running CVT Settled (fresh_track 4 A)) gives 3)
+    ∷ (sending_end (telephone 4 15) B (running VNS Settled (fresh_track 4 B)) gives 3)
+    ∷ (sending_end (telephone 4 15) B (running CVT Settled (fresh_track 4 B)) gives 0)
     ∷ [])
 unfolding upward rank
 positions_of_four = refl
@@ -170,18 +170,18 @@ posts_in_turn = refl
 -- there. A number may have several runs": the latest first
 pub runs_of_seven :
     Holds
-    ((runs_of track_a 7 [] gives [])
-    ∷ (runs_of track_a 7 (of_seven 5 0 0 ∷ []) gives run 0 [] none ∷ [])
-    ∷ (runs_of track_a 7 (of_seven 5 0 0 ∷ of_seven 6 0 1 ∷ []) gives run 0 (1 ∷ []) none ∷ [])
-    ∷ (runs_of track_a 7 (of_seven 5 0 0 ∷ of_seven 6 0 1 ∷ of_seven 7 0 2 ∷ []) gives run 0 (1 ∷ []) (some 2) ∷ [])
+    ((runs_of A 7 [] gives [])
+    ∷ (runs_of A 7 (of_seven 5 0 0 ∷ []) gives run 0 [] none ∷ [])
+    ∷ (runs_of A 7 (of_seven 5 0 0 ∷ of_seven 6 0 1 ∷ []) gives run 0 (1 ∷ []) none ∷ [])
+    ∷ (runs_of A 7 (of_seven 5 0 0 ∷ of_seven 6 0 1 ∷ of_seven 7 0 2 ∷ []) gives run 0 (1 ∷ []) (some 2) ∷ [])
     -- downward, with passes in their sequence
-    ∷ (runs_of track_a 7 (of_seven 5 0 3 ∷ of_seven 6 0 2 ∷ of_seven 6 0 1 ∷ of_seven 7 0 0 ∷ []) gives run 3 (2 ∷ 1 ∷ []) (some 0) ∷ [])
+    ∷ (runs_of A 7 (of_seven 5 0 3 ∷ of_seven 6 0 2 ∷ of_seven 6 0 1 ∷ of_seven 7 0 0 ∷ []) gives run 3 (2 ∷ 1 ∷ []) (some 0) ∷ [])
     -- a second run
-    ∷ (runs_of track_a 7 (of_seven 5 0 0 ∷ of_seven 6 0 1 ∷ of_seven 7 0 2 ∷ of_seven 5 0 0 ∷ []) gives run 0 [] none ∷ run 0 (1 ∷ []) (some 2) ∷ [])
+    ∷ (runs_of A 7 (of_seven 5 0 0 ∷ of_seven 6 0 1 ∷ of_seven 7 0 2 ∷ of_seven 5 0 0 ∷ []) gives run 0 [] none ∷ run 0 (1 ∷ []) (some 2) ∷ [])
     -- the steps of another train, of the other track, and other steps of the post are not of the run
-    ∷ (runs_of track_a 7 (of_seven 5 0 0 ∷ quiet (bytes_of 6 0 1 8 0) ∷ of_seven 6 1 1 ∷ plain 8 0 1 ∷ []) gives run 0 [] none ∷ [])
-    ∷ (runs_of track_b 7 (of_seven 5 0 0 ∷ of_seven 5 1 2 ∷ of_seven 6 1 1 ∷ []) gives run 2 (1 ∷ []) none ∷ [])
-    ∷ (runs_of track_a 8 (of_seven 5 0 0 ∷ []) gives [])
+    ∷ (runs_of A 7 (of_seven 5 0 0 ∷ quiet (bytes_of 6 0 1 8 0) ∷ of_seven 6 1 1 ∷ plain 8 0 1 ∷ []) gives run 0 [] none ∷ [])
+    ∷ (runs_of B 7 (of_seven 5 0 0 ∷ of_seven 5 1 2 ∷ of_seven 6 1 1 ∷ []) gives run 2 (1 ∷ []) none ∷ [])
+    ∷ (runs_of A 8 (of_seven 5 0 0 ∷ []) gives [])
     ∷ [])
 unfolding runs_of le16 within
 runs_of_seven = refl
@@ -191,22 +191,22 @@ runs_of_seven = refl
 -- of three posts. "from an accepted order to the accepted set or key at the last post": kinds 1, 2 and 13
 pub under_way_on_a :
     Holds
-    ((under_way 3 track_a [] gives false)
-    ∷ (under_way 3 track_a (plain 1 0 0 ∷ []) gives true)
-    ∷ (under_way 3 track_a (plain 1 0 0 ∷ plain 2 0 0 ∷ plain 3 0 0 ∷ plain 4 0 1 ∷ plain 2 0 1 ∷ []) gives true)
-    ∷ (under_way 3 track_a (plain 1 0 0 ∷ plain 2 0 0 ∷ plain 2 0 1 ∷ plain 2 0 2 ∷ []) gives false)
-    ∷ (under_way 3 track_a (plain 1 0 0 ∷ plain 2 0 0 ∷ plain 2 0 1 ∷ plain 13 0 2 ∷ []) gives false)
+    ((under_way 3 A [] gives false)
+    ∷ (under_way 3 A (plain 1 0 0 ∷ []) gives true)
+    ∷ (under_way 3 A (plain 1 0 0 ∷ plain 2 0 0 ∷ plain 3 0 0 ∷ plain 4 0 1 ∷ plain 2 0 1 ∷ []) gives true)
+    ∷ (under_way 3 A (plain 1 0 0 ∷ plain 2 0 0 ∷ plain 2 0 1 ∷ plain 2 0 2 ∷ []) gives false)
+    ∷ (under_way 3 A (plain 1 0 0 ∷ plain 2 0 0 ∷ plain 2 0 1 ∷ plain 13 0 2 ∷ []) gives false)
     -- another kind at the last post; a set before the order; the way back, and its end
-    ∷ (under_way 3 track_a (plain 1 0 0 ∷ plain 8 0 2 ∷ []) gives true)
-    ∷ (under_way 3 track_a (plain 2 0 2 ∷ plain 1 0 0 ∷ []) gives true)
-    ∷ (under_way 3 track_a (plain 1 0 0 ∷ plain 2 0 2 ∷ plain 1 0 2 ∷ []) gives true)
-    ∷ (under_way 3 track_a (plain 1 0 0 ∷ plain 2 0 2 ∷ plain 1 0 2 ∷ plain 2 0 2 ∷ []) gives true)
-    ∷ (under_way 3 track_a (plain 1 0 0 ∷ plain 2 0 2 ∷ plain 1 0 2 ∷ plain 13 0 0 ∷ []) gives false)
+    ∷ (under_way 3 A (plain 1 0 0 ∷ plain 8 0 2 ∷ []) gives true)
+    ∷ (under_way 3 A (plain 2 0 2 ∷ plain 1 0 0 ∷ []) gives true)
+    ∷ (under_way 3 A (plain 1 0 0 ∷ plain 2 0 2 ∷ plain 1 0 2 ∷ []) gives true)
+    ∷ (under_way 3 A (plain 1 0 0 ∷ plain 2 0 2 ∷ plain 1 0 2 ∷ plain 2 0 2 ∷ []) gives true)
+    ∷ (under_way 3 A (plain 1 0 0 ∷ plain 2 0 2 ∷ plain 1 0 2 ∷ plain 13 0 0 ∷ []) gives false)
     -- one track is not the other
-    ∷ (under_way 3 track_b (plain 1 0 0 ∷ []) gives false)
-    ∷ (under_way 3 track_a (plain 1 0 0 ∷ plain 2 1 2 ∷ []) gives true)
-    ∷ (under_way 3 track_b (plain 1 1 2 ∷ []) gives true)
-    ∷ (under_way 3 track_b (plain 1 1 2 ∷ plain 2 1 0 ∷ []) gives false)
+    ∷ (under_way 3 B (plain 1 0 0 ∷ []) gives false)
+    ∷ (under_way 3 A (plain 1 0 0 ∷ plain 2 1 2 ∷ []) gives true)
+    ∷ (under_way 3 B (plain 1 1 2 ∷ []) gives true)
+    ∷ (under_way 3 B (plain 1 1 2 ∷ plain 2 1 0 ∷ []) gives false)
     ∷ [])
 unfolding under_way within
 under_way_on_a = refl
@@ -236,10 +236,10 @@ worked_announcements = refl
 
 pub worked_runs :
     Holds
-    ((runs_of track_a 2417 (take 7 worked_accepted) gives [])
-    ∷ (runs_of track_a 2417 (take 8 worked_accepted) gives run 1 [] none ∷ [])
-    ∷ (runs_of track_a 2417 worked_accepted gives run 1 [] (some 0) ∷ [])
-    ∷ (runs_of track_b 2417 worked_accepted gives [])
+    ((runs_of A 2417 (take 7 worked_accepted) gives [])
+    ∷ (runs_of A 2417 (take 8 worked_accepted) gives run 1 [] none ∷ [])
+    ∷ (runs_of A 2417 worked_accepted gives run 1 [] (some 0) ∷ [])
+    ∷ (runs_of B 2417 worked_accepted gives [])
     ∷ [])
 unfolding runs_of le16 within
 worked_runs = refl
@@ -247,9 +247,9 @@ worked_runs = refl
 -- after each of them
 pub worked_under_way :
     Holds
-    ((map (λ (k : ℕ). under_way 2 track_a (take k worked_accepted)) (0 ∷ 1 ∷ 2 ∷ 3 ∷ 4 ∷ 5 ∷ 6 ∷ 7 ∷ 8 ∷ 9 ∷ [])
+    ((map (λ (k : ℕ). under_way 2 A (take k worked_accepted)) (0 ∷ 1 ∷ 2 ∷ 3 ∷ 4 ∷ 5 ∷ 6 ∷ 7 ∷ 8 ∷ 9 ∷ [])
     gives false ∷ false ∷ false ∷ true ∷ true ∷ true ∷ true ∷ false ∷ false ∷ false ∷ [])
-    ∷ (map (λ (k : ℕ). under_way 2 track_b (take k worked_accepted)) (3 ∷ 9 ∷ []) gives false ∷ false ∷ [])
+    ∷ (map (λ (k : ℕ). under_way 2 B (take k worked_accepted)) (3 ∷ 9 ∷ []) gives false ∷ false ∷ [])
     ∷ [])
 unfolding under_way within
 worked_under_way = refl

@@ -1,4 +1,7 @@
 // A run of steps in one call (document 02, request 4): from any section, steps and a buffer for their answers.
+
+#![tactic(auto)]
+
 ghost use Rattle.std.specs.Prelude.{◌≡◌, length};
 ghost use Rattle.run.specs.Run.{run_of, answers_after};
 
@@ -8,7 +11,7 @@ use notes::ANSWER_LENGTH;
 use section::{Outcome, Section};
 
 // What a call answers: how many steps are taken, or the refusal of the call; and the section afterwards.
-#[derive(Drop)]
+#[derive(Clone, Copy)]
 pub struct RunAnswer {
     pub outcome: Outcome,
     pub section: Section,
@@ -26,6 +29,7 @@ fn refused(refusal: Outcome, s: Section) -> RunAnswer
 
 // Offers the steps one after another and writes the answer to each, from the buffer's front on. What refuses the call is tested before the first
 // step is taken.
+#[tactic(auto, using(section::proofs::Told::told_false, section::proofs::Told::told_true, crate::proofs::Outcomes::answer_6, crate::proofs::Outcomes::answer_4, crate::proofs::Outcomes::answer_5_many, crate::proofs::Outcomes::answer_5_short, crate::proofs::Outcomes::answer_done, crate::proofs::Outcomes::whole_steps_lem, crate::proofs::Outcomes::well_steps), unfolding(judging_in_place::specs::Entries::entry_length))]
 pub fn run(s: Section, steps: &[u8], answers: &mut [u8]) -> RunAnswer
     ensures value { result ≡ run_of s steps.now (length answers.old) }
     ensures answers_after { answers.new ≡ answers_after s steps.now answers.old }

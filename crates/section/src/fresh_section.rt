@@ -36,6 +36,7 @@ fn fresh_track(n: u8, track: bool) -> Track
 }
 
 // Settings out of their ranges too give a section, which judging answers with 6.
+#[tactic(auto, unfolding(crate::specs::Fresh::fresh_section))]
 pub fn fresh(c: Settings) -> Section
     ensures { result ≡ fresh_section c }
 {

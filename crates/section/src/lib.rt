@@ -1,5 +1,7 @@
 // The vocabulary of direction blocking (document 01): settings, steps, the state of a section, answers.
 
+#![tactic(auto)]
+
 mod fresh_section;
 pub mod kinds;
 mod little_endian;
@@ -42,7 +44,7 @@ pub const NO_ZONES: u8 = 128;
 pub type Crossings = [u8; MOST_CROSSINGS];
 
 // What a line is: n posts, the form (0 telephone, 1 materialised), the mask of signalled posts, the line number, the level crossings.
-#[derive(Drop)]
+#[derive(Clone, Copy)]
 pub struct Settings {
     pub posts: u8,
     pub form: u8,
@@ -53,7 +55,7 @@ pub struct Settings {
 
 // One: the section control reads occupied. Two: the device stays locked. Three: the CIRCULATION lamp is dark. Four: the announcing zones of
 // the crossings ahead did not adapt.
-#[derive(Drop)]
+#[derive(Clone, Copy)]
 pub enum Fault {
     One,
     Two,
@@ -62,7 +64,7 @@ pub enum Fault {
 }
 
 // A step: one of fourteen kinds, each with only the fields it needs. Caution: a caution form (E.S. 379) for a train is handed out.
-#[derive(Drop)]
+#[derive(Clone, Copy)]
 pub enum Step {
     Order { post: u8 },
     Set { post: u8 },
@@ -81,21 +83,21 @@ pub enum Step {
 }
 
 // A step with its track: true for B, false for A.
-#[derive(Drop)]
+#[derive(Clone, Copy)]
 pub struct TrackStep {
     pub track: bool,
     pub step: Step,
 }
 
 // What eight bytes say.
-#[derive(Drop)]
+#[derive(Clone, Copy)]
 pub enum Decoded {
     Well(TrackStep),
     Malformed,
 }
 
 // Which faults stand at a post.
-#[derive(Drop)]
+#[derive(Clone, Copy)]
 pub struct Faults {
     pub one: bool,
     pub two: bool,
@@ -104,7 +106,7 @@ pub struct Faults {
 }
 
 // What a post keeps on one track. `device`: its device stands at CVT. `caution`: the train for which a caution form lies there, 0 for none.
-#[derive(Drop)]
+#[derive(Clone, Copy)]
 pub struct Post {
     pub device: bool,
     pub permission: bool,
@@ -116,7 +118,7 @@ pub struct Post {
 }
 
 // What the turn's post is to do next.
-#[derive(Drop)]
+#[derive(Clone, Copy)]
 pub enum Act {
     Set,
     Announce,
@@ -124,7 +126,7 @@ pub enum Act {
 }
 
 // No reversal is under way, or it is a post's turn for its act.
-#[derive(Drop)]
+#[derive(Clone, Copy)]
 pub enum Walk {
     Settled,
     Turn(u8, Act),
@@ -137,7 +139,7 @@ pub type Posts = [Post; MOST_POSTS as usize];
 pub type Trains = [u16; MOST_BLOCKS];
 
 // A track. `cvt`: its running direction is CVT. Block section i lies between posts i and i + 1.
-#[derive(Drop)]
+#[derive(Clone, Copy)]
 pub struct Track {
     pub posts: Posts,
     pub trains: Trains,
@@ -146,7 +148,7 @@ pub struct Track {
     pub walk: Walk,
 }
 
-#[derive(Drop)]
+#[derive(Clone, Copy)]
 pub struct Section {
     pub settings: Settings,
     pub a: Track,
@@ -154,7 +156,7 @@ pub struct Section {
 }
 
 // What a step says.
-#[derive(Drop)]
+#[derive(Clone, Copy)]
 pub enum Said {
     Nothing,
     Cvt,
@@ -163,14 +165,14 @@ pub enum Said {
     Vnsz,
 }
 
-#[derive(Drop)]
+#[derive(Clone, Copy)]
 pub enum Verdict {
     Accepted(Said),
     Refused(u8),
 }
 
 // The outcome of a call: done, with how much (steps read or taken, bytes written or copied); the index of the first malformed step; another refusal.
-#[derive(Drop)]
+#[derive(Clone, Copy)]
 pub enum Outcome {
     Done(usize),
     Malformed(usize),
@@ -178,14 +180,14 @@ pub enum Outcome {
 }
 
 // What the engine answers, and the section after the step.
-#[derive(Drop)]
+#[derive(Clone, Copy)]
 pub struct Answer {
     pub verdict: Verdict,
     pub section: Section,
 }
 
 // What a post shows on a track, in the paper's numbers.
-#[derive(Drop)]
+#[derive(Clone, Copy)]
 pub struct Indications {
     pub circulation: u8,
     pub troncon: u8,

@@ -5,6 +5,7 @@ ghost use Rattle.section.specs.Geometry.{upward, rank, block, is_first, is_last}
 ghost use Rattle.section.specs.Settings.{is_signalled};
 
 // Whether trains run upward: on A in VNS, on B in CVT.
+#[tactic(auto, unfolding(crate::specs::Geometry::upward))]
 pub fn is_upward(track: bool, cvt: bool) -> bool
     ensures { result ≡ upward track cvt }
 {
@@ -12,6 +13,7 @@ pub fn is_upward(track: bool, cvt: bool) -> bool
 }
 
 // A post's distance from the sending end, in posts; also the post at that distance.
+#[tactic(auto, unfolding(crate::specs::Geometry::rank))]
 pub fn rank(n: u8, up: bool, p: u8) -> u8
     requires { p < n }
     ensures { result ≡ rank n up p }
@@ -20,6 +22,7 @@ pub fn rank(n: u8, up: bool, p: u8) -> u8
 }
 
 // The block section that follows the post of rank j.
+#[tactic(auto, unfolding(crate::specs::Geometry::block))]
 pub fn block(n: u8, up: bool, j: u8) -> u8
     requires { j + 1 < n }
     ensures { result ≡ block n up j }
@@ -28,6 +31,7 @@ pub fn block(n: u8, up: bool, j: u8) -> u8
 }
 
 // The sending end.
+#[tactic(auto, unfolding(crate::specs::Geometry::is_first))]
 pub fn is_first(n: u8, up: bool, p: u8) -> bool
     requires { p < n }
     ensures { result ≡ is_first n up p }

@@ -5,6 +5,7 @@ ghost use Rattle.section.specs.Words.{refusal_of, said_by, said_number, said_num
 use crate::{Said, Verdict, Walk};
 
 // 0, or the refusal.
+#[tactic(auto, unfolding(crate::specs::Words::refusal_of))]
 pub fn refusal_of(verdict: Verdict) -> u8
     ensures { result ≡ refusal_of verdict }
 {
@@ -14,6 +15,7 @@ pub fn refusal_of(verdict: Verdict) -> u8
     }
 }
 
+#[tactic(auto, unfolding(crate::specs::Words::said_by))]
 pub fn said_by(verdict: Verdict) -> Said
     ensures { result ≡ said_by verdict }
 {
@@ -23,6 +25,7 @@ pub fn said_by(verdict: Verdict) -> Said
     }
 }
 
+#[tactic(auto, unfolding(crate::specs::Words::said_number))]
 pub fn said_number(said: Said) -> u8
     ensures { result ≡ said_number said }
 {
@@ -36,6 +39,7 @@ pub fn said_number(said: Said) -> u8
 }
 
 // What a number stands for.
+#[tactic(auto, unfolding(crate::specs::Words::said_numbered))]
 pub fn said_numbered(number: u8) -> Said
     ensures { result ≡ said_numbered number }
 {
@@ -49,6 +53,7 @@ pub fn said_numbered(number: u8) -> Said
 }
 
 // The letter of a track with that walk and running direction.
+#[tactic(auto, unfolding(crate::specs::Words::letter))]
 pub fn letter(walk: Walk, cvt: bool) -> u8
     ensures { result ≡ letter walk cvt }
 {

@@ -57,6 +57,7 @@ pub fn is_turn(walk: Walk, p: u8, act: Act) -> bool
 }
 
 // 12 of pass: an end post.
+#[tactic(auto, using(section::proofs::Told::told))]
 pub fn at_end(c: Line, e: Site) -> bool
     requires { OnTheLine c e }
     ensures { result ≡ (at_sending_end c e || at_receiving_end c e) }
@@ -78,6 +79,7 @@ pub fn order_allowed(e: Site, other_on_vns: bool) -> bool
 }
 
 // 15 of release.
+#[tactic(auto, using(section::proofs::Told::told, section::proofs::Told::told_false, section::proofs::Told::told_true))]
 pub fn release_in_turn(c: Line, e: Site) -> bool
     requires { OnTheLine c e }
     ensures { result ≡ release_in_turn c e }
@@ -103,6 +105,7 @@ pub fn measures_suffice(e: Site) -> bool
 }
 
 // 18: fault 1 is confirmed by a mark; at a post that commands no part it counts for nothing.
+#[tactic(auto, using(section::proofs::Told::told_false, section::proofs::Told::told_true))]
 pub fn fault1_confirmed(c: Line, e: Site) -> bool
     requires { OnTheLine c e }
     ensures { result ≡ fault1_confirmed c e }

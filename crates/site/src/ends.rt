@@ -11,6 +11,7 @@ use rules::{Line, Site};
 use section::positions;
 
 // Whether a stretch or a part ends at the post of rank j. The rank of a rank is the post.
+#[tactic(auto, using(crate::proofs::place::Laws::rank_below))]
 pub fn ends_at(c: Line, signalled_only: bool, up: bool, j: u8) -> bool
     requires { (j < c.posts) × (c.posts ≤ most_posts) }
     ensures { result ≡ ends_at_rank c signalled_only up j }
@@ -22,6 +23,7 @@ pub fn ends_at(c: Line, signalled_only: bool, up: bool, j: u8) -> bool
 }
 
 // Whether the post commands a part.
+#[tactic(auto, using(section::proofs::Told::told, crate::proofs::place::Laws::rank_on_the_line), unfolding(rules::specs::Site::commands, rules::specs::Site::part_ends))]
 pub fn commands(c: Line, e: Site) -> bool
     requires { OnTheLine c e }
     ensures { result ≡ commands c e }

@@ -17,6 +17,7 @@ pub fn line_of(c: Settings) -> Line
     }
 }
 
+#[tactic(auto, unfolding(rules::specs::Line::is_materialised))]
 pub fn is_materialised(c: Line) -> bool
     ensures { result ≡ is_materialised c }
 {

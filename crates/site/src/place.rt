@@ -29,6 +29,7 @@ pub fn at_receiving_end(c: Line, e: Site) -> bool
 }
 
 // The block section ahead of the post.
+#[tactic(auto, using(crate::proofs::place::Laws::ahead_lt))]
 pub fn block_ahead(c: Line, e: Site) -> usize
     requires { (OnTheLine c e) × (HasAhead c e) }
     ensures { (result ≡ block_ahead c e) × (result < most_blocks) }
@@ -37,6 +38,7 @@ pub fn block_ahead(c: Line, e: Site) -> usize
 }
 
 // The block section before the post.
+#[tactic(auto, using(crate::proofs::place::Laws::before_has, crate::proofs::place::Laws::before_lt))]
 pub fn block_before(c: Line, e: Site) -> usize
     requires { (OnTheLine c e) × (HasBefore c e) }
     ensures { (result ≡ block_before c e) × (result < most_blocks) }

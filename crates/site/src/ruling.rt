@@ -5,7 +5,7 @@ ghost use Rattle.rules.specs.Table.{keeping};
 use rules::{Effect, Movement, Site};
 use section::{Post, Said};
 
-#[derive(Drop)]
+#[derive(Clone, Copy)]
 pub enum Ruling {
     Refused(u8),
     Accepted(Effect),

@@ -7,7 +7,7 @@ use rules::Site;
 use section::{Post, Step, Track, TrackStep, Walk};
 
 // A track's running direction (true for CVT) and its walk.
-#[derive(Drop)]
+#[derive(Clone, Copy)]
 pub struct Running {
     pub cvt: bool,
     pub walk: Walk,
@@ -23,6 +23,7 @@ pub fn running_of(t: Track) -> Running
     }
 }
 
+#[tactic(auto, unfolding(section::specs::Step::post_of))]
 pub fn post_of(x: Step) -> u8
     ensures { result ≡ post_of x }
 {

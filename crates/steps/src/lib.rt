@@ -1,5 +1,7 @@
 // A step from its eight bytes.
 
+#![tactic(auto)]
+
 pub mod well_formed;
 
 ghost use Rattle.std.specs.Prelude.{true, ◌≡◌, length};
@@ -9,6 +11,7 @@ ghost use Rattle.section.specs.Step.{well_formed, fields, fault_of, step_of, ste
 use crate::well_formed::is_well_formed;
 use section::{Decoded, Fault, Step, TrackStep, kinds, le16_of};
 
+#[tactic(auto, unfolding(section::specs::Step::fault_of))]
 fn fault_of(fault: u8) -> Fault
     ensures { result ≡ fault_of fault }
 {
@@ -20,6 +23,7 @@ fn fault_of(fault: u8) -> Fault
     }
 }
 
+#[tactic(auto, unfolding(section::specs::Step::step_of))]
 fn step_of(kind: u8, post: u8, fault: u8, number: u16) -> Step
     ensures { result ≡ step_of (fields kind post fault number) }
 {
@@ -62,6 +66,7 @@ fn step_of(kind: u8, post: u8, fault: u8, number: u16) -> Step
     }
 }
 
+#[tactic(auto, unfolding(section::specs::Step::step_said))]
 fn step_said(s: &[u8]) -> TrackStep
     requires { length s.now ≡ step_length }
     ensures { result ≡ step_said s.now }
@@ -74,6 +79,7 @@ fn step_said(s: &[u8]) -> TrackStep
 }
 
 // The step that the bytes say on a line of n posts.
+#[tactic(auto, using(section::proofs::StepLaws::malformed, section::proofs::StepLaws::well_said, section::proofs::StepLaws::well_length, section::proofs::Told::told_false, section::proofs::Told::told_true))]
 pub fn decode(n: u8, s: &[u8]) -> Decoded
     ensures { result ≡ decoded n s.now }
 {
@@ -84,6 +90,7 @@ pub fn decode(n: u8, s: &[u8]) -> Decoded
 }
 
 // The same, where the bytes may be known to say a step: they are not tested then.
+#[tactic(auto, using(section::proofs::StepLaws::well_said, section::proofs::StepLaws::well_length))]
 pub fn decode_known(known: bool, n: u8, s: &[u8]) -> Decoded
     requires { known ≡ true → well_formed n s.now ≡ true }
     ensures { result ≡ decoded n s.now }

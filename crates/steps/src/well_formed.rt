@@ -6,6 +6,7 @@ ghost use Rattle.section.specs.Step.{fields, fault_well_formed, number_well_form
 
 use section::{LARGEST_TRAIN, LAST_FAULT, STEP_LENGTH, kinds, le16_of};
 
+#[tactic(auto, unfolding(section::specs::Bytes::within))]
 fn is_within(lo: u8, hi: u8, x: u8) -> bool
     ensures { result ≡ within lo hi x }
 {
@@ -38,6 +39,7 @@ fn is_in(set: u32, kind: u8) -> bool
 
 // Fault and number are held against their largest value. Whether they are 0 says which kinds may have them: a set is chosen, and no jump depends on
 // the kind, which would slow down the test of a day's steps.
+#[tactic(auto, using(crate::proofs::Sets::chosen, crate::proofs::UpTo::none_above), unfolding(section::specs::Step::fault_well_formed, section::specs::Bytes::within, section::specs::Items::items))]
 fn fault_well_formed(kind: u8, fault: u8) -> bool
     requires { kind ≤ last_kind }
     ensures { result ≡ fault_well_formed kind fault }
@@ -53,6 +55,7 @@ fn fault_well_formed(kind: u8, fault: u8) -> bool
     is_in(set, kind)
 }
 
+#[tactic(auto, using(crate::proofs::Sets::chosen, crate::proofs::UpTo::none_above), unfolding(section::specs::Step::number_well_formed, section::specs::Bytes::within, section::specs::Items::items))]
 fn number_well_formed(kind: u8, number: u16) -> bool
     requires { kind ≤ last_kind }
     ensures { result ≡ number_well_formed kind number }
@@ -68,6 +71,7 @@ fn number_well_formed(kind: u8, number: u16) -> bool
     is_in(set, kind)
 }
 
+#[tactic(auto, using(section::proofs::Tests::first, section::proofs::Told::told_false, section::proofs::Told::told_true), unfolding(section::specs::Step::place_well_formed, section::specs::Step::track_well_formed))]
 fn place_well_formed(n: u8, kind: u8, track: u8, post: u8) -> bool
     ensures { result ≡ place_well_formed n kind track post }
 {
@@ -80,6 +84,7 @@ fn place_well_formed(n: u8, kind: u8, track: u8, post: u8) -> bool
     post < n
 }
 
+#[tactic(auto, using(section::proofs::Laws::and_left, section::proofs::Laws::and_right, section::proofs::Tests::first, section::proofs::Told::told_false, section::proofs::Told::told_true), unfolding(section::specs::Step::place_well_formed, section::specs::Bytes::within, section::specs::Step::fields_well_formed))]
 fn fields_well_formed(
     n: u8,
     kind: u8,
@@ -104,6 +109,7 @@ fn fields_well_formed(
 }
 
 // Whether the bytes say a step on a line of n posts.
+#[tactic(auto, unfolding(section::specs::Step::well_formed))]
 pub fn is_well_formed(n: u8, s: &[u8]) -> bool
     ensures { result ≡ well_formed n s.now }
 {

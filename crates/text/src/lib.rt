@@ -1,4 +1,7 @@
 // Text written into a lent buffer, from a place on.
+
+#![tactic(auto)]
+
 ghost use Rattle.std.specs.Prelude.{◌≡◌, [], ◌∷◌, ◌+◌, ◌<◌, ◌≤◌, length};
 ghost use Rattle.text.specs.Text.{decimal_digits, decimal, written};
 ghost use Rattle.text.specs.Copied.{copied, copied_out};
@@ -6,6 +9,7 @@ ghost use Rattle.text.specs.Copied.{copied, copied_out};
 use section::Outcome;
 
 // Writes a byte, and returns the next place.
+#[tactic(auto, using(crate::proofs::Laws::one_byte))]
 pub fn put_byte(buffer: &mut [u8], at: usize, byte: u8) -> usize
     requires { at < length buffer.old }
     ensures value { result ≡ at + 1 }
@@ -16,6 +20,7 @@ pub fn put_byte(buffer: &mut [u8], at: usize, byte: u8) -> usize
 }
 
 // Writes a text, and returns the next place.
+#[tactic(auto, using(crate::proofs::Laws::part_copied))]
 pub fn put_text(buffer: &mut [u8], at: usize, text: &[u8]) -> usize
     requires { at + length text.now ≤ length buffer.old }
     ensures value { result ≡ at + length text.now }
@@ -43,6 +48,7 @@ fn put_digits(buffer: &mut [u8], at: usize, most: usize, x: usize) -> usize
 }
 
 // Writes a number in decimal, and returns the next place.
+#[tactic(auto, unfolding(crate::specs::Text::decimal))]
 pub fn put_decimal(buffer: &mut [u8], at: usize, x: usize) -> usize
     requires { at + 5 ≤ length buffer.old }
     ensures value { result ≡ at + length (decimal x) }
@@ -52,6 +58,7 @@ pub fn put_decimal(buffer: &mut [u8], at: usize, x: usize) -> usize
 }
 
 // Copies a text to the front of the buffer, if it is long enough: how many bytes it has, or 5.
+#[tactic(auto, using(crate::proofs::Laws::at_front), unfolding(crate::specs::Copied::copied, crate::specs::Copied::copied_out, section::specs::Outcome::if_done))]
 pub fn copy_out(text: &[u8], buffer: &mut [u8]) -> Outcome
     ensures value { result ≡ copied text.now buffer.old }
     ensures buffer_after { buffer.new ≡ copied_out text.now buffer.old }
