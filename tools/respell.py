@@ -42,7 +42,7 @@ def read(path):
 
 
 def snake(word):
-    return re.sub(r"(?<=[a-z0-9'])([A-Z])", lambda m: "_" + m.group(1), word).lower()
+    return re.sub(r"(?<=[a-z0-9'])([A-Z])|(?<=[A-Z])([A-Z](?=[a-z]))", lambda m: "_" + m.group(0), word).lower()
 
 
 def is_camel(word):
