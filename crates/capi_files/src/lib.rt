@@ -2,6 +2,7 @@
 // It is not stable: names and packed numbers may change with any delivery.
 
 #![tactic(auto)]
+
 ghost use Rattle.std.specs.Prelude.{◌≡◌, length};
 ghost use Rattle.layout.specs.Layout.{steps_part};
 ghost use Rattle.dayfile.specs.Answers.{read_of};
@@ -13,6 +14,7 @@ use packed::{lent_settings_well_formed, packed_outcome, packed_reading};
 use section::Outcome;
 
 // Reads a day file: the refusal, and the count of steps or the refusal's index.
+#[tactic(auto, using(crate::proofs::Readings::reading_fits))]
 #[unsafe(no_mangle)]
 pub extern "C" fn bsr_read(file: &[u8]) -> u32
     ensures { result ≡ packed_reading (read_of file.now).reading }
@@ -24,6 +26,7 @@ pub extern "C" fn bsr_read(file: &[u8]) -> u32
 
 // The settings of a day file in its own bytes, at the front of the buffer: eight or, with crossings, sixteen. The file's refusal and its index, 5
 // for a buffer too short, or how many bytes.
+#[tactic(auto, using(section::proofs::Outcomes::refused_so, layout::proofs::Parts::tail_of_lem, layout::proofs::Parts::settings_long), unfolding(crate::specs::DayFiles::settings_answer, crate::specs::DayFiles::settings_buffer, layout::specs::Layout::settings_part, section::specs::Outcome::if_done))]
 #[unsafe(no_mangle)]
 pub extern "C" fn bsr_settings(file: &[u8], buffer: &mut [u8]) -> u64
     ensures value { result ≡ packed_outcome (settings_answer file.now buffer.old) }
@@ -50,6 +53,7 @@ pub extern "C" fn bsr_steps_length(file: &[u8], count: u64) -> u64
 }
 
 // Writes the day file of settings, in a file's bytes, and steps: the refusal, and the file's length or the refusal's index.
+#[tactic(auto, using(section::proofs::Told::told_false, section::proofs::Told::told_true, packed::proofs::Settings::settings_lent), unfolding(crate::specs::DayFiles::write_answer, crate::specs::DayFiles::write_buffer))]
 #[unsafe(no_mangle)]
 pub extern "C" fn bsr_write(settings: &[u8], steps: &[u8], buffer: &mut [u8]) -> u64
     ensures value { result ≡ packed_outcome (write_answer settings.now steps.now (length buffer.old)) }
