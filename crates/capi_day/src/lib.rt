@@ -2,6 +2,7 @@
 // It is not stable: names and the notes' layout may change with any delivery.
 
 #![tactic(auto)]
+
 ghost use Rattle.std.specs.Prelude.{◌≡◌, length};
 ghost use Rattle.packed.specs.Packed.{packed_outcome};
 ghost use Rattle.capi_day.specs.Day.{day_answer, day_notes};
@@ -12,6 +13,7 @@ use section::Outcome;
 
 // Judges the steps, offered one after another from fresh, and writes the note of each, from the buffer's front on. The settings come in a day
 // file's bytes. The day is judged in place, as the listing judges it. How many steps are noted, or the refusal and its index.
+#[tactic(auto, using(section::proofs::Told::told_false, section::proofs::Told::told_true, packed::proofs::Settings::settings_lent), unfolding(crate::specs::Day::day_answer, crate::specs::Day::day_notes))]
 pub fn bsr_day(settings: &[u8], steps: &[u8], buffer: &mut [u8]) -> u64
     ensures value { result ≡ packed_outcome (day_answer settings.now steps.now (length buffer.old)) }
     ensures buffer_after { buffer.new ≡ day_notes settings.now steps.now buffer.old }

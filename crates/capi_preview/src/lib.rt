@@ -2,6 +2,7 @@
 // It is not stable: names, packed numbers and the image's layout may change with any delivery.
 
 #![tactic(auto)]
+
 ghost use Rattle.std.specs.Prelude.{◌≡◌, cond, ◌+◌, ◌≤◌, length};
 ghost use Rattle.section.specs.Range.{in_range};
 ghost use Rattle.text.specs.Text.{written};
@@ -25,6 +26,7 @@ const TOO_SHORT: u16 = 5;
 const OUT_OF_RANGE: u16 = 6;
 
 // CIRCULATION, TRONÇON and permission of the posts 0 to 15 of a track.
+#[tactic(auto, using(text::proofs::Laws::none_put, text::proofs::Laws::one_more_put, crate::proofs::Lamps::lamps_length_lem), unfolding(crate::specs::Preview::lamp_bytes, rules::specs::Indications::dark, crate::specs::Preview::track_lamps))]
 fn put_track(buffer: &mut [u8], at: usize, shown: PostsShown) -> usize
     requires { at + track_lamps_length ≤ length buffer.old }
     ensures value { result ≡ at + track_lamps_length }
@@ -41,6 +43,7 @@ fn put_track(buffer: &mut [u8], at: usize, shown: PostsShown) -> usize
 }
 
 // Track A's posts, then B's, at the buffer's front.
+#[tactic(auto, using(crate::proofs::Lamps::lamps_put))]
 fn put_lamps(buffer: &mut [u8], a: PostsShown, b: PostsShown)
     requires { lamps_length ≤ length buffer.old }
     ensures { buffer.new ≡ written buffer.old 0 (lamps a b) }
@@ -50,6 +53,7 @@ fn put_lamps(buffer: &mut [u8], a: PostsShown, b: PostsShown)
 }
 
 // What a call gives whose buffer is too short: 6 comes before 5.
+#[tactic(auto, using(section::proofs::Told::told_false, section::proofs::Told::told_true))]
 fn without_room(s: Section) -> u16
     ensures { result ≡ cond (in_range s) 5 6 }
 {
@@ -60,6 +64,7 @@ fn without_room(s: Section) -> u16
 }
 
 // Tries a step: the answer of judging it, and what every post of both tracks would show. The image is only read.
+#[tactic(auto, using(section::proofs::Told::told_false, section::proofs::Told::told_true, image::proofs::Laws::well_formed_length, crate::proofs::Lamps::no_image, crate::proofs::Lamps::too_short, crate::proofs::Lamps::tried))]
 #[unsafe(no_mangle)]
 pub extern "C" fn bsr_preview(bytes: &[u8], step: &[u8], buffer: &mut [u8]) -> u16
     ensures value { result ≡ preview_answer bytes.now step.now (length buffer.old) }

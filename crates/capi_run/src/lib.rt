@@ -2,6 +2,7 @@
 // It is not stable: names, packed numbers and the image's layout may change with any delivery.
 
 #![tactic(auto)]
+
 ghost use Rattle.std.specs.Prelude.{◌≡◌, length};
 ghost use Rattle.packed.specs.Packed.{packed_outcome};
 ghost use Rattle.capi_run.specs.Run.{run_outcome, run_image, run_answers};
@@ -12,6 +13,7 @@ use section::Outcome;
 
 // Offers the steps one after another to the section of the image and writes the answer to each, from the buffer's front on. The image is written
 // back only when the call is not refused. How many steps were taken, or the refusal and its index.
+#[tactic(auto, using(section::proofs::Told::told_false, section::proofs::Told::told_true, image::proofs::Laws::well_formed_length, crate::proofs::Images::no_image, crate::proofs::Images::taken, crate::proofs::Images::refused))]
 #[unsafe(no_mangle)]
 pub extern "C" fn bsr_run(bytes: &mut [u8], steps: &[u8], answers: &mut [u8]) -> u64
     ensures value { result ≡ packed_outcome (run_outcome bytes.old steps.now (length answers.old)) }

@@ -2,6 +2,7 @@
 // It is not stable: names, packed numbers and the image's layout may change with any delivery.
 
 #![tactic(auto)]
+
 ghost use Rattle.std.specs.Prelude.{◌≡◌, length};
 ghost use Rattle.rules.specs.LampTable.{lamp_entry};
 ghost use Rattle.capi_sections.specs.Engine.{fresh_answer, fresh_image, judge_answer, judge_image, shown_of};
@@ -15,6 +16,7 @@ use section::words::said_number;
 const NO_IMAGE: u16 = 6;
 
 // The fresh section's image, at the front of the buffer. The settings come in a day file's bytes.
+#[tactic(auto, using(section::proofs::Told::told_false, section::proofs::Told::told_true, packed::proofs::Settings::settings_lent, crate::proofs::Images::no_settings_lem, crate::proofs::Images::too_short, crate::proofs::Images::put))]
 #[unsafe(no_mangle)]
 pub extern "C" fn bsr_fresh(settings: &[u8], buffer: &mut [u8]) -> u8
     ensures value { result ≡ fresh_answer settings.now (length buffer.old) }
@@ -31,6 +33,7 @@ pub extern "C" fn bsr_fresh(settings: &[u8], buffer: &mut [u8]) -> u8
 }
 
 // Judges a step. The image is written back only when the step is accepted.
+#[tactic(auto, using(section::proofs::Told::told_false, section::proofs::Told::told_true, image::proofs::Laws::well_formed_length, section::proofs::words::Laws::said_small, crate::proofs::Images::no_image, crate::proofs::Images::accepted, crate::proofs::Images::refused))]
 #[unsafe(no_mangle)]
 pub extern "C" fn bsr_judge(bytes: &mut [u8], step: &[u8]) -> u16
     ensures value { result ≡ judge_answer bytes.old step.now }
@@ -52,6 +55,7 @@ pub extern "C" fn bsr_judge(bytes: &mut [u8], step: &[u8]) -> u16
 }
 
 // What a post shows on a track.
+#[tactic(auto, using(section::proofs::Told::told_false, section::proofs::Told::told_true, image::proofs::Laws::well_formed_length, crate::proofs::Images::nothing_shown, crate::proofs::Images::shown))]
 #[unsafe(no_mangle)]
 pub extern "C" fn bsr_indications(bytes: &[u8], track: u8, post: u8) -> u16
     ensures { result ≡ shown_of bytes.now track post }

@@ -2,6 +2,7 @@
 // It is not stable: names and the notes' layout may change with any delivery.
 
 #![tactic(auto)]
+
 ghost use Rattle.std.specs.Prelude.{◌≡◌, ◌+◌, ◌*◌, ◌≤◌, length};
 ghost use Rattle.section.specs.Numbers.{step_length};
 ghost use Rattle.text.specs.Text.{written};
@@ -18,6 +19,7 @@ use section::words::letter;
 use section::{Answer, Outcome, Settings};
 
 // Writes the note of an answer.
+#[tactic(auto, unfolding(notes::specs::Note::note, section::specs::Words::track_letter))]
 fn put_answer(notes: &mut [u8], at: usize, answer: Answer)
     requires { at + note_length ≤ length notes.old }
     ensures { notes.new ≡ written notes.old at (note answer) }
@@ -38,6 +40,7 @@ fn put_answer(notes: &mut [u8], at: usize, answer: Answer)
 }
 
 // Notes the steps of a day, each offered singly to the engine, on the section that the one before left.
+#[tactic(auto, using(text::proofs::Laws::none_put, judging_in_place::proofs::Laws::step_after, judging_in_place::proofs::Laws::answered, judging_in_place::proofs::Laws::entry_put, judging_in_place::proofs::whole_day::Laws::notes_kept), unfolding(judging_in_place::specs::Offered::section_before, judging_in_place::specs::Entries::entry_length, judging_in_place::specs::Entries::entry_of, judging_in_place::specs::Entries::entry_with, judging_in_place::specs::Entries::entries_of, notes::specs::Note::note))]
 fn note_singly(c: Settings, steps: &[u8], count: usize, notes: &mut [u8])
     requires { (step_length * count ≤ length steps.now) × (note_length * count ≤ length notes.old) }
     ensures { notes.new ≡ written notes.old 0 (notes_of c steps.now count) }
@@ -53,6 +56,7 @@ fn note_singly(c: Settings, steps: &[u8], count: usize, notes: &mut [u8])
 }
 
 // What `bsr_day` does, the ranges tested at each step.
+#[tactic(auto, using(section::proofs::Outcomes::refused_so, section::proofs::Told::told_false, section::proofs::Told::told_true, packed::proofs::Settings::settings_lent, judging_in_place::proofs::whole_day::Laws::day_fits, judging_in_place::proofs::whole_day::Laws::notes_written), unfolding(capi_day::specs::Day::day_answer, capi_day::specs::Day::day_notes, judging_in_place::specs::Notes::notes_after))]
 #[unsafe(no_mangle)]
 pub extern "C" fn bsr_day_singly(settings: &[u8], steps: &[u8], buffer: &mut [u8]) -> u64
     ensures value { result ≡ packed_outcome (day_answer settings.now steps.now (length buffer.old)) }
