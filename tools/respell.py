@@ -5,13 +5,25 @@ usage: python3 tools/respell.py [--list]      at the top of the repository, once
 
 A definition, field or variable `atSendingEnd` becomes `at_sending_end`, a lemma `in-its-ranges` becomes `in_its_ranges`. A lemma that
 would have a definition's name gets `_lem`. Types, modules, names of src/, C names and strings keep their spelling, and so does what the
-library or Rattle itself names. So do the paper's A, B, VNS and CVT in the worked examples. Names that would still fall together in one file are printed, and nothing is written then.
+library or Rattle itself names, and the paper's A, B, VNS and CVT in the worked examples. Names that would still fall together in one
+file are printed, and nothing is written then.
 """
 import os
 import re
 import sys
 
 WORD = r"[^\s(){}\[\].,;:\"`λ«»/|]+"
+# Fields of a record that share their name with a lemma elsewhere, or, the last, with a definition that its record cites.
+FIELDS = {
+    "open-run": "open_run",
+    "on-track": "on_track",
+    "in-turn": "in_turn",
+    "is-accepted": "is_accepted",
+    "fault1-confirmed": "fault1_confirmed",
+    "measures-suffice": "measures_suffice",
+    "under-way": "reversal_under_way",
+}
+RECORDS_IN = ("/specs/", "rules/proofs/Held.antt")
 # Lemmas that port.py had given the name which a definition now gets.
 LEMMAS = {"tail_of": "tail_of_lem", "entry_length": "entry_length_lem", "closed_after": "closed_after_lem", "ends_open": "ends_open_lem"}
 
@@ -30,7 +42,7 @@ def read(path):
 
 
 def snake(word):
-    return re.sub(r"(?<=[a-z0-9'])([A-Z])", lambda m: "_" + m.group(1), word).lower()
+    return re.sub(r"(?<=[a-z0-9'])([A-Z])|(?<=[A-Z])([A-Z](?=[a-z]))", lambda m: "_" + m.group(0), word).lower()
 
 
 def is_camel(word):
@@ -93,6 +105,10 @@ def respelled(path, text, names, fields):
             return LEMMAS[w]
         if is_dashed(w) and after_dot and w not in fields:
             return w
+        if w in FIELDS:
+            declares = re.match(r" +(?:pub )?" + re.escape(w) + r" :", line) and any(r in path for r in RECORDS_IN)
+            if after_dot or declares or re.match(r" = ", line[m.end() :]):
+                return FIELDS[w]
         return here.get(w, w)
 
     lines = []

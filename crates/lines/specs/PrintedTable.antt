@@ -18,9 +18,9 @@ unfoldable pub table_text : List ℕ
 table_text = first_texts entry_line table_length
 
 -- "its output is the constant in the code": the entries of the constant, one a line. `indications::lamp_table::table`, which hands the constant
--- out, promises that it is `lamp_table`; `prints-the-constant` (proofs/lamps/Laws.antt) proves the rest.
-abbrev pub entries_one_aline : List ℕ → List ℕ
-entries_one_aline table = first_texts (λ (i : ℕ). decimal (get_or table i 0) ++ (10 ∷ [])) (length table)
+-- out, promises that it is `lamp_table`; `prints_the_constant` (proofs/lamps/Laws.antt) proves the rest.
+abbrev pub entries_one_a_line : List ℕ → List ℕ
+entries_one_a_line table = first_texts (λ (i : ℕ). decimal (get_or table i 0) ++ (10 ∷ [])) (length table)
 
 abbrev pub PrintsTheConstant : Type 0
-PrintsTheConstant = table_text ≡ entries_one_aline lamp_table
+PrintsTheConstant = table_text ≡ entries_one_a_line lamp_table

@@ -32,32 +32,32 @@ module _ (c : Line) (e : Site) (g : Occupancy) where
     pub free : order_occupied c g ≡ false
 
   pub record SetHeld : Type 0 where
-    pub in_turn_lem : is_turn e.walk e.post act.Set ≡ true
+    pub in_turn : is_turn e.walk e.post act.Set ≡ true
     pub free : g.watched ≡ false
-    pub fault1_confirmed_lem : fault1_confirmed c e ≡ true
-    pub measures_suffice_lem : measures_suffice e ≡ true
+    pub fault1_confirmed : fault1_confirmed c e ≡ true
+    pub measures_suffice : measures_suffice e ≡ true
     pub no_fault2 : e.own.faults.two ≡ false
 
   pub record KeyHeld : Type 0 where
-    pub in_turn_lem : is_turn e.walk e.post act.Set ≡ true
+    pub in_turn : is_turn e.walk e.post act.Set ≡ true
     pub fault2 : e.own.faults.two ≡ true
     pub free : g.watched ≡ false
-    pub fault1_confirmed_lem : fault1_confirmed c e ≡ true
-    pub measures_suffice_lem : measures_suffice e ≡ true
+    pub fault1_confirmed : fault1_confirmed c e ≡ true
+    pub measures_suffice : measures_suffice e ≡ true
     pub seal_left : eqb e.own.seals most_seals ≡ false
 
   pub record AnnounceHeld : Type 0 where
-    pub in_turn_lem : is_turn e.walk e.post act.Announce ≡ true
+    pub in_turn : is_turn e.walk e.post act.Announce ≡ true
 
   pub record AcknowledgeHeld : Type 0 where
-    pub in_turn_lem : is_turn e.walk e.post act.Acknowledge ≡ true
+    pub in_turn : is_turn e.walk e.post act.Acknowledge ≡ true
 
   pub record StartHeld (z : ℕ) : Type 0 where
     pub settled : is_settled e.walk ≡ true
     pub first : at_sending_end c e ≡ true
     pub number_new : g.number_on_track ≡ false
     pub free : g.stretch_occupied ≡ false
-    pub fault1_confirmed_lem : fault1_confirmed c e ≡ true
+    pub fault1_confirmed : fault1_confirmed c e ≡ true
     pub caution_suffices : caution_held c z e ≡ true
 
   pub record PassHeld (z : ℕ) : Type 0 where
@@ -88,7 +88,7 @@ module _ (c : Line) (e : Site) (g : Occupancy) where
     pub crossing : crossing_ahead c e ≡ true
 
   pub record ReleaseHeld (z : ℕ) : Type 0 where
-    pub in_turn_lem : release_in_turn c e ≡ true
+    pub in_turn : release_in_turn c e ≡ true
     pub in_command : commands c e ≡ true
     pub fault1 : e.own.faults.one ≡ true
     pub free : g.watched ≡ false
@@ -106,10 +106,10 @@ module _ {c : Line} {v b : Bool} {p : ℕ} {t : Track} where
   set_held h =
       let row = h.held in
       record {
-        in_turn_lem = row.0;
+        in_turn = row.0;
         free = not-true _ row.1.0;
-        fault1_confirmed_lem = row.1.1.0;
-        measures_suffice_lem = row.1.1.1.0;
+        fault1_confirmed = row.1.1.0;
+        measures_suffice = row.1.1.1.0;
         no_fault2 = not-true _ row.1.1.1.1.0;
       }
 
@@ -118,21 +118,21 @@ module _ {c : Line} {v b : Bool} {p : ℕ} {t : Track} where
   key_held h =
       let row = h.held in
       record {
-        in_turn_lem = row.0;
+        in_turn = row.0;
         fault2 = row.1.0;
         free = not-true _ row.1.1.0;
-        fault1_confirmed_lem = row.1.1.1.0;
-        measures_suffice_lem = row.1.1.1.1.0;
+        fault1_confirmed = row.1.1.1.0;
+        measures_suffice = row.1.1.1.1.0;
         seal_left = not-true _ row.1.1.1.1.1.0;
       }
 
   pub announce_held : AcceptedOn c v b p (walks announce) t → AnnounceHeld c (site_on b p t) (occupancy_on c v b p (walks announce) t)
   unfolding checks flat
-  announce_held h = record { in_turn_lem = h.held.0 }
+  announce_held h = record { in_turn = h.held.0 }
 
   pub acknowledge_held : AcceptedOn c v b p (walks acknowledge) t → AcknowledgeHeld c (site_on b p t) (occupancy_on c v b p (walks acknowledge) t)
   unfolding checks flat
-  acknowledge_held h = record { in_turn_lem = h.held.0 }
+  acknowledge_held h = record { in_turn = h.held.0 }
 
   pub start_held : {z : ℕ} → AcceptedOn c v b p (runs start z) t → StartHeld c (site_on b p t) (occupancy_on c v b p (runs start z) t) z
   unfolding checks flat
@@ -141,7 +141,7 @@ module _ {c : Line} {v b : Bool} {p : ℕ} {t : Track} where
     first = h.held.1.0;
     number_new = not-true _ h.held.1.1.0;
     free = not-true _ h.held.1.1.1.0;
-    fault1_confirmed_lem = h.held.1.1.1.1.0;
+    fault1_confirmed = h.held.1.1.1.1.0;
     caution_suffices = h.held.1.1.1.1.1.0;
   }
 
@@ -188,7 +188,7 @@ module _ {c : Line} {v b : Bool} {p : ℕ} {t : Track} where
   release_held h =
       let row = h.held in
       record {
-        in_turn_lem = row.0;
+        in_turn = row.0;
         in_command = row.1.0;
         fault1 = row.1.1.0;
         free = not-true _ row.1.1.1.0;
@@ -218,30 +218,30 @@ module _ {c : Line} {v b : Bool} {p : ℕ} {t : Track} where
   unfolding checks flat
   set_accepted f h = record {
     fits = f;
-    held = (h.in_turn_lem, (ap not h.free, (h.fault1_confirmed_lem, (h.measures_suffice_lem, (ap not h.no_fault2, tt)))));
+    held = (h.in_turn, (ap not h.free, (h.fault1_confirmed, (h.measures_suffice, (ap not h.no_fault2, tt)))));
   }
 
   pub key_accepted : Fits c.posts p (walks key) → KeyHeld c (site_on b p t) (occupancy_on c v b p (walks key) t) → AcceptedOn c v b p (walks key) t
   unfolding checks flat
   key_accepted f h = record {
     fits = f;
-    held = (h.in_turn_lem, (h.fault2, (ap not h.free, (h.fault1_confirmed_lem, (h.measures_suffice_lem, (ap not h.seal_left, tt))))));
+    held = (h.in_turn, (h.fault2, (ap not h.free, (h.fault1_confirmed, (h.measures_suffice, (ap not h.seal_left, tt))))));
   }
 
   pub announce_accepted : Fits c.posts p (walks announce) → AnnounceHeld c (site_on b p t) (occupancy_on c v b p (walks announce) t)
       → AcceptedOn c v b p (walks announce) t
   unfolding checks flat
-  announce_accepted f h = record { fits = f; held = (h.in_turn_lem, tt) }
+  announce_accepted f h = record { fits = f; held = (h.in_turn, tt) }
 
   pub acknowledge_accepted : Fits c.posts p (walks acknowledge) → AcknowledgeHeld c (site_on b p t) (occupancy_on c v b p (walks acknowledge) t)
       → AcceptedOn c v b p (walks acknowledge) t
   unfolding checks flat
-  acknowledge_accepted f h = record { fits = f; held = (h.in_turn_lem, tt) }
+  acknowledge_accepted f h = record { fits = f; held = (h.in_turn, tt) }
 
   pub release_accepted : {z : ℕ} → Fits c.posts p (releases z) → ReleaseHeld c (site_on b p t) (occupancy_on c v b p (releases z) t) z
       → AcceptedOn c v b p (releases z) t
   unfolding checks flat
-  release_accepted f h = record { fits = f; held = (h.in_turn_lem, (h.in_command, (h.fault1, (ap not h.free, (h.last_train, tt))))) }
+  release_accepted f h = record { fits = f; held = (h.in_turn, (h.in_command, (h.fault1, (ap not h.free, (h.last_train, tt))))) }
 
 -- no train on a track, of n posts
 abbrev pub NoTrain : ℕ → Track → Type 0

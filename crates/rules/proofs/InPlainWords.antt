@@ -194,8 +194,8 @@ module _ (c : Settings) (n2 : 2 ≤ c.posts) (claim : (offered : List (List ℕ)
             let own : t.train ≡ z = sym t.shown ∙ e in
             let runs : runs_of b z accepted ≡ t.run ∷ t.earlier = rw own at t.runs_are in
             let on : OnTrackNow c offered b z t.run =
-            record { a_run = rw runs (Memᴰ.head refl); not_left = t.open_run_lem } in
-            record { run = t.run; on_track_lem = on; stands = stands b z t.run on; here = t.place }
+            record { a_run = rw runs (Memᴰ.head refl); not_left = t.open_run } in
+            record { run = t.run; on_track = on; stands = stands b z t.run on; here = t.place }
 
     no_train_lost : NoTrainLost c offered
     no_train_lost = record {
@@ -223,7 +223,7 @@ module _ (c : Settings) (n2 : 2 ≤ c.posts) (claim : (offered : List (List ℕ)
         go w (inl q) = inl (record {
           began = q;
           passes = rw w.through (turns_length c r.from (c.posts - 2));
-          in_turn_lem = λ k h. rw w.through (turns_at c r.from (c.posts - 2) k h ∙ rw q refl);
+          in_turn = λ k h. rw w.through (turns_at c r.from (c.posts - 2) k h ∙ rw q refl);
           ended = w.far ∙ rw q refl;
         })
         go w (inr q) =
@@ -231,7 +231,7 @@ module _ (c : Settings) (n2 : 2 ≤ c.posts) (claim : (offered : List (List ℕ)
             inr (record {
               began = q;
               passes = rw w.through (turns_length c r.from (c.posts - 2));
-              in_turn_lem = λ k h. rw w.through (turns_at c r.from (c.posts - 2) k h ∙ rw other (omega arith));
+              in_turn = λ k h. rw w.through (turns_at c r.from (c.posts - 2) k h ∙ rw other (omega arith));
               ended = w.far ∙ rw other refl;
             })
 
@@ -251,7 +251,7 @@ module _ (c : Settings) (n2 : 2 ≤ c.posts) (claim : (offered : List (List ℕ)
     by_start : (b : Bool) (p : ℕ) → StartsNext c offered b p → MayStart c end b p
     by_start b p h =
         start (record { bytes = h.bytes; said = h.said }) h.a_start
-        (track_is b (byte h.bytes 1) (eq-eqb (byte h.bytes 1) (track_byte b) h.on_track_lem)) h.at_post h.is_accepted_lem
+        (track_is b (byte h.bytes 1) (eq-eqb (byte h.bytes 1) (track_byte b) h.on_track)) h.at_post h.is_accepted
 
     starts_at_entry : (b : Bool) (p : ℕ) → MayStart c end b p → p ≡ entry_post c.posts b (track_of end b).cvt
     starts_at_entry b p may = ((track_claim b).starter p may).0 ∙ entry_is c.posts b (track_of end b).cvt
@@ -271,7 +271,7 @@ module _ (c : Settings) (n2 : 2 ≤ c.posts) (claim : (offered : List (List ℕ)
       start_at_entry = λ b p h. starts_at_entry b p (by_start b p h);
       no_permission_in_reversal = λ b p q act e h. none_in_reversal b p q act e (by_permission b p h);
       no_start_in_reversal = λ b p q act e h. none_in_reversal b p q act e (by_start b p h);
-      under_way_lem = under_way_there;
+      reversal_under_way = under_way_there;
       not_under_way = λ b e. (track_claim b).walk_agrees ∙ ap (λ (w : Walk). not (is_settled w)) e;
     }
 

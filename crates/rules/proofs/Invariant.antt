@@ -125,14 +125,14 @@ module _ (c : Line) (b : Bool) where
     unfolding checks occupancy_at track_after effect cells_after flat
     clear_kept right (walks order) h clear f =
         λ j l m. absurd (cleared_order c b right t.cvt p j (first_rank c.posts (upward b t.cvt) p (order_held h).first) l)
-    clear_kept right (walks set_device) h clear f = clear_set right (at_receiving_end c e) refl (set_held h).in_turn_lem (set_held h).free clear
+    clear_kept right (walks set_device) h clear f = clear_set right (at_receiving_end c e) refl (set_held h).in_turn (set_held h).free clear
     clear_kept right (walks announce) h clear f = λ j l m.
-        subst (λ (w : Walk). ClearedFree t.cvt w t.trains) (is_turn_lem t.walk p act.Announce (announce_held h).in_turn_lem) clear j
-        (cleared_announced c b t.cvt p (next_post c e) j (next_post_lem c e (announce_next c b v t p (announce_held h).in_turn_lem f)) l) m
+        subst (λ (w : Walk). ClearedFree t.cvt w t.trains) (is_turn_lem t.walk p act.Announce (announce_held h).in_turn) clear j
+        (cleared_announced c b t.cvt p (next_post c e) j (next_post_lem c e (announce_next c b v t p (announce_held h).in_turn f)) l) m
     clear_kept right (walks acknowledge) h clear f = λ j l m.
-        subst (λ (w : Walk). ClearedFree t.cvt w t.trains) (is_turn_lem t.walk p act.Acknowledge (acknowledge_held h).in_turn_lem) clear j
+        subst (λ (w : Walk). ClearedFree t.cvt w t.trains) (is_turn_lem t.walk p act.Acknowledge (acknowledge_held h).in_turn) clear j
         (cleared_acknowledged c b t.cvt p j l) m
-    clear_kept right (walks key) h clear f = clear_set right (at_receiving_end c e) refl (key_held h).in_turn_lem (key_held h).free clear
+    clear_kept right (walks key) h clear f = clear_set right (at_receiving_end c e) refl (key_held h).in_turn (key_held h).free clear
     clear_kept right (runs start z) h clear f =
         λ j l m. absurd (cleared_settled c b right t.cvt j
         (subst (λ (w : Walk). Cleared c b t.cvt w j) (is_settled_lem t.walk (start_held h).settled) l))
@@ -201,15 +201,15 @@ module _ (c : Line) (b : Bool) where
           permit_order (effect c (flat p (walks order)) e).own (Turn p act.Set) h.fits.below false≢true
           (first_rank c.posts (upward b t.cvt) p (order_held h).first) (is_settled_lem t.walk (order_held h).settled) old
       permits_kept (walks set_device) h old =
-          permit_set (at_receiving_end c e) refl h.fits.below (set_held h).in_turn_lem (effect c (flat p (walks set_device)) e).own refl old
+          permit_set (at_receiving_end c e) refl h.fits.below (set_held h).in_turn (effect c (flat p (walks set_device)) e).own refl old
       permits_kept (walks announce) h old =
           permit_same e.own (Turn (next_post c e) act.Acknowledge) h.fits.below (λ u. u)
-          (λ r m. subst (λ (v : Walk). MayHold v r) (is_turn_lem t.walk p act.Announce (announce_held h).in_turn_lem) m) old
+          (λ r m. subst (λ (v : Walk). MayHold v r) (is_turn_lem t.walk p act.Announce (announce_held h).in_turn) m) old
       permits_kept (walks acknowledge) h old =
           permit_same e.own (Turn p act.Set) h.fits.below (λ u. u)
-          (λ r m. subst (λ (v : Walk). MayHold v r) (is_turn_lem t.walk p act.Acknowledge (acknowledge_held h).in_turn_lem) m) old
+          (λ r m. subst (λ (v : Walk). MayHold v r) (is_turn_lem t.walk p act.Acknowledge (acknowledge_held h).in_turn) m) old
       permits_kept (walks key) h old =
-          permit_set (at_receiving_end c e) refl h.fits.below (key_held h).in_turn_lem (effect c (flat p (walks key)) e).own refl old
+          permit_set (at_receiving_end c e) refl h.fits.below (key_held h).in_turn (effect c (flat p (walks key)) e).own refl old
       permits_kept (runs m y) h old = permit_running (runs m y) h refl old
       permits_kept (notes k) h old = permit_running (notes k) h refl old
       permits_kept (releases y) h old = permit_running (releases y) h refl old

@@ -180,7 +180,7 @@ module _ (c : Line) (b : Bool) where
     turn_kept (walks order) h f = h.fits.below
     turn_kept (walks set_device) h f = set_turn (at_receiving_end c e) refl h.fits.below
     turn_kept (walks announce) h f =
-        let n = next_post_lem c e (announce_next (announce_held h).in_turn_lem f) in
+        let n = next_post_lem c e (announce_next (announce_held h).in_turn f) in
         (n.below, omega (arith, n.after))
     turn_kept (walks acknowledge) h f = h.fits.below
     turn_kept (walks key) h f = set_turn (at_receiving_end c e) refl h.fits.below

@@ -50,11 +50,11 @@ module _ (c : Line) where
       go true u w = w
       go false u w = u
   single_kept v b p (walks set_device) t h o =
-      or_right (settled_on_vns (track_after_step c b p (walks set_device) t)) v (rw (is_turn_lem t.walk p act.Set (set_held h).in_turn_lem) at o)
-  single_kept v b p (walks announce) t h o = rw (is_turn_lem t.walk p act.Announce (announce_held h).in_turn_lem) at o
-  single_kept v b p (walks acknowledge) t h o = rw (is_turn_lem t.walk p act.Acknowledge (acknowledge_held h).in_turn_lem) at o
+      or_right (settled_on_vns (track_after_step c b p (walks set_device) t)) v (rw (is_turn_lem t.walk p act.Set (set_held h).in_turn) at o)
+  single_kept v b p (walks announce) t h o = rw (is_turn_lem t.walk p act.Announce (announce_held h).in_turn) at o
+  single_kept v b p (walks acknowledge) t h o = rw (is_turn_lem t.walk p act.Acknowledge (acknowledge_held h).in_turn) at o
   single_kept v b p (walks key) t h o =
-      or_right (settled_on_vns (track_after_step c b p (walks key) t)) v (rw (is_turn_lem t.walk p act.Set (key_held h).in_turn_lem) at o)
+      or_right (settled_on_vns (track_after_step c b p (walks key) t)) v (rw (is_turn_lem t.walk p act.Set (key_held h).in_turn) at o)
   single_kept v b p (runs m z) t h o = rw (vns_kept c b p (runs m z) t refl) o
   single_kept v b p (notes k) t h o = rw (vns_kept c b p (notes k) t refl) o
   single_kept v b p (releases z) t h o = o

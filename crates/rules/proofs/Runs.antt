@@ -299,7 +299,7 @@ module _ (c : Settings) (n2 : 2 ≤ c.posts) where
       run = open_run up m;
       earlier = earlier;
       runs_are = re;
-      open_run_lem = refl;
+      open_run = refl;
       place = (open_fate z m h q u).only i k e;
       shown = e;
     }

@@ -54,10 +54,10 @@ module _ (c : Line) where
   settled_kind : (v b : Bool) (p : ℕ) (k : View) (t : Track) → AcceptedOn c v b p k t → t.walk ≡ Settled → (keeps_running k ≡ true) ⊎ (k ≡ walks order)
   unfolding checks flat
   settled_kind v b p (walks order) t h e = inr refl
-  settled_kind v b p (walks set_device) t h e = absurd (false≢true (rw e at (set_held h).in_turn_lem))
-  settled_kind v b p (walks announce) t h e = absurd (false≢true (rw e at (announce_held h).in_turn_lem))
-  settled_kind v b p (walks acknowledge) t h e = absurd (false≢true (rw e at (acknowledge_held h).in_turn_lem))
-  settled_kind v b p (walks key) t h e = absurd (false≢true (rw e at (key_held h).in_turn_lem))
+  settled_kind v b p (walks set_device) t h e = absurd (false≢true (rw e at (set_held h).in_turn))
+  settled_kind v b p (walks announce) t h e = absurd (false≢true (rw e at (announce_held h).in_turn))
+  settled_kind v b p (walks acknowledge) t h e = absurd (false≢true (rw e at (acknowledge_held h).in_turn))
+  settled_kind v b p (walks key) t h e = absurd (false≢true (rw e at (key_held h).in_turn))
   settled_kind v b p (runs m z) t h e = inl refl
   settled_kind v b p (notes k) t h e = inl refl
   settled_kind v b p (releases z) t h e = inl refl
@@ -96,20 +96,20 @@ module _ (c : Line) where
     does : (k : View) (q : ℕ) → AcceptedOn c v b q k t → Does v b t p q k
     unfolding checks track_after effect flat
     does (walks order) q h = absurd (false≢true (rw e at (order_held h).settled))
-    does (walks set_device) q h = does_set q set_device (at_receiving_end c (site_on b q t)) refl (set_held h).in_turn_lem refl refl
+    does (walks set_device) q h = does_set q set_device (at_receiving_end c (site_on b q t)) refl (set_held h).in_turn refl refl
     does (walks announce) q h =
-        let eq : q ≡ p = turn_post t.walk p q a act.Announce e (is_turn_lem t.walk q act.Announce (announce_held h).in_turn_lem) in
-        let n = next_post_lem c (site_on b q t) (announce_next c b v t q (announce_held h).in_turn_lem so.ranges.turn) in
+        let eq : q ≡ p = turn_post t.walk p q a act.Announce e (is_turn_lem t.walk q act.Announce (announce_held h).in_turn) in
+        let n = next_post_lem c (site_on b q t) (announce_next c b v t q (announce_held h).in_turn so.ranges.turn) in
         acts_in_turn refl eq (next_post c (site_on b q t)) act.Acknowledge refl refl (omega (arith, n.after, ap (rank_on c b t.cvt) eq))
     does (walks acknowledge) q h =
-        let eq : q ≡ p = turn_post t.walk p q a act.Acknowledge e (is_turn_lem t.walk q act.Acknowledge (acknowledge_held h).in_turn_lem) in
+        let eq : q ≡ p = turn_post t.walk p q a act.Acknowledge e (is_turn_lem t.walk q act.Acknowledge (acknowledge_held h).in_turn) in
         acts_in_turn refl eq q act.Set refl refl (omega (arith, ap (rank_on c b t.cvt) eq))
-    does (walks key) q h = does_set q key (at_receiving_end c (site_on b q t)) refl (key_held h).in_turn_lem refl refl
+    does (walks key) q h = does_set q key (at_receiving_end c (site_on b q t)) refl (key_held h).in_turn refl refl
     does (runs start z) q h = absurd (false≢true (rw e at (start_held h).settled))
     does (runs pass z) q h = does_onward q pass z refl h
     does (runs leave z) q h = does_onward q leave z refl h
     does (notes k) q h = notes_condition k refl
-    does (releases z) q h = acts_in_turn refl (release_turn q (release_held h).in_turn_lem) p a e refl (omega arith)
+    does (releases z) q h = acts_in_turn refl (release_turn q (release_held h).in_turn) p a e refl (omega arith)
 
   -- ## An order
 

@@ -193,15 +193,15 @@ caution_form_removed = refl
 
 -- handed out after the post's own set, it is there when the direction has turned: at the receiving end, whose leave is no entry, until that
 -- post sets again
-abbrev pub to_cvt_and_aform : List Step
-to_cvt_and_aform = MeasuresOn 0 ∷ MeasuresOn 1 ∷ Order 0 ∷ Set 0 ∷ Caution 0 7 ∷ Announce 0 ∷ Acknowledge 1 ∷ Set 1 ∷ []
+abbrev pub to_cvt_and_a_form : List Step
+to_cvt_and_a_form = MeasuresOn 0 ∷ MeasuresOn 1 ∷ Order 0 ∷ Set 0 ∷ Caution 0 7 ∷ Announce 0 ∷ Acknowledge 1 ∷ Set 1 ∷ []
 
 pub caution_form_at_the_receiving_end :
     Holds
-    ((post_after (with_crossings (0 ∷ []) (telephone 2 3)) (on A to_cvt_and_aform) A 0 gives some (cautioned 7 (turned CVT (measured true blank))))
-    ∷ (post_after (with_crossings (0 ∷ []) (telephone 2 3)) (on A (to_cvt_and_aform ++ Start 1 7 ∷ Leave 0 7 ∷ [])) A 0
+    ((post_after (with_crossings (0 ∷ []) (telephone 2 3)) (on A to_cvt_and_a_form) A 0 gives some (cautioned 7 (turned CVT (measured true blank))))
+    ∷ (post_after (with_crossings (0 ∷ []) (telephone 2 3)) (on A (to_cvt_and_a_form ++ Start 1 7 ∷ Leave 0 7 ∷ [])) A 0
     gives some (cautioned 7 (turned CVT (measured true blank))))
-    ∷ (post_after (with_crossings (0 ∷ []) (telephone 2 3)) (on A (to_cvt_and_aform ++ reversal (1 ∷ 0 ∷ []))) A 0
+    ∷ (post_after (with_crossings (0 ∷ []) (telephone 2 3)) (on A (to_cvt_and_a_form ++ reversal (1 ∷ 0 ∷ []))) A 0
     gives some (permitted true (measured true blank)))
     ∷ [])
 unfolding seen

@@ -181,22 +181,22 @@ module _ (c : Line) (v b : Bool) where
   fewer_trains (walks set_device) p t trains last i f h =
       let k = set_held h in
       set_accepted h.fits (record {
-        in_turn_lem = k.in_turn_lem;
+        in_turn = k.in_turn;
         free = f.watched k.free;
-        fault1_confirmed_lem = k.fault1_confirmed_lem;
-        measures_suffice_lem = k.measures_suffice_lem;
+        fault1_confirmed = k.fault1_confirmed;
+        measures_suffice = k.measures_suffice;
         no_fault2 = k.no_fault2;
       })
-  fewer_trains (walks announce) p t trains last i f h = announce_accepted h.fits (record { in_turn_lem = (announce_held h).in_turn_lem })
-  fewer_trains (walks acknowledge) p t trains last i f h = acknowledge_accepted h.fits (record { in_turn_lem = (acknowledge_held h).in_turn_lem })
+  fewer_trains (walks announce) p t trains last i f h = announce_accepted h.fits (record { in_turn = (announce_held h).in_turn })
+  fewer_trains (walks acknowledge) p t trains last i f h = acknowledge_accepted h.fits (record { in_turn = (acknowledge_held h).in_turn })
   fewer_trains (walks key) p t trains last i f h =
       let k = key_held h in
       key_accepted h.fits (record {
-        in_turn_lem = k.in_turn_lem;
+        in_turn = k.in_turn;
         fault2 = k.fault2;
         free = f.watched k.free;
-        fault1_confirmed_lem = k.fault1_confirmed_lem;
-        measures_suffice_lem = k.measures_suffice_lem;
+        fault1_confirmed = k.fault1_confirmed;
+        measures_suffice = k.measures_suffice;
         seal_left = k.seal_left;
       })
   fewer_trains (runs m z) p t trains last i f h = absurd (false≢true i)
@@ -205,7 +205,7 @@ module _ (c : Line) (v b : Bool) where
   fewer_trains (releases z) p t trains last i f h =
       let k = release_held h in
       release_accepted h.fits (record {
-        in_turn_lem = k.in_turn_lem;
+        in_turn = k.in_turn;
         in_command = k.in_command;
         fault1 = k.fault1;
         free = f.watched k.free;

@@ -236,10 +236,10 @@ module _ (given : Settings) (n2 : 2 ≤ given.posts) (n16 : given.posts ≤ most
       pub trains_kept : (k : View) → AcceptedOn c v b p k t → ClearedFree c b t.cvt t.walk t.trains → Kept k
       unfolding checks track_after effect cells_after flat
       trains_kept (walks order) h clear = unmoved_kept (walks order) refl refl
-      trains_kept (walks set_device) h clear = set_kept set_device (at_receiving_end c e) refl (set_held h).in_turn_lem clear
+      trains_kept (walks set_device) h clear = set_kept set_device (at_receiving_end c e) refl (set_held h).in_turn clear
       trains_kept (walks announce) h clear = unmoved_kept (walks announce) refl refl
       trains_kept (walks acknowledge) h clear = unmoved_kept (walks acknowledge) refl refl
-      trains_kept (walks key) h clear = set_kept key (at_receiving_end c e) refl (key_held h).in_turn_lem clear
+      trains_kept (walks key) h clear = set_kept key (at_receiving_end c e) refl (key_held h).in_turn clear
       trains_kept (runs start y) h clear = start_kept y h
       trains_kept (runs pass y) h clear = pass_kept y h
       trains_kept (runs leave y) h clear = leave_kept y h

@@ -119,10 +119,10 @@ module _ (c : Settings) where
     noted (walks order) h =
         ap some (far_post c.posts (upward b t.cvt) p n2 h.fits.below (first_rank c.posts (upward b t.cvt) p (order_held h).first))
     noted (walks set_device) h =
-        ap (ends_at p) (turn_last act.Set t.walk (set_held h).in_turn_lem) ∙ set_noted (at_receiving_end ln (site_on b p t)) refl h.fits.below
-    noted (walks announce) h = turn_last act.Announce t.walk (announce_held h).in_turn_lem
-    noted (walks acknowledge) h = turn_last act.Acknowledge t.walk (acknowledge_held h).in_turn_lem
-    noted (walks key) h = ap (ends_at p) (turn_last act.Set t.walk (key_held h).in_turn_lem) ∙ set_noted (at_receiving_end ln (site_on b p t)) refl h.fits.below
+        ap (ends_at p) (turn_last act.Set t.walk (set_held h).in_turn) ∙ set_noted (at_receiving_end ln (site_on b p t)) refl h.fits.below
+    noted (walks announce) h = turn_last act.Announce t.walk (announce_held h).in_turn
+    noted (walks acknowledge) h = turn_last act.Acknowledge t.walk (acknowledge_held h).in_turn
+    noted (walks key) h = ap (ends_at p) (turn_last act.Set t.walk (key_held h).in_turn) ∙ set_noted (at_receiving_end ln (site_on b p t)) refl h.fits.below
     noted (runs m z) h = running_agrees (runs m z) refl
     noted (notes k) h = running_agrees (notes k) refl
     noted (releases z) h = running_agrees (releases z) refl

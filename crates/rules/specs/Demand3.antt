@@ -198,7 +198,7 @@ module _ (c : Settings) where
     pub run : Run
     pub earlier : List Run
     pub runs_are : runs_of b train ds ≡ run ∷ earlier
-    pub open_run_lem : run.left ≡ none
+    pub open_run : run.left ≡ none
     pub place : i ≡ place_of run.from (length run.passed)
     pub shown : get_or t.trains i 0 ≡ train
 

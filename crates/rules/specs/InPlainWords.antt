@@ -102,7 +102,7 @@ module _ (c : Settings) (offered : List (List ℕ)) where
   -- "and a block section without such a train shows none": a number that is shown is that of a train that stands there
   pub record IsThere (b : Bool) (i z : ℕ) : Type 0 where
     pub run : Run
-    pub on_track_lem : OnTrackNow b z run
+    pub on_track : OnTrackNow b z run
     pub stands : StandsInOne b z run
     pub here : i ≡ stands.section
 
@@ -121,13 +121,13 @@ module _ (c : Settings) (offered : List (List ℕ)) where
   pub record WentUp (r : Run) (leave : ℕ) : Type 0 where
     pub began : r.from ≡ 0
     pub passes : length r.passed ≡ c.posts - 2
-    pub in_turn_lem : (k : ℕ) → k < c.posts - 2 → get_or r.passed k 0 ≡ suc k
+    pub in_turn : (k : ℕ) → k < c.posts - 2 → get_or r.passed k 0 ≡ suc k
     pub ended : leave ≡ c.posts - 1
 
   pub record WentDown (r : Run) (leave : ℕ) : Type 0 where
     pub began : r.from ≡ c.posts - 1
     pub passes : length r.passed ≡ c.posts - 2
-    pub in_turn_lem : (k : ℕ) → k < c.posts - 2 → get_or r.passed k 0 ≡ c.posts - 2 - k
+    pub in_turn : (k : ℕ) → k < c.posts - 2 → get_or r.passed k 0 ≡ c.posts - 2 - k
     pub ended : leave ≡ 0
 
   abbrev pub LeftAtTheOtherEnd : Type 0
@@ -151,9 +151,9 @@ module _ (c : Settings) (offered : List (List ℕ)) where
     pub bytes : List ℕ
     pub said : Said
     pub a_start : byte bytes 0 ≡ 5
-    pub on_track_lem : byte bytes 1 ≡ track_byte b
+    pub on_track : byte bytes 1 ≡ track_byte b
     pub at_post : byte bytes 2 ≡ p
-    pub is_accepted_lem : (judge end bytes).verdict ≡ Accepted said
+    pub is_accepted : (judge end bytes).verdict ≡ Accepted said
 
   -- "At most one post of a track has permission, or could start a train next. It is the sending end; in a reversal there is none."
   pub record OneMayStart : Type 0 where
@@ -165,7 +165,7 @@ module _ (c : Settings) (offered : List (List ℕ)) where
     pub no_permission_in_reversal : (b : Bool) (p q : ℕ) (act : Act) → (track_of end b).walk ≡ Turn q act → HasPermission b p → ⊥
     pub no_start_in_reversal : (b : Bool) (p q : ℕ) (act : Act) → (track_of end b).walk ≡ Turn q act → StartsNext b p → ⊥
     -- by the accepted steps a reversal is under way where the state says so
-    pub under_way_lem : (b : Bool) (q : ℕ) (act : Act) → (track_of end b).walk ≡ Turn q act → under_way c.posts b accepted ≡ true
+    pub reversal_under_way : (b : Bool) (q : ℕ) (act : Act) → (track_of end b).walk ≡ Turn q act → under_way c.posts b accepted ≡ true
     pub not_under_way : (b : Bool) → (track_of end b).walk ≡ Settled → under_way c.posts b accepted ≡ false
 
   -- ## Another order

@@ -98,8 +98,8 @@ numbers kind fault =
 abbrev never : List Bool
 never = false ∷ false ∷ false ∷ false ∷ false ∷ []
 
-abbrev of_atrain : List Bool
-of_atrain = false ∷ true ∷ true ∷ false ∷ false ∷ []
+abbrev of_a_train : List Bool
+of_a_train = false ∷ true ∷ true ∷ false ∷ false ∷ []
 
 abbrev or_none : List Bool
 or_none = true ∷ true ∷ true ∷ false ∷ false ∷ []
@@ -115,16 +115,16 @@ pub numbers_by_kind :
     ∷ (numbers 2 0 gives zero_only)
     ∷ (numbers 3 0 gives zero_only)
     ∷ (numbers 4 0 gives zero_only)
-    ∷ (numbers 5 0 gives of_atrain)
-    ∷ (numbers 6 0 gives of_atrain)
-    ∷ (numbers 7 0 gives of_atrain)
+    ∷ (numbers 5 0 gives of_a_train)
+    ∷ (numbers 6 0 gives of_a_train)
+    ∷ (numbers 7 0 gives of_a_train)
     ∷ (numbers 8 0 gives zero_only)
     ∷ (numbers 9 0 gives zero_only)
     ∷ (numbers 10 1 gives zero_only)
     ∷ (numbers 11 1 gives zero_only)
     ∷ (numbers 12 0 gives or_none)
     ∷ (numbers 13 0 gives zero_only)
-    ∷ (numbers 14 0 gives of_atrain)
+    ∷ (numbers 14 0 gives of_a_train)
     ∷ (numbers 255 0 gives never)
     ∷ [])
 unfolding fits

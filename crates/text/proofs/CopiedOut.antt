@@ -1,5 +1,5 @@
 -- A text that was copied to the front of a buffer: what the answer tells of it, and what stands in the buffer.
-use Prim.Native.Nat.{ℕ, ◌-◌, ◌≤◌, ◌<◌}
+use Prim.Native.Nat.{ℕ, ◌-◌, ◌≤◌}
 use mathlib.Core.Path.{◌≡◌, refl, sym, ◌∙◌}
 use mathlib.Core.Bool.{Bool, true, false, cond}
 use mathlib.Core.List.{List}
@@ -9,7 +9,7 @@ use lib.ListN.{length, take, drop, length-append}
 use lib.Seq.{take-append_seam, length-take-le}
 use borrow.Author.Tests.{ltb-false, le-ltb}
 use Rattle.section.specs.declared.Outcome.{Outcome}
-use Rattle.section.specs.declared.Outcome.TheVariants.{Done, Malformed, Refused}
+use Rattle.section.specs.declared.Outcome.TheVariants.{Done, Refused}
 use Rattle.section.specs.Outcome.{if_done}
 use Rattle.section.proofs.Outcomes.{refused_not_done, same_figure}
 use Rattle.text.specs.Copied.{copied, copied_out}

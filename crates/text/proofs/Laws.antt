@@ -46,6 +46,14 @@ part_copied l s part at h e =
     let p : part ≡ s = e ∙ filled s (take (at + length s - at) (drop at l)) n in
     rw (p, k, drop-drop)
 
+-- a text that fills a part of the buffer
+pub part_filled :
+    (l s part : List ℕ) (at : ℕ) → part ≡ s → take at l ++ (part ++ drop (at + length s - at) (drop at l)) ≡ written l at s
+unfolding written
+part_filled l s part at e =
+    let k : at + length s - at ≡ length s = add-sub_cancel_left at (length s) in
+    rw (e, k, drop-drop)
+
 -- the length stays
 pub written_length : (l : List ℕ) (at : ℕ) (s : List ℕ) → at + length s ≤ length l → length (written l at s) ≡ length l
 unfolding written

@@ -20,18 +20,19 @@ pub fn put_byte(buffer: &mut [u8], at: usize, byte: u8) -> usize
 }
 
 // Writes a text, and returns the next place.
-#[tactic(auto, using(crate::proofs::Laws::part_copied))]
+#[tactic(auto, using(crate::proofs::Laws::part_filled))]
 pub fn put_text(buffer: &mut [u8], at: usize, text: &[u8]) -> usize
     requires { at + length text.now ≤ length buffer.old }
     ensures value { result ≡ at + length text.now }
     ensures buffer_after { buffer.new ≡ written buffer.old at text.now }
 {
     let end = at + text.len();
-    bytes::copy(text, &mut buffer[at..end]);
+    buffer[at..end].copy_from_slice(text);
     end
 }
 
 // Writes a number of at most so many digits, and returns the next place.
+#[tactic(auto, using(crate::proofs::Laws::room_for_digit))]
 fn put_digits(buffer: &mut [u8], at: usize, most: usize, x: usize) -> usize
     requires { at + most ≤ length buffer.old }
     ensures value { result ≡ at + length (decimal_digits most x) }
