@@ -1,6 +1,6 @@
 -- A field that has a largest value m, in a kind that has it (`one`), may have it (`zero-too`) or has it not. Above m no test of the field passes, at 0
 -- it passes in the kinds that need not have it, and from 1 to m in those that may.
-use Prim.Native.Nat.{ℕ, zero, suc, ◌<◌, ◌≤◌}
+use Prim.Native.Nat.{ℕ, ◌<◌, ◌≤◌}
 use mathlib.Core.Bool.{Bool, true, false, not, ◌||◌, cond}
 use mathlib.Core.Path.{◌≡◌, refl}
 use native.Mathlib.Omega.{arith}
