@@ -1,7 +1,6 @@
 -- A named number and a number put one after the other are the line.
 use Rattle.std.proofs.Common.{arith}
 use Rattle.text.specs.Text.{ascii}
-use Rattle.text.proofs.Laws.{written_length}
 use Rattle.lines.proofs.Puts.{named_length, named_then}
 use Rattle.lines.specs.Lines.{refused_line}
 use Rattle.lines.proofs.put_refused.Goals as goal

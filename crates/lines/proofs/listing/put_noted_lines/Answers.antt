@@ -1,4 +1,4 @@
-use Rattle.std.proofs.Common.{arith, ◌≡◌, refl}
+use Rattle.std.proofs.Common.{arith, refl}
 use Rattle.text.proofs.Laws.{none_put, one_more_put}
 use Rattle.lines.proofs.listing.Laws.{line_of, one_more_fits, note_part, note_length_lem}
 use Rattle.lines.proofs.listing.put_noted_lines.Goals as goal
@@ -26,8 +26,7 @@ loop-i-preserved c =
         omega (arith, c.loop-i.invariant.1.0, c.put_noted-next.auto),
         one_more_put (line_of c.args.notes.now) c.args.buffer.now _ _ c.args.at c.loop-i.i _ _
             (omega (arith, fits))
-            c.loop-i.invariant.1.1
-            (
+            c.loop-i.invariant.1.1 (
               rw (note_part c.args.notes.now c.loop-i.i) at c.put_noted-next.ensures.value,
               rw (note_part c.args.notes.now c.loop-i.i) at c.put_noted-next.ensures.buffer_after,
             ),
