@@ -115,7 +115,9 @@ def respelled(path, text, names, fields):
     for line in text.split("\n"):
         before, comment = split_comment(path, line)
         new = re.sub(WORD, lambda m: word(m, before), before)
+        # prose has dashes too: there a lemma's name stands between backticks
         new_comment = re.sub(WORD, lambda m: here.get(m.group(0), m.group(0)) if is_camel(m.group(0)) else m.group(0), comment)
+        new_comment = re.sub(r"`(" + WORD + r")`", lambda m: "`" + here.get(m.group(1), m.group(1)) + "`", new_comment)
         lines.append(new + new_comment)
     return "\n".join(lines)
 

@@ -1,4 +1,4 @@
--- Files in plain words: what a railway reads off the statements of RoundTrip.antt, each drawn from them alone (`files-in-plain-words`,
+-- Files in plain words: what a railway reads off the statements of RoundTrip.antt, each drawn from them alone (`files_in_plain_words`,
 -- proofs/FilesInPlainWords.antt).
 use Rattle.std.specs.Prelude.{ℕ, ◌≤◌, List, ◌≡◌, length}
 use Rattle.section.specs.declared.Outcome.TheVariants.{Done}

@@ -1,5 +1,5 @@
 -- A step tried first, in plain words: what a tester reads off the three statements of Preview.antt, each drawn from them alone
--- (`preview-in-plain-words`, proofs/PreviewInPlainWords.antt).
+-- (`preview_in_plain_words`, proofs/PreviewInPlainWords.antt).
 use Rattle.std.specs.Prelude.{ℕ, List, map, ◌≡◌, get_or}
 use Rattle.section.specs.declared.Section.{Section}
 use Rattle.rules.specs.Indications.{dark, indications}

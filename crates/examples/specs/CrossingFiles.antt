@@ -1,4 +1,4 @@
--- Files with level crossings (document 02, request 1), as a table. `crossing-files` (proofs/CrossingFiles.antt) proves it.
+-- Files with level crossings (document 02, request 1), as a table. `crossing_files_lem` (proofs/CrossingFiles.antt) proves it.
 use Rattle.std.specs.Prelude.{ℕ, List, [], ◌∷◌, ◌++◌, length}
 use Rattle.rules.proofs.Rows.{Row, ◌gives◌}
 use Rattle.examples.specs.Marked.{reading}

@@ -1,4 +1,4 @@
--- The ten marked instances of document 01 ("Marked instances"), as one table. `marked-instances` (proofs/Marked.antt) proves it.
+-- The ten marked instances of document 01 ("Marked instances"), as one table. `marked_instances` (proofs/Marked.antt) proves it.
 use Rattle.std.specs.Prelude.{ℕ, ◌-◌, List, [], ◌∷◌, length, get_or}
 use Rattle.section.specs.declared.Fault.TheVariants.{Two}
 use Rattle.section.specs.declared.Section.{Section}

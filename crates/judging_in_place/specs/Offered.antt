@@ -20,7 +20,7 @@ unfoldable pub offered_of : List ℕ → ℕ → List (List ℕ)
 offered_of steps zero = []
 offered_of steps (suc i) = offered_of steps i ++ (step_at steps i ∷ [])
 
--- so the theorems over lists hold along them (`steps-are-offered`, proofs/Laws.antt)
+-- so the theorems over lists hold along them (`steps_are_offered`, proofs/Laws.antt)
 abbrev pub StepsAreOffered : Type 0
 StepsAreOffered = (first : Section) (steps : List ℕ) (i : ℕ) → section_before first steps i ≡ state_after first (offered_of steps i)
 

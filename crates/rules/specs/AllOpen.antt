@@ -1,5 +1,5 @@
 -- "Every post is in service." (document 01): so a search over open posts ends at the next one, and what lies ahead, the next post of the walk and
--- the post before a lamp are the neighbours. `all-open-as-before` (proofs/AllOpen.antt) proves it.
+-- the post before a lamp are the neighbours. `all_open_as_before` (proofs/AllOpen.antt) proves it.
 use Rattle.std.specs.Prelude.{ℕ, zero, suc, ◌-◌, ◌<◌, Bool, false, cond, not, ◌&&◌, ◌≡◌, ltb}
 use Rattle.section.specs.Crossings.{lies_in, lacks_zones}
 use Rattle.section.specs.Numbers.{most_crossings}

@@ -1,5 +1,5 @@
 -- "Cells past post n−1 or block section n−2 are neither tested nor changed.": of every section, reachable or not, in range or not, and all
--- bytes. `cells-past-kept` (proofs/CellsKept.antt) and `cells-past-not-tested` (proofs/CellsNotTested.antt) prove it.
+-- bytes. `cells_past_kept` (proofs/CellsKept.antt) and `cells_past_not_tested` (proofs/CellsNotTested.antt) prove it.
 use Rattle.std.specs.Prelude.{ℕ, suc, ◌≤◌, ◌<◌, Bool, ◌≡◌, List, get_or, length}
 use Rattle.section.specs.declared.Section.{Section}
 use Rattle.section.specs.declared.Track.{Track}

@@ -1,5 +1,5 @@
 -- Demand 3 in plain words (docs/SAFETY.md, "In plain words"): a record for each of its points, in the bytes of steps and the cells of tracks.
--- `in-plain-words` (proofs/InPlainWords.antt) draws them from the statement `Demand3` alone, and every clause of that statement is used by one of
+-- `in_plain_words` (proofs/InPlainWords.antt) draws them from the statement `Demand3` alone, and every clause of that statement is used by one of
 -- them: where a clause is dropped or says less, one of these falls.
 use Rattle.std.specs.Prelude.{ℕ, suc, ◌+◌, ◌-◌, ◌*◌, ◌<◌, Bool, true, false, cond, ◌&&◌, ◌≡◌, ◌⊎◌, ◌≢◌, get_or, length, take, eqb, leb}
 use mathlib.Core.List.{List, [], ◌∷◌, ◌++◌, map, Memᴰ}

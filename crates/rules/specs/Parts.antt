@@ -1,5 +1,5 @@
 -- "Telephone lines keep the earlier rule." (document 02, request 3): there the part is the block section ahead, and every post but the
--- receiving end commands one. `telephone-keeps-the-rule` (proofs/Parts.antt) proves it.
+-- receiving end commands one. `telephone_keeps_the_rule` (proofs/Parts.antt) proves it.
 use Rattle.std.specs.Prelude.{ℕ, ◌<◌, false, not, ◌&&◌, ◌≡◌, List, get_or}
 use Rattle.rules.specs.declared.Line.{Line}
 use Rattle.rules.specs.declared.Site.{Site}

@@ -1,7 +1,7 @@
 -- "The reply "Voie occupée" of art. 928 is never said: the announcer has seen the same block section free. This is proved for every state
 -- reached from a fresh section." Request 3 of document 02: "For an announcement by such a post" (one without signals), "the signalled post
 -- before has seen the section free in its stead, and it still is." For well-formed settings c and every list, refused and malformed steps
--- included. `voie-occupee-never-said` (proofs/VoieOccupee.antt) proves it.
+-- included. `voie_occupee_never_said` (proofs/VoieOccupee.antt) proves it.
 use Rattle.std.specs.Prelude.{ℕ, suc, ◌-◌, ◌≤◌, ◌<◌, Bool, true, false, ◌≡◌, List, get_or}
 use Rattle.section.specs.declared.Settings.{Settings}
 use Rattle.section.specs.declared.Section.{Section}

@@ -1,4 +1,4 @@
--- Calls in plain words: what a tester reads off the statements of Calls.antt, each drawn from them alone (`calls-in-plain-words`,
+-- Calls in plain words: what a tester reads off the statements of Calls.antt, each drawn from them alone (`calls_in_plain_words`,
 -- proofs/CallsInPlainWords.antt).
 use Rattle.std.specs.Prelude.{ℕ, ◌+◌, ◌*◌, ◌≤◌, ◌<◌, Bool, true, List, ◌++◌, ◌≡◌, length}
 use Rattle.section.specs.declared.Outcome.TheVariants.{Done}

@@ -1,4 +1,4 @@
--- A step and its bytes, in plain words. `step-in-plain-words` (proofs/StepInPlainWords.antt) draws each from the statements of RoundTrip alone, and
+-- A step and its bytes, in plain words. `step_in_plain_words` (proofs/StepInPlainWords.antt) draws each from the statements of RoundTrip alone, and
 -- each of those is used by one.
 use Rattle.std.specs.Prelude.{ℕ, ◌≤◌, ◌<◌, ◌≡◌, Bool, true, List, length, get_or}
 use Rattle.section.specs.declared.Decoded.TheVariants.{Well, Malformed}
