@@ -11,8 +11,8 @@ abbrev pub invariant-loop-i : goal.invariant-loop-i
 invariant-loop-i l =
     (l.i ≤ l.count)
     × ((length l.notes ≡ length l.fn.notes)
-    × ((l.state ≡ section_before (fresh_section l.c) l.steps l.i)
-    × (l.notes ≡ written l.fn.notes 0 (first_texts (entry_on Notes (fresh_section l.c) l.steps) l.i))))
+    × ((l.state ≡ section_before (fresh_section l.fn.c) l.steps l.i)
+    × (l.notes ≡ written l.fn.notes 0 (first_texts (entry_on Notes (fresh_section l.fn.c) l.steps) l.i))))
 
 abbrev pub decreases-loop-i : goal.decreases-loop-i
 decreases-loop-i l = l.count - l.i
