@@ -2,17 +2,13 @@
 -- what is written, so the whole of it is written back.
 use Prim.Native.Nat.{ℕ}
 use mathlib.Core.Bool.{true, false}
-use mathlib.Core.List.{List, [], ◌∷◌}
-use mathlib.Core.Path.{◌≡◌, sym, ◌∙◌, ap}
-use denote.Enum.Declared.{tag_of}
-use types.Run.{OneOf}
+use mathlib.Core.List.{List}
+use mathlib.Core.Path.{◌≡◌, refl, sym, ◌∙◌, ap}
 use lib.ListN.{length}
 use Rattle.section.specs.declared.Outcome.{Outcome}
-use Rattle.section.specs.declared.Outcome.TheVariants.{Done, Refused}
+use Rattle.section.specs.declared.Outcome.TheVariants.{Done, Malformed, Refused}
 use Rattle.section.specs.declared.Section.{Section}
 use Rattle.section.specs.Outcome.{if_done}
-use Rattle.section.specs.contracts.Outcome.{the_type}
-use Rattle.section.proofs.Outcomes.{refused_so}
 use Rattle.text.specs.Text.{written}
 use Rattle.packed.specs.Packed.{packed_outcome}
 use Rattle.image.specs.Image.{image_of, image_well_formed, section_of}
@@ -20,6 +16,13 @@ use Rattle.image.proofs.Laws.{well_formed_length, whole_written}
 use Rattle.run.specs.declared.RunAnswer.{RunAnswer}
 use Rattle.run.specs.Run.{outcome_of, run_of, answers_after}
 use Rattle.capi_run.specs.Run.{run_outcome, run_image, run_answers}
+
+-- what a call that is not done leaves
+not_done_so : {A : Type 0} (outcome : Outcome) (one other : A) → ((k : ℕ) → outcome ≡ Done k → ⊥) → if_done outcome one other ≡ other
+unfolding if_done
+not_done_so (Done figure) one other left = absurd (left figure refl)
+not_done_so (Malformed index) one other left = refl
+not_done_so (Refused number) one other left = refl
 
 module _ (image steps buffer : List ℕ) where
   -- the answer, and the image and the buffer afterwards
@@ -56,6 +59,6 @@ module _ (image steps buffer : List ℕ) where
       (rw (← outcome_is, o) (ew ∙ (whole_written image a.section (well_formed_length image e) ∙ ap image_of section_is)), answers_are),
     )
 
-    pub refused : OneOf (1 ∷ 2 ∷ []) (tag_of the_type a.outcome) → Ran n image answers
+    pub refused : ((k : ℕ) → a.outcome ≡ Done k → ⊥) → Ran n image answers
     unfolding run_image
-    refused left = (told, (rw (← outcome_is) (sym (refused_so a.outcome _ image left)), answers_are))
+    refused left = (told, (rw (← outcome_is) (sym (not_done_so a.outcome _ image left)), answers_are))
