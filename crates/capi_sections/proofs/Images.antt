@@ -1,5 +1,5 @@
 -- The answers of the calls over a section's image, each by the branch that led to it: what a branch has tested decides the definition's `cond`.
-use Prim.Native.Nat.{ℕ, ◌*◌, ◌≤◌}
+use Prim.Native.Nat.{ℕ, ◌*◌}
 use mathlib.Core.Bool.{true, false}
 use mathlib.Core.List.{List}
 use mathlib.Core.Path.{◌≡◌, ◌∙◌}
@@ -9,7 +9,6 @@ use lib.Dec.{ltb}
 use Rattle.section.specs.declared.Answer.{Answer}
 use Rattle.section.specs.declared.Indications.{Indications}
 use Rattle.section.specs.declared.Said.{Said}
-use Rattle.section.specs.declared.Said.TheVariants.{Nothing, Cvt, Cvtz, Vns, Vnsz}
 use Rattle.section.specs.declared.Section.{Section}
 use Rattle.section.specs.declared.Settings.{Settings}
 use Rattle.section.specs.declared.Verdict.TheVariants.{Accepted, Refused}
