@@ -1,15 +1,11 @@
 -- What is made of a file is what is printed of it, so it fits the room for the longest panel.
 use Prim.Native.Nat.{ℕ, ◌≤◌}
-use mathlib.Core.Path.{◌≡◌, refl, sym, ◌∙◌, ap}
-use mathlib.Core.List.{List, [], ◌∷◌}
+use mathlib.Core.Path.{◌≡◌, refl, ◌∙◌}
+use mathlib.Core.List.{List}
 use native.Mathlib.Omega.{arith}
-use denote.Enum.Declared.{tag_of}
-use types.Run.{OneOf}
 use lib.ListN.{length}
 use Rattle.section.specs.declared.Outcome.{Outcome}
-use Rattle.section.specs.Outcome.{if_done}
-use Rattle.section.specs.contracts.Outcome.{the_type}
-use Rattle.section.proofs.Outcomes.{refused_so}
+use Rattle.section.specs.declared.Outcome.TheVariants.{Done}
 use Rattle.text.specs.Copied.{copied}
 use Rattle.text.proofs.CopiedOut.{copied_whole}
 use Rattle.layout.specs.Layout.{most_steps}
@@ -31,8 +27,5 @@ pub fits_the_panels_room : (sheet : Sheet) (file : List ℕ) → length (printed
 fits_the_panels_room sheet file = omega (arith, printed_fits sheet file, most_room sheet)
 
 -- a text that fits is copied
-pub never_refused : (t b : List ℕ) (r : Outcome) → r ≡ copied t b → length t ≤ length b → OneOf (1 ∷ 2 ∷ []) (tag_of the_type r) → ⊥
-unfolding if_done
-never_refused t b r e fits left =
-    let z : ◌≡◌ {A = ℕ} 0 1 = sym (ap (λ (o : Outcome). if_done o 0 1) (e ∙ copied_whole t b fits)) ∙ refused_so r 0 1 left in
-    omega arith
+pub never_refused : (t b : List ℕ) (r : Outcome) → r ≡ copied t b → length t ≤ length b → ((k : ℕ) → r ≡ Done k → ⊥) → ⊥
+never_refused t b r e fits left = left (length t) (e ∙ copied_whole t b fits)

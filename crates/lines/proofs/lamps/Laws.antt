@@ -1,7 +1,7 @@
 -- The table has room. What is printed are the entries of the constant: each is the rule's, and they are as many.
 use Prim.Native.Nat.{ℕ, ◌*◌, ◌≤◌}
-use mathlib.Core.List.{List, [], ◌∷◌, ◌++◌}
-use mathlib.Core.Path.{◌≡◌, sym, ◌∙◌, ap}
+use mathlib.Core.List.{[], ◌∷◌, ◌++◌}
+use mathlib.Core.Path.{sym, ◌∙◌, ap}
 use lib.ListN.{length, get_or}
 use Rattle.section.proofs.Items.{items_length, item_at}
 use Rattle.text.specs.Text.{decimal, first_texts}

@@ -7,7 +7,6 @@ use native.Mathlib.Omega.{arith}
 use native.Mathlib.Nat.{mul-suc, mul-le-mul_left}
 use lib.ListN.{length, take, drop, length-drop, length-append}
 use lib.Seq.{length-take-le, take-length}
-use Rattle.section.specs.declared.Answer.{Answer}
 use Rattle.section.specs.declared.Outcome.{Outcome}
 use Rattle.section.specs.declared.Outcome.TheVariants.{Done, Malformed, Refused}
 use Rattle.section.specs.declared.Section.{Section}
