@@ -81,7 +81,7 @@ fn place(part: &[u8], at: usize, buffer: &mut [u8])
     ensures { buffer.new ≡ take at buffer.old ++ (part.now ++ drop (at + length part.now) buffer.old) }
 {
     let end = at + part.len();
-    bytes::copy(part, &mut buffer[at..end]);
+    buffer[at..end].copy_from_slice(part);
 }
 
 // Puts the file at the front of the buffer.
