@@ -2,8 +2,16 @@
 // NAME.panel, and compares what the library makes of the day with what is stored.
 
 #![tactic(auto)]
+
+ghost use Rattle.std.specs.Prelude.{IfSome};
+ghost use Rattle.streams.specs.LiesIn.{IsPrefixLen};
+
 use agreement::{agrees, sheet_room};
 use listing::sheets::Sheet;
+use std::env::{Env, FillError};
+use std::io::{Read, Stderr, Stdout};
+use std::rt::Files;
+use std::{fs, str};
 
 // What running a stored day shows.
 #[derive(Clone, Copy)]
@@ -24,24 +32,54 @@ fn differs(day: Day) -> bool {
     }
 }
 
-// Opens the file whose name has this ending, and answers a descriptor, or -1; so too for a name that does not fit the buffer for a path.
-fn open(name: &[u8], ending: &[u8]) -> i32 {
+// Opens the file whose name has this ending, or answers nothing; so too for a name that does not fit the buffer for a path or is not UTF-8.
+fn open<R: Files>(files: &R, name: &[u8], ending: &[u8]) -> Option<R::File> {
     if name.len() > 4000 {
-        return -1;
+        return None;
     }
     if ending.len() > 90 {
-        return -1;
+        return None;
     }
-    let mut path = io::buffer();
+    let mut path = [0; 4096];
     let dot = text::put_text(&mut path, 0, name);
     let end = text::put_text(&mut path, dot, ending);
-    os::open_read(&path[0..end])
+    let Ok(path) = str::from_utf8(&path[0..end]) else {
+        return None;
+    };
+    fs::open(files, path).ok()
 }
 
-fn open_sheet(name: &[u8], sheet: Sheet) -> i32 {
+// Reads until the buffer is full, the file ends or a read fails, and answers how many bytes stand at the buffer's front.
+fn read_full<F: Read>(file: &mut F, buffer: &mut [u8]) -> usize
+    ensures { IsPrefixLen result buffer.new }
+{
+    let mut done = 0;
+    while done < buffer.len() {
+        let Ok(more) = file.read(&mut buffer[done..]) else {
+            break;
+        };
+        if more == 0 {
+            break;
+        }
+        done += more;
+    }
+    done
+}
+
+// Reads the file whose name has this ending, and closes it. A read that fails cuts the bytes short. No answer: it cannot be opened.
+fn read_file<R: Files>(files: &R, name: &[u8], ending: &[u8], buffer: &mut [u8]) -> Option<usize>
+    ensures { IfSome result (λ n. IsPrefixLen n buffer.new) }
+{
+    let mut file = open(files, name, ending)?;
+    Some(read_full(&mut file, buffer))
+}
+
+fn read_sheet<R: Files>(files: &R, name: &[u8], sheet: Sheet, buffer: &mut [u8]) -> Option<usize>
+    ensures { IfSome result (λ n. IsPrefixLen n buffer.new) }
+{
     match sheet {
-        Sheet::Listing => open(name, b".listing"),
-        Sheet::Panel => open(name, b".panel"),
+        Sheet::Listing => read_file(files, name, b".listing", buffer),
+        Sheet::Panel => read_file(files, name, b".panel", buffer),
     }
 }
 
@@ -54,14 +92,11 @@ fn difference_in(sheet: Sheet) -> Day {
 
 // Compares the stored listing or panel with what is made of the file. A read that fails cuts the
 // stored bytes short, so that they differ.
-fn compare_sheet(name: &[u8], sheet: Sheet, file: &[u8]) -> Day {
-    let descriptor = open_sheet(name, sheet);
-    if descriptor < 0 {
-        return Day::NotRead;
-    }
+fn compare_sheet<R: Files>(files: &R, name: &[u8], sheet: Sheet, file: &[u8]) -> Day {
     let mut stored = sheet_room();
-    let length = io::read_full(descriptor, &mut stored);
-    libc::close(descriptor);
+    let Some(length) = read_sheet(files, name, sheet, &mut stored) else {
+        return Day::NotRead;
+    };
     if agrees(sheet, file, &stored[0..length]) {
         return Day::Agrees;
     }
@@ -69,73 +104,82 @@ fn compare_sheet(name: &[u8], sheet: Sheet, file: &[u8]) -> Day {
 }
 
 // The panel is looked at where the listing agrees.
-fn compare_file(name: &[u8], file: &[u8]) -> Day {
-    let day = compare_sheet(name, Sheet::Listing, file);
+fn compare_file<R: Files>(files: &R, name: &[u8], file: &[u8]) -> Day {
+    let day = compare_sheet(files, name, Sheet::Listing, file);
     if differs(day) {
         return day;
     }
-    compare_sheet(name, Sheet::Panel, file)
+    compare_sheet(files, name, Sheet::Panel, file)
 }
 
-fn run(name: &[u8]) -> Day {
-    let descriptor = open(name, b".day");
-    if descriptor < 0 {
-        return Day::NotRead;
-    }
+fn run<R: Files>(files: &R, name: &[u8]) -> Day {
     let mut file = listing::file_room();
-    let length = io::read_full(descriptor, &mut file);
-    libc::close(descriptor);
-    compare_file(name, &file[0..length])
+    let Some(length) = read_file(files, name, b".day", &mut file) else {
+        return Day::NotRead;
+    };
+    compare_file(files, name, &file[0..length])
 }
 
 // Writes a text, if all before it was written, and answers whether all is written now.
-fn write(written: bool, text: &[u8]) -> bool {
-    streams::write_whole(written, text, b"days: cannot write standard output")
+fn write(stdout: Stdout, stderr: Stderr, written: bool, text: &[u8]) -> bool {
+    let failure = b"days: cannot write standard output";
+    streams::write_whole(stdout, stderr, written, text, failure)
 }
 
-fn write_line(written: bool, name: &[u8], what: &[u8]) -> bool {
-    let named = write(written, name);
-    write(named, what)
+fn write_line(stdout: Stdout, stderr: Stderr, written: bool, name: &[u8], what: &[u8]) -> bool {
+    let named = write(stdout, stderr, written, name);
+    write(stdout, stderr, named, what)
 }
 
-fn write_number(written: bool, number: u64) -> bool {
-    let mut digits = [0u8; 20];
-    let length = io::decimal(number, &mut digits);
-    write(written, &digits[..length])
+fn write_number(stdout: Stdout, stderr: Stderr, written: bool, number: u64) -> bool {
+    let mut digits = itoa::Buffer::new();
+    write(stdout, stderr, written, digits.format(number).as_bytes())
 }
 
 // Writes the line of a day that differs.
-fn report(written: bool, name: &[u8], day: Day) -> bool {
+fn report(stdout: Stdout, stderr: Stderr, written: bool, name: &[u8], day: Day) -> bool {
     match day {
         Day::Agrees => written,
-        Day::NotRead => write_line(written, name, b": cannot be read\n"),
-        Day::ListingDiffers => write_line(written, name, b": listing differs\n"),
-        Day::PanelDiffers => write_line(written, name, b": panel differs\n"),
+        Day::NotRead => write_line(stdout, stderr, written, name, b": cannot be read\n"),
+        Day::ListingDiffers => write_line(stdout, stderr, written, name, b": listing differs\n"),
+        Day::PanelDiffers => write_line(stdout, stderr, written, name, b": panel differs\n"),
     }
 }
 
 // Writes the last line.
-fn report_counts(written: bool, days: u64, differ: u64) -> bool {
-    let counted = write_number(written, days);
-    let named = write(counted, b" days, ");
-    let compared = write_number(named, differ);
-    write(compared, b" differ\n")
+fn report_counts(stdout: Stdout, stderr: Stderr, written: bool, days: u64, differ: u64) -> bool {
+    let counted = write_number(stdout, stderr, written, days);
+    let named = write(stdout, stderr, counted, b" days, ");
+    let compared = write_number(stdout, stderr, named, differ);
+    write(stdout, stderr, compared, b" differ\n")
 }
 
-fn main() {
-    let count = os::arg_count();
+// Puts an argument at the buffer's front, and answers its length, 0 for one that does not fit; no answer past the last argument.
+fn argument<R: Env>(env: &R, i: usize, buffer: &mut [u8]) -> Option<usize>
+    ensures { IfSome result (λ n. IsPrefixLen n buffer.new) }
+{
+    match env.arg(i, buffer) {
+        Ok(length) => Some(length),
+        Err(FillError::TooLong) => Some(0),
+        Err(FillError::NotPresent) => None,
+    }
+}
+
+fn main(rt: HostRuntime) {
     let mut days: u64 = 0;
     let mut differ: u64 = 0;
     let mut written = true;
-    for i in 1..count {
-        let mut name = io::buffer();
-        let length = os::arg(i, &mut name);
-        let day = run(&name[0..length]);
-        written = report(written, &name[0..length], day);
+    for i in 1..usize::MAX {
+        let mut name = [0; 4096];
+        let Some(length) = argument(&rt, i, &mut name) else {
+            break;
+        };
+        let day = run(&rt, &name[0..length]);
+        written = report(rt.stdout(), rt.stderr(), written, &name[0..length], day);
         days += 1;
         if differs(day) {
             differ += 1;
         }
     }
-    report_counts(written, days, differ);
+    report_counts(rt.stdout(), rt.stderr(), written, days, differ);
 }

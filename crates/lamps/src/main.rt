@@ -1,10 +1,12 @@
 // Prints the lamp table for panel builders: 256 entries, one decimal number a line.
 
 #![tactic(auto)]
+
 use lines::lamps::{TABLE_ROOM, put_table};
 
-fn main() {
+fn main(rt: HostRuntime) {
     let mut text = [0; TABLE_ROOM];
     let n = put_table(&mut text);
-    streams::write_whole(true, &text[..n], b"lamps: cannot write standard output");
+    let failure = b"lamps: cannot write standard output";
+    streams::write_whole(rt.stdout(), rt.stderr(), true, &text[..n], failure);
 }

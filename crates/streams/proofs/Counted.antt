@@ -1,14 +1,8 @@
 -- A count within a buffer.
-use Prim.Native.Nat.{ℕ, ◌-◌, ◌≤◌}
-use mathlib.Core.Path.{◌≡◌, sym}
-use mathlib.Core.List.{List}
-use native.Mathlib.Omega.{arith}
-use lib.ListN.{length, take, drop, length-drop, length-take}
-use lib.Seq.{length-take-le}
+use Rattle.std.proofs.Common.{◌≡◌, sym, ℕ, ◌-◌, ◌≤◌, List, length, take, drop, length-take, length-drop, length-take-le, arith}
 use Rattle.streams.specs.declared.Input.{Input}
 use Rattle.streams.specs.declared.Input.TheVariants.{Bytes}
-use Rattle.streams.specs.LiesIn.{LiesIn}
-use Rattle.io.specs.Counts.{IsPrefixLen}
+use Rattle.streams.specs.LiesIn.{IsPrefixLen, LiesIn}
 
 pub counted : (n : ℕ) (buffer : List ℕ) → n ≤ length buffer → IsPrefixLen n buffer
 counted n buffer h = (h, sym (length-take-le n buffer h))

@@ -1,37 +1,41 @@
 // Standard input, read whole, and standard output, written whole.
 
 #![tactic(auto)]
+
 ghost use Rattle.std.specs.Prelude.{false, ◌≡◌};
 ghost use Rattle.streams.specs.LiesIn.{LiesIn};
 
-use libc::{STDIN_FILENO, STDOUT_FILENO};
+mod words;
 
-// What reading gave: so many bytes at the front of the buffer, or an error, which errno tells.
+use std::io;
+use std::io::{ErrorKind, Read, Stderr, Stdin, Stdout, Write};
+
+// What reading gave: so many bytes at the front of the buffer, or an error.
 #[derive(Clone, Copy)]
 pub enum Input {
     Bytes(usize),
-    Failed,
+    Failed(io::Error),
 }
 
 // Reads once. No bytes: the input has ended.
-fn read_once(rest: &mut [u8]) -> Input
+fn read_once(mut stdin: Stdin, rest: &mut [u8]) -> Input
     ensures { LiesIn result rest.new }
 {
-    let got = libc::read(STDIN_FILENO, rest);
-    if got < 0 {
-        return Input::Failed;
+    match stdin.read(rest) {
+        Ok(got) => Input::Bytes(got),
+        Err(error) => Input::Failed(error),
     }
-    Input::Bytes(io::count(got, rest))
 }
 
 // Reads until the input ends or the buffer is full. No contract can say what the input holds: only that what is read is within the buffer.
-pub fn read_whole(buffer: &mut [u8]) -> Input
+pub fn read_whole(stdin: Stdin, buffer: &mut [u8]) -> Input
     ensures { LiesIn result buffer.new }
 {
     let mut done = 0;
     while done < buffer.len() {
-        let Input::Bytes(more) = read_once(&mut buffer[done..]) else {
-            return Input::Failed;
+        let more = match read_once(stdin, &mut buffer[done..]) {
+            Input::Bytes(more) => more,
+            Input::Failed(error) => return Input::Failed(error),
         };
         if more == 0 {
             break;
@@ -41,16 +45,40 @@ pub fn read_whole(buffer: &mut [u8]) -> Input
     Input::Bytes(done)
 }
 
+// Writes a line to standard error: what failed, as the caller names it, a colon and the system's words. Where standard error cannot be written
+// either, nobody is left to be told.
+pub fn fail(mut stderr: Stderr, what: &[u8], error: io::Error) {
+    let words = words::words_of(error);
+    let _ = stderr.write_all(what);
+    let _ = stderr.write_all(b": ");
+    let _ = stderr.write_all(words.as_bytes());
+    let _ = stderr.write_all(b"\n");
+}
+
+// Tells a failed write, but for a pipe that nobody reads any more.
+fn fail_to_write(stderr: Stderr, what: &[u8], error: io::Error) {
+    if error.kind() != ErrorKind::BrokenPipe {
+        fail(stderr, what, error);
+    }
+}
+
 // Writes the text, if all before it was written, and answers whether all is written now. A failure is told on standard error, in the words of the
-// caller and of errno, and told once: after it nothing is written. No contract can say what is written: only that a failure stays one.
-pub fn write_whole(written: bool, text: &[u8], failure: &[u8]) -> bool
+// caller and of the system, and told once: after it nothing is written. A pipe that nobody reads any more is a failure too, of which no line is
+// written. No contract can say what is written: only that a failure stays one.
+pub fn write_whole(
+    mut stdout: Stdout,
+    stderr: Stderr,
+    written: bool,
+    text: &[u8],
+    failure: &[u8],
+) -> bool
     ensures { written ≡ false → result ≡ false }
 {
     if written {
-        if io::write_all(STDOUT_FILENO, text) {
-            return true;
+        match stdout.write_all(text) {
+            Ok(()) => return true,
+            Err(error) => fail_to_write(stderr, failure, error),
         }
-        os::fail(failure);
     }
     false
 }
