@@ -1,4 +1,6 @@
 // Compares two posts' books, whose names are its arguments, and prints the answer in words.
+
+#![tactic(auto)]
 ghost use Rattle.streams.specs.LiesIn.{LiesIn};
 
 use libc::STDERR_FILENO;

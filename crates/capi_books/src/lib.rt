@@ -1,5 +1,7 @@
 // The C interface to two posts' books side by side: for test rigs, and for the comparison with a second implementation.
 // It is not stable: names and packed numbers may change with any delivery.
+
+#![tactic(auto)]
 ghost use Rattle.std.specs.Prelude.{◌≡◌};
 ghost use Rattle.registers.specs.Books.{comparison};
 ghost use Rattle.capi_books.specs.Packed.{packed_comparison};
@@ -8,6 +10,7 @@ use registers::Comparison;
 use registers::numbers::{finding_of, place_of, refusal_number, which_of};
 
 // An answer in one number.
+#[tactic(auto, unfolding(crate::specs::Packed::packed_comparison))]
 fn packed_comparison(answer: Comparison) -> u64
     ensures { result ≡ packed_comparison answer }
 {

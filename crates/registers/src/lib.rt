@@ -1,5 +1,7 @@
 // Two posts' books side by side: malformed records, where their lists differ, and the clock offset.
 
+#![tactic(auto)]
+
 pub mod numbers;
 pub mod words;
 
@@ -29,7 +31,7 @@ pub const SECOND: u8 = 1;
 const WIDE: u64 = 4294967296;
 
 // A record of a book.
-#[derive(Drop)]
+#[derive(Clone, Copy)]
 pub struct Entry {
     pub announcement: u8,
     pub direction: u8,
@@ -39,7 +41,7 @@ pub struct Entry {
 }
 
 // What two books say. A clock offset is given with 120 added, from 0 to 240.
-#[derive(Drop)]
+#[derive(Clone, Copy)]
 pub enum Comparison {
     Matched { offset: u8 },
     NoOffset,
@@ -48,13 +50,14 @@ pub enum Comparison {
 }
 
 // Two lists walked through: the least and most travel of a message, or the index where they differ.
-#[derive(Drop)]
+#[derive(Clone, Copy)]
 enum Walked {
     Same { least: u64, most: u64 },
     Different { index: usize },
 }
 
 // Record i.
+#[tactic(auto, unfolding(crate::specs::Books::entry_at))]
 fn entry_at(book: &[u8], i: usize) -> Entry
     requires { i * record_length + record_length ≤ length book.now }
     ensures { result ≡ entry_at book.now i }
@@ -70,6 +73,7 @@ fn entry_at(book: &[u8], i: usize) -> Entry
 }
 
 // Whether a record is well formed after one of an earlier second.
+#[tactic(auto, unfolding(crate::specs::Books::entry_well_formed, section::specs::Bytes::within))]
 fn entry_well_formed(earlier: u32, e: Entry) -> bool
     ensures { result ≡ entry_well_formed earlier e }
 {
@@ -95,6 +99,7 @@ fn entry_well_formed(earlier: u32, e: Entry) -> bool
 }
 
 // The index of the first malformed record, or the number of records where none is. An incomplete record follows the whole ones, and is malformed.
+#[tactic(auto, using(section::proofs::Told::told_true, section::proofs::Told::told_false, file_tests::proofs::Laws::leading_is, crate::proofs::Records::earlier_next, crate::proofs::Records::well_here, crate::proofs::Records::incomplete), unfolding(crate::specs::Books::earlier_at, crate::specs::Books::first_malformed, layout::specs::Layout::step_count))]
 fn first_malformed(book: &[u8]) -> usize
     ensures { result ≡ first_malformed book.now }
 {
@@ -116,6 +121,7 @@ fn first_malformed(book: &[u8]) -> usize
 }
 
 // Whether two records say one message: its announcement and its track.
+#[tactic(auto, unfolding(crate::specs::Books::same_message))]
 fn same_message(a: Entry, b: Entry) -> bool
     ensures { result ≡ same_message a b }
 {
@@ -126,6 +132,7 @@ fn same_message(a: Entry, b: Entry) -> bool
 }
 
 // The first record of a direction from record i on, or the number of whole records where none is.
+#[tactic(auto, using(crate::proofs::Lists::going_other))]
 fn next_going(direction: u8, book: &[u8], i: usize) -> usize
     requires { i ≤ length book.now / record_length }
     ensures lower_bound { i ≤ result }
@@ -149,6 +156,7 @@ fn next_going(direction: u8, book: &[u8], i: usize) -> usize
 }
 
 // The seconds from a sending to its arrival, each by its own clock, with WIDE added.
+#[tactic(auto, unfolding(crate::specs::Walk::travel))]
 fn travel_of(a: Entry, b: Entry) -> u64
     ensures { result ≡ travel a b }
 {
@@ -157,6 +165,7 @@ fn travel_of(a: Entry, b: Entry) -> u64
     received + WIDE - sent
 }
 
+#[tactic(auto, unfolding(crate::specs::Walk::lesser))]
 fn lesser_of(a: u64, b: u64) -> u64
     ensures { result ≡ lesser a b }
 {
@@ -166,6 +175,7 @@ fn lesser_of(a: u64, b: u64) -> u64
     b
 }
 
+#[tactic(auto, unfolding(crate::specs::Walk::greater))]
 fn greater_of(a: u64, b: u64) -> u64
     ensures { result ≡ greater a b }
 {
@@ -176,6 +186,7 @@ fn greater_of(a: u64, b: u64) -> u64
 }
 
 // What one book sent beside what the other received.
+#[tactic(auto, using(section::proofs::Told::told_true, section::proofs::Told::told_false, crate::proofs::Walks::both_end, crate::proofs::Walks::sender_ends, crate::proofs::Walks::receiver_ends, crate::proofs::Walks::unlike, crate::proofs::Walks::alike))]
 fn walk(sender: &[u8], receiver: &[u8]) -> Walked
     ensures { result ≡ walked 0 (wide + wide) 0 (going_from sent_mark sender.now 0) (going_from received_mark receiver.now 0) }
 {
@@ -224,6 +235,7 @@ fn excess(a: u64, b: u64) -> u64
 }
 
 // The lower end of the offsets that the first book's least travel and the second's most allow.
+#[tactic(auto, unfolding(crate::specs::Walk::lower_end))]
 fn lower_end(least: u64, most: u64) -> u64
     ensures { result ≡ lower_end least most }
 {
@@ -234,6 +246,7 @@ fn lower_end(least: u64, most: u64) -> u64
 }
 
 // The smallest offset for the least and most travel of what the first book sent, and of what the second sent.
+#[tactic(auto, unfolding(crate::specs::Walk::offset_within, crate::specs::Walk::none_left))]
 fn offset_within(least0: u64, most0: u64, least1: u64, most1: u64) -> Comparison
     ensures { result ≡ offset_within least0 most0 least1 most1 }
 {
@@ -251,6 +264,7 @@ fn offset_within(least0: u64, most0: u64, least1: u64, most1: u64) -> Comparison
 }
 
 // The answer of two walks: over what the first book sent, and over what the second sent.
+#[tactic(auto, unfolding(crate::specs::Walk::answer_of))]
 fn answer_of(one: Walked, other: Walked) -> Comparison
     ensures { result ≡ answer_of one other }
 {
@@ -276,6 +290,7 @@ fn answer_of(one: Walked, other: Walked) -> Comparison
 }
 
 // Two posts' books side by side.
+#[tactic(auto, using(crate::proofs::Answer::some_malformed_lem, crate::proofs::Answer::none_malformed, crate::proofs::Answer::malformed_first, crate::proofs::Answer::malformed_second, crate::proofs::Answer::compared))]
 pub fn compare(first: &[u8], second: &[u8]) -> Comparison
     ensures { result ≡ comparison first.now second.now }
 {

@@ -7,6 +7,7 @@ use crate::Comparison;
 pub const MALFORMED_RECORD: u8 = 24;
 
 // The refusal, 0 for none.
+#[tactic(auto, unfolding(crate::specs::Answers::refusal_number))]
 pub fn refusal_number(answer: Comparison) -> u8
     ensures { result ≡ refusal_number answer }
 {
@@ -19,6 +20,7 @@ pub fn refusal_number(answer: Comparison) -> u8
 }
 
 // What is found where nothing is refused: 0 an offset, 1 no offset, 2 a difference.
+#[tactic(auto, unfolding(crate::specs::Answers::finding))]
 pub fn finding_of(answer: Comparison) -> u8
     ensures { result ≡ finding answer }
 {
@@ -31,6 +33,7 @@ pub fn finding_of(answer: Comparison) -> u8
 }
 
 // The offset, with 120 added, the pair or the book.
+#[tactic(auto, unfolding(crate::specs::Answers::which))]
 pub fn which_of(answer: Comparison) -> u8
     ensures { result ≡ which answer }
 {
@@ -43,6 +46,7 @@ pub fn which_of(answer: Comparison) -> u8
 }
 
 // The index of a difference or of a malformed record.
+#[tactic(auto, unfolding(crate::specs::Answers::place))]
 pub fn place_of(answer: Comparison) -> usize
     ensures { result ≡ place answer }
 {

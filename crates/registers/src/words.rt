@@ -11,6 +11,7 @@ pub const ANSWER_ROOM: usize = 64;
 const ZERO_OFFSET: u8 = 120;
 
 // Writes a phrase, a number and the end of the line, and returns their length.
+#[tactic(auto, using(crate::proofs::words::Laws::room_for_end, crate::proofs::words::Laws::line_put))]
 fn put_line(buffer: &mut [u8], phrase: &[u8], x: usize) -> usize
     requires { length phrase.now + 6 ≤ length buffer.old }
     ensures value { result ≡ length (line phrase.now x) }
@@ -21,6 +22,7 @@ fn put_line(buffer: &mut [u8], phrase: &[u8], x: usize) -> usize
     text::put_byte(buffer, end, b'\n')
 }
 
+#[tactic(auto, unfolding(crate::specs::Words::offset_line))]
 fn put_offset(buffer: &mut [u8], offset: u8) -> usize
     requires { answer_room ≤ length buffer.old }
     ensures value { result ≡ length (offset_line offset) }
@@ -40,6 +42,7 @@ fn put_offset(buffer: &mut [u8], offset: u8) -> usize
     )
 }
 
+#[tactic(auto, unfolding(crate::specs::Words::difference_line))]
 fn put_difference(buffer: &mut [u8], pair: u8, index: usize) -> usize
     requires { answer_room ≤ length buffer.old }
     ensures value { result ≡ length (difference_line pair index) }
@@ -59,6 +62,7 @@ fn put_difference(buffer: &mut [u8], pair: u8, index: usize) -> usize
     )
 }
 
+#[tactic(auto, using(crate::proofs::words::Laws::refused_first, crate::proofs::words::Laws::refused_second))]
 fn put_malformed(buffer: &mut [u8], book: u8, index: usize) -> usize
     requires { answer_room ≤ length buffer.old }
     ensures value { result ≡ length (malformed_line book index) }
@@ -71,6 +75,7 @@ fn put_malformed(buffer: &mut [u8], book: u8, index: usize) -> usize
 }
 
 // Writes the line of an answer at the buffer's front, and returns its length.
+#[tactic(auto, unfolding(crate::specs::Words::answer_line))]
 pub fn put_answer(buffer: &mut [u8], answer: Comparison) -> usize
     requires { answer_room ≤ length buffer.old }
     ensures value { result ≡ length (answer_line answer) }
