@@ -3,8 +3,7 @@
 use mathlib.Core.Path.{◌≡◌, refl, sym, ◌∙◌, ap}
 use mathlib.Core.Bool.{Bool, true, false, not, cond, ◌||◌, true≢false}
 use mathlib.Core.List.{List}
-use Prim.Native.Nat.{ℕ, zero, suc, ◌+◌, ◌/◌, ◌<◌, ◌≤◌}
-use lib.ListN.{length}
+use Prim.Native.Nat.{ℕ, zero, suc, ◌<◌, ◌≤◌}
 use native.Mathlib.Nat.{not-suc-le-zero}
 use native.Mathlib.Omega.{arith}
 use lib.Dec.{ltb}
@@ -14,8 +13,8 @@ use Rattle.file_tests.specs.Tests.{leading}
 use Rattle.file_tests.proofs.Laws.{all_pass}
 use Rattle.registers.specs.declared.Comparison.{Comparison}
 use Rattle.registers.specs.declared.Comparison.TheVariants.{Matched, NoOffset, Differs, Malformed}
-use Rattle.registers.specs.Books.{well_at, first_malformed, some_malformed, entries_from, going, entries, sent, received, same_list, first_difference}
-use Rattle.registers.specs.Books.{all_arrive, fits, smallest_offset, offset_answer, match_answer, comparison}
+use Rattle.registers.specs.Books.{well_at, first_malformed, some_malformed, sent, received, same_list, first_difference}
+use Rattle.registers.specs.Books.{fits, smallest_offset, offset_answer, match_answer, comparison}
 use Rattle.registers.specs.Answers.{refusal_number}
 use Rattle.registers.specs.Walk.{lower_end, none_left, offset_within}
 use Rattle.registers.specs.Promises.{RefusedWith24, FirstSuch, FirstBookFirst, SmallestOffset, NoneFits, OnlyIfNoneExists, Intersection}
