@@ -3,7 +3,8 @@
 
 usage, in a checkout that has that commit in its history and tools/respell.py:
     python3 tools/turn_edits.py rounds COMMIT FOLDER    makes FOLDER/round0, round1, ..: clones of COMMIT with edits applied, those of
-                                                        one clone on lines that are apart from one another, then runs port.py in each
+                                                        one clone on lines that are apart from one another, with the crates that
+                                                        these rest on, then runs port.py in each
     python3 tools/turn_edits.py write COMMIT FOLDER TURNED
                                                         TURNED is a checkout of COMMIT after port.py (committed, HEAD~1) and respell.py
                                                         (HEAD). Respells each round with TURNED's names and writes crates/*/must-fail/*.edit
@@ -54,6 +55,17 @@ HAND = {
         ("requires { known ≡ true → well_formed n s.now ≡ true }", "requires { known ≡ false → well_formed n s.now ≡ true }"),
         ("ghost use Rattle.std.specs.Prelude.{true, ", "ghost use Rattle.std.specs.Prelude.{true, false, "),
     ],
+    "rules/set_keeps_the_caution_form.edit": [
+        (
+            "effect (Set p) e = setting e e.own",
+            "effect (Set p) e = record { own = cautioned e.own.caution (setting e e.own).own; walk = (setting e e.own).walk; cvt = (setting e e.own).cvt; train = Stays; said = Nothing }",
+        ),
+    ],
+    "rules/troncon_of_the_block_section_of_the_same_number.edit": [
+        ("  occupied = watched_occupied c e trains;", "  occupied = not (eqb (get_or trains e.post 0) 0);"),
+        ("List, eqb, ltb}", "List, get_or, eqb, ltb}"),
+    ],
+    "rules/the_end_is_the_same_on_a_only.edit": [("Performs s done [] end = s ≡ end", "Performs s done [] end = s.a ≡ end.a")],
     "rules/a_step_stores_the_record_of_the_next_post.edit": [
         ("    posts = set t.posts e.post (effect x e).own;", "    posts = set t.posts (suc e.post) (effect x e).own;"),
         ("use Rattle.std.specs.Prelude.{ℕ, ", "use Rattle.std.specs.Prelude.{ℕ, suc, "),
@@ -138,15 +150,35 @@ def plan(folder):
     return rounds
 
 
+def below(folder, crates):
+    """These crates and all that they rest on, by crates.txt."""
+    rests = {}
+    for line in read(os.path.join(folder, "crates.txt")).split("\n"):
+        words = line.split("#")[0].split()
+        if words:
+            name = words[0].rstrip(":")
+            rests[name] = [w for w in words[1:] if "=" not in w]
+    todo, out = list(crates), set()
+    while todo:
+        c = todo.pop()
+        if c in rests and c not in out:
+            out.add(c)
+            todo += rests[c]
+    return out
+
+
 def make_rounds(commit, folder):
     folder = os.path.abspath(folder)
     os.makedirs(folder, exist_ok=True)
     base = os.path.join(folder, "base")
-    git(".", "clone", "-q", ".", base)
-    git(base, "checkout", "-q", commit)
+    if not os.path.isdir(base):
+        git(".", "clone", "-q", ".", base)
+        git(base, "checkout", "-q", commit)
     runs = []
     for k, r in enumerate(plan(base)):
         to = os.path.join(folder, "round%d" % k)
+        if os.path.isdir(to):
+            continue
         git(".", "clone", "-q", ".", to)
         git(to, "checkout", "-q", commit)
         texts = {}
@@ -159,6 +191,14 @@ def make_rounds(commit, folder):
         for full, lines in texts.items():
             with open(os.path.join(to, full), "w", encoding="utf-8") as f:
                 f.write("\n".join(lines))
+        keep = below(to, {e[0] for e in r})
+        gone = [c for c in os.listdir(os.path.join(to, "crates")) if c not in keep]
+        if gone:
+            git(to, "rm", "-rqf", *["crates/" + c for c in gone])
+            with open(os.path.join(to, "crates.txt"), encoding="utf-8") as f:
+                lines = [l for l in f if not l.strip() or l.startswith("#") or l.split(":")[0].split()[0] in keep]
+            with open(os.path.join(to, "crates.txt"), "w", encoding="utf-8") as f:
+                f.write("".join(lines))
         git(to, "-c", "user.name=r", "-c", "user.email=r@r", "commit", "-qam", "edits of round %d" % k)
         print("round %d: %d edits" % (k, len(r)), flush=True)
         runs.append((to, k))
@@ -303,15 +343,15 @@ def write_edits(commit, folder, turned):
     for k, r in enumerate(plan(base)):
         to = os.path.join(folder, "round%d" % k)
         log = os.path.join(folder, "port%d.log" % k)
-        if not os.path.exists(log) or "paths changed" not in read(log):
-            print("round %d is not turned" % k)
-            continue
+        is_turned = os.path.exists(log) and "paths changed" in read(log)
+        if not is_turned:
+            print("round %d is not turned: word for word" % k)
         files = {}
         for crate, name, full, pairs, at in r:
             files.setdefault(full, []).append((crate, name, pairs, at))
         for full, those in sorted(files.items()):
             before = read(os.path.join(turned, full))
-            after = it["respelled"](full, read(os.path.join(to, full)), names, fields)
+            after = it["respelled"](full, read(os.path.join(to, full)), names, fields) if is_turned else before
             a, b = before.split("\n"), after.split("\n")
             old_lines = read(os.path.join(base, full)).split("\n")
             found = [h for h in hunks(a, b) if not any(is_import(l) for l in a[h[0] : h[1]] + b[h[2] : h[3]])]

@@ -15,7 +15,7 @@ use rules::{Line, Site};
 use section::{Fault, Post};
 use site::ruling::{Ruling, keeping};
 
-#[tactic(auto, using(site::proofs::Row::none, site::proofs::Row::then, site::proofs::Row::accepted, site::proofs::Row::refused), unfolding(rules::specs::Table::checks, rules::specs::Table::effect))]
+#[tactic(auto, using(site::proofs::Row::none, site::proofs::Row::then, site::proofs::Row::accepted, site::proofs::Row::refused), unfolding(site::specs::Ruling::ruling_of, rules::specs::Table::checks, rules::specs::Table::effect))]
 pub fn measures_on(e: Site) -> Ruling
     ensures { (c : Line) → result ≡ ruling_at c false (MeasuresOn e.post) e [] [] }
 {
@@ -26,7 +26,7 @@ pub fn measures_on(e: Site) -> Ruling
     Ruling::Accepted(keeping(e, own.measured(true)))
 }
 
-#[tactic(auto, using(site::proofs::Row::none, site::proofs::Row::then, site::proofs::Row::accepted, site::proofs::Row::refused), unfolding(rules::specs::Table::checks, rules::specs::Table::effect))]
+#[tactic(auto, using(site::proofs::Row::none, site::proofs::Row::then, site::proofs::Row::accepted, site::proofs::Row::refused), unfolding(site::specs::Ruling::ruling_of, rules::specs::Table::checks, rules::specs::Table::effect))]
 pub fn measures_off(e: Site) -> Ruling
     ensures { (c : Line) → result ≡ ruling_at c false (MeasuresOff e.post) e [] [] }
 {
@@ -40,7 +40,7 @@ pub fn measures_off(e: Site) -> Ruling
     Ruling::Accepted(keeping(e, own.measured(false)))
 }
 
-#[tactic(auto, using(section::proofs::Told::told, site::proofs::Row::none, site::proofs::Row::then, site::proofs::Row::accepted, site::proofs::Row::refused), unfolding(rules::specs::Table::checks, rules::specs::Table::effect))]
+#[tactic(auto, using(section::proofs::Told::told, site::proofs::Row::none, site::proofs::Row::then, site::proofs::Row::accepted, site::proofs::Row::refused), unfolding(site::specs::Ruling::ruling_of, rules::specs::Table::checks, rules::specs::Table::effect))]
 pub fn fault_on(e: Site, fault: Fault) -> Ruling
     ensures { (c : Line) → result ≡ ruling_at c false (FaultOn e.post fault) e [] [] }
 {
@@ -63,7 +63,7 @@ fn without_fault(own: Post, fault: Fault) -> Post
     }
 }
 
-#[tactic(auto, using(section::proofs::Told::told_false, section::proofs::Told::told_true, site::proofs::Row::none, site::proofs::Row::then, site::proofs::Row::accepted, site::proofs::Row::refused), unfolding(rules::specs::Table::checks, rules::specs::Table::effect))]
+#[tactic(auto, using(section::proofs::Told::told_false, section::proofs::Told::told_true, site::proofs::Row::none, site::proofs::Row::then, site::proofs::Row::accepted, site::proofs::Row::refused), unfolding(site::specs::Ruling::ruling_of, rules::specs::Table::checks, rules::specs::Table::effect))]
 pub fn fault_off(e: Site, fault: Fault) -> Ruling
     ensures { (c : Line) → result ≡ ruling_at c false (FaultOff e.post fault) e [] [] }
 {
@@ -74,7 +74,7 @@ pub fn fault_off(e: Site, fault: Fault) -> Ruling
     Ruling::Accepted(keeping(e, without_fault(own, fault)))
 }
 
-#[tactic(auto, using(section::proofs::Told::told_false, section::proofs::Told::told_true, site::proofs::Row::none, site::proofs::Row::then, site::proofs::Row::accepted, site::proofs::Row::refused), unfolding(rules::specs::Table::checks, rules::specs::Table::effect))]
+#[tactic(auto, using(section::proofs::Told::told_false, section::proofs::Told::told_true, site::proofs::Row::none, site::proofs::Row::then, site::proofs::Row::accepted, site::proofs::Row::refused), unfolding(site::specs::Ruling::ruling_of, rules::specs::Table::checks, rules::specs::Table::effect))]
 pub fn caution(c: Line, e: Site, number: u16) -> Ruling
     requires { OnTheLine c e }
     ensures { result ≡ ruling_at c false (Caution e.post number) e [] [] }

@@ -14,7 +14,7 @@ use Rattle.section.specs.Range.{walk_in_range}
 use Rattle.section.proofs.Laws.{and_left, and_right, turn_right, announce_right}
 use Rattle.rules.specs.declared.Line.{Line}
 use Rattle.rules.specs.declared.Site.{Site}
-use Rattle.rules.specs.Site.{is_turn, up_at, rank_at, at_receiving_end, next_post}
+use Rattle.rules.specs.Site.{is_turn, up_at, rank_at, next_post}
 use Rattle.rules.specs.AllOpen.{next_post_before}
 use Rattle.rules.proofs.AllOpen.{all_open_as_before}
 use Rattle.site.specs.OnTheLine.{OnTheLine, HasAhead}

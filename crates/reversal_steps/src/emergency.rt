@@ -14,7 +14,7 @@ use site::conditions::{fault1_confirmed, is_turn, measures_suffice, release_in_t
 use site::ends::commands;
 use site::ruling::{Ruling, keeping};
 
-#[tactic(auto, using(section::proofs::Told::told_true, rules::proofs::Parts::commands_not_last, site::proofs::Row::none, site::proofs::Row::accepted, site::proofs::Row::unless, site::proofs::Row::unless_equal, site::proofs::Row::when), unfolding(rules::specs::Table::checks, rules::specs::Site::occupancy_at, rules::specs::Site::last_entered, rules::specs::Table::effect))]
+#[tactic(auto, using(section::proofs::Told::told_true, rules::proofs::Parts::commands_not_last, site::proofs::Row::none, site::proofs::Row::accepted, site::proofs::Row::unless, site::proofs::Row::unless_equal, site::proofs::Row::when), unfolding(site::specs::Ruling::ruling_of, rules::specs::Table::checks, rules::specs::Site::occupancy_at, rules::specs::Site::last_entered, rules::specs::Table::effect))]
 pub fn release(c: Line, e: Site, number: u16, trains: &Trains, last: &Trains) -> Ruling
     requires { OnTheLine c e }
     ensures { result ≡ ruling_at c false (Release e.post number) e trains.now last.now }
@@ -38,7 +38,7 @@ pub fn release(c: Line, e: Site, number: u16, trains: &Trains, last: &Trains) ->
     Ruling::Accepted(keeping(e, own.marked(true)))
 }
 
-#[tactic(auto, using(site::proofs::Row::none, site::proofs::Row::accepted, site::proofs::Row::unless, site::proofs::Row::when), unfolding(rules::specs::Table::checks, rules::specs::Site::occupancy_at, rules::specs::Table::effect))]
+#[tactic(auto, using(site::proofs::Row::none, site::proofs::Row::accepted, site::proofs::Row::unless, site::proofs::Row::when), unfolding(site::specs::Ruling::ruling_of, rules::specs::Table::checks, rules::specs::Site::occupancy_at, rules::specs::Table::effect))]
 pub fn key(c: Line, e: Site, trains: &Trains) -> Ruling
     requires { InItsRanges c e }
     ensures { result ≡ ruling_at c false (Key e.post) e trains.now [] }

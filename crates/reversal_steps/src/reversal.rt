@@ -14,7 +14,7 @@ use site::conditions::{fault1_confirmed, is_settled, is_turn, measures_suffice, 
 use site::place::at_sending_end;
 use site::ruling::Ruling;
 
-#[tactic(auto, using(site::proofs::Row::none, site::proofs::Row::accepted, site::proofs::Row::unless, site::proofs::Row::when), unfolding(rules::specs::Table::checks, rules::specs::Site::occupancy_at, rules::specs::Table::effect))]
+#[tactic(auto, using(site::proofs::Row::none, site::proofs::Row::accepted, site::proofs::Row::unless, site::proofs::Row::when), unfolding(site::specs::Ruling::ruling_of, rules::specs::Table::checks, rules::specs::Site::occupancy_at, rules::specs::Table::effect))]
 pub fn order(c: Line, e: Site, other_on_vns: bool, trains: &Trains) -> Ruling
     requires { OnTheLine c e }
     ensures { result ≡ ruling_at c other_on_vns (Order e.post) e trains.now [] }
@@ -41,7 +41,7 @@ pub fn order(c: Line, e: Site, other_on_vns: bool, trains: &Trains) -> Ruling
     ))
 }
 
-#[tactic(auto, using(site::proofs::Row::none, site::proofs::Row::accepted, site::proofs::Row::unless, site::proofs::Row::when), unfolding(rules::specs::Table::checks, rules::specs::Site::occupancy_at, rules::specs::Table::effect))]
+#[tactic(auto, using(site::proofs::Row::none, site::proofs::Row::accepted, site::proofs::Row::unless, site::proofs::Row::when), unfolding(site::specs::Ruling::ruling_of, rules::specs::Table::checks, rules::specs::Site::occupancy_at, rules::specs::Table::effect))]
 pub fn set(c: Line, e: Site, trains: &Trains) -> Ruling
     requires { OnTheLine c e }
     ensures { result ≡ ruling_at c false (Set e.post) e trains.now [] }
@@ -66,7 +66,7 @@ pub fn set(c: Line, e: Site, trains: &Trains) -> Ruling
     Ruling::Accepted(setting(c, e, own))
 }
 
-#[tactic(auto, using(section::proofs::Told::told_false, section::proofs::Told::told_true, site::proofs::Row::none, site::proofs::Row::then, site::proofs::Row::accepted, site::proofs::Row::refused, crate::proofs::Ahead::announce_ahead), unfolding(rules::specs::Table::checks, rules::specs::Table::effect))]
+#[tactic(auto, using(section::proofs::Told::told_false, section::proofs::Told::told_true, site::proofs::Row::none, site::proofs::Row::then, site::proofs::Row::accepted, site::proofs::Row::refused, crate::proofs::Ahead::announce_ahead), unfolding(site::specs::Ruling::ruling_of, rules::specs::Table::checks, rules::specs::Table::effect))]
 pub fn announce(c: Line, e: Site) -> Ruling
     requires { InItsRanges c e }
     ensures { result ≡ ruling_at c false (Announce e.post) e [] [] }
@@ -81,7 +81,7 @@ pub fn announce(c: Line, e: Site) -> Ruling
 }
 
 // On any line.
-#[tactic(auto, using(section::proofs::Told::told_false, section::proofs::Told::told_true, site::proofs::Row::none, site::proofs::Row::then, site::proofs::Row::accepted, site::proofs::Row::refused), unfolding(rules::specs::Table::checks, rules::specs::Table::effect))]
+#[tactic(auto, using(section::proofs::Told::told_false, section::proofs::Told::told_true, site::proofs::Row::none, site::proofs::Row::then, site::proofs::Row::accepted, site::proofs::Row::refused), unfolding(site::specs::Ruling::ruling_of, rules::specs::Table::checks, rules::specs::Table::effect))]
 pub fn acknowledge(e: Site) -> Ruling
     ensures { (c : Line) → result ≡ ruling_at c false (Acknowledge e.post) e [] [] }
 {

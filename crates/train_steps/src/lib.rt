@@ -19,7 +19,7 @@ use site::ruling::Ruling;
 
 mod movement;
 
-#[tactic(auto, using(section::proofs::Told::told_true, site::proofs::place::Laws::sending_not_receiving, site::proofs::place::Laws::has_ahead, site::proofs::Row::none, site::proofs::Row::accepted, site::proofs::Row::unless, site::proofs::Row::when, crate::proofs::Moved::moved), unfolding(rules::specs::Table::checks, rules::specs::Site::occupancy_at, section::specs::Step::number_of, rules::specs::Table::effect, rules::specs::Table::cells_after))]
+#[tactic(auto, using(section::proofs::Told::told_true, site::proofs::place::Laws::sending_not_receiving, site::proofs::place::Laws::has_ahead, site::proofs::Row::none, site::proofs::Row::accepted, site::proofs::Row::unless, site::proofs::Row::when, crate::proofs::Moved::moved), unfolding(site::specs::Ruling::ruling_of, rules::specs::Table::checks, rules::specs::Site::occupancy_at, section::specs::Step::number_of, rules::specs::Table::effect, rules::specs::Table::cells_after))]
 pub fn start(c: Line, e: Site, number: u16, trains: &mut Trains, last: &mut Trains) -> Ruling
     requires { OnTheLine c e }
     ensures value { result ≡ ruling_at c false (Start e.post number) e trains.old [] }
@@ -55,7 +55,7 @@ pub fn start(c: Line, e: Site, number: u16, trains: &mut Trains, last: &mut Trai
     ))
 }
 
-#[tactic(auto, using(section::proofs::Told::told, site::proofs::place::Laws::has_ahead, site::proofs::place::Laws::has_before, site::proofs::Row::none, site::proofs::Row::accepted, site::proofs::Row::unless, site::proofs::Row::unless_equal, site::proofs::Row::when, crate::proofs::Moved::moved), unfolding(rules::specs::Table::checks, rules::specs::Site::occupancy_at, rules::specs::Table::effect, rules::specs::Table::cells_after))]
+#[tactic(auto, using(section::proofs::Told::told, site::proofs::place::Laws::has_ahead, site::proofs::place::Laws::has_before, site::proofs::Row::none, site::proofs::Row::accepted, site::proofs::Row::unless, site::proofs::Row::unless_equal, site::proofs::Row::when, crate::proofs::Moved::moved), unfolding(site::specs::Ruling::ruling_of, rules::specs::Table::checks, rules::specs::Site::occupancy_at, rules::specs::Table::effect, rules::specs::Table::cells_after))]
 pub fn pass(c: Line, e: Site, number: u16, trains: &mut Trains, last: &mut Trains) -> Ruling
     requires { OnTheLine c e }
     ensures value { result ≡ ruling_at c false (Pass e.post number) e trains.old [] }
@@ -82,7 +82,7 @@ pub fn pass(c: Line, e: Site, number: u16, trains: &mut Trains, last: &mut Train
 }
 
 // What it leaves of the last trains is what was there.
-#[tactic(auto, using(section::proofs::Told::told_true, site::proofs::place::Laws::receiving_not_sending, site::proofs::place::Laws::has_before, site::proofs::Row::none, site::proofs::Row::accepted, site::proofs::Row::unless, site::proofs::Row::unless_equal, crate::proofs::Moved::moved), unfolding(rules::specs::Table::checks, rules::specs::Site::occupancy_at, rules::specs::Table::effect, rules::specs::Table::cells_after))]
+#[tactic(auto, using(section::proofs::Told::told_true, site::proofs::place::Laws::receiving_not_sending, site::proofs::place::Laws::has_before, site::proofs::Row::none, site::proofs::Row::accepted, site::proofs::Row::unless, site::proofs::Row::unless_equal, crate::proofs::Moved::moved), unfolding(site::specs::Ruling::ruling_of, rules::specs::Table::checks, rules::specs::Site::occupancy_at, rules::specs::Table::effect, rules::specs::Table::cells_after))]
 pub fn leave(c: Line, e: Site, number: u16, trains: &mut Trains) -> Ruling
     requires { OnTheLine c e }
     ensures value { result ≡ ruling_at c false (Leave e.post number) e trains.old [] }
