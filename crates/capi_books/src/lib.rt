@@ -2,6 +2,7 @@
 // It is not stable: names and packed numbers may change with any delivery.
 
 #![tactic(auto)]
+
 ghost use Rattle.std.specs.Prelude.{◌≡◌};
 ghost use Rattle.registers.specs.Books.{comparison};
 ghost use Rattle.capi_books.specs.Packed.{packed_comparison};
