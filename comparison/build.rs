@@ -3,7 +3,7 @@
 use std::path::Path;
 use std::{env, process};
 
-const LIBRARIES: [&str; 7] = [
+const LIBRARIES: [&str; 8] = [
     "capi_files",
     "capi_sections",
     "capi_preview",
@@ -11,6 +11,7 @@ const LIBRARIES: [&str; 7] = [
     "capi_day",
     "capi_singly",
     "capi_run",
+    "capi_books",
 ];
 
 fn main() {

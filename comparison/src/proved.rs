@@ -1,5 +1,6 @@
 //! The C interface of the proved implementation. It takes settings in a day file's bytes.
 
+pub mod books;
 pub mod engine;
 pub mod files;
 pub mod listing;

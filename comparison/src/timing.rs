@@ -22,15 +22,20 @@ impl Times {
 }
 
 /// Each round times `calls` calls of the one, then of the other.
-pub fn alternate(
-    times: u64,
+pub fn alternate(times: u64, calls: u32, proved: impl FnMut(), second: impl FnMut()) -> Times {
+    in_rounds(ROUNDS * times, calls, proved, second)
+}
+
+/// The same, for calls of which fewer rounds are enough.
+pub fn in_rounds(
+    rounds: u64,
     calls: u32,
     mut proved: impl FnMut(),
     mut second: impl FnMut(),
 ) -> Times {
     let mut of_proved = Vec::new();
     let mut of_second = Vec::new();
-    for _ in 0..ROUNDS * times {
+    for _ in 0..rounds {
         of_proved.push(nanoseconds(calls, &mut proved));
         of_second.push(nanoseconds(calls, &mut second));
     }

@@ -1,5 +1,6 @@
 //! Seeded random settings, sections, steps and days, for tests and comparisons.
 
+use crate::books;
 use crate::dayfile::{self, Mark, GREATEST_LENGTH, MOST_STEPS, SETTINGS_LENGTH, TRAILER_LENGTH};
 use crate::engine;
 use crate::section::{
@@ -695,4 +696,69 @@ fn cell_near_end<'a>(rng: &mut Rng, file: &'a mut [u8], within: usize) -> Option
     let from_end = 1 + rng.below(reach as u64) as usize;
     let place = file.len() - from_end;
     Some(&mut file[place])
+}
+
+// Books.
+
+/// Two posts' books of a day. Mostly they match but for what `damage_books` does; delays and clocks
+/// are at times just inside or outside what is allowed.
+pub fn random_books(rng: &mut Rng) -> [Vec<u8>; 2] {
+    let offset = match rng.below(4) {
+        0 => rng.pick(&[-121, -120, -61, -60, 0, 60, 61, 119, 120, 121]),
+        1 => rng.between(0, 600) as i64 - 300,
+        _ => rng.between(0, 240) as i64 - 120,
+    };
+    let longest_delay = rng.pick(&[0, 1, 30, 60, 60, 60, 61, 70]);
+    let mut records = [Vec::new(), Vec::new()];
+    let mut second = rng.below(2_000) as i64;
+    for _ in 0..rng.pick(&[0, 1, 2, 5, 20, 60]) {
+        second += rng.pick(&[0, 1, 30, 60, 61, 500]);
+        let announcement = 1 + rng.below(4) as u8;
+        let track = rng.flag();
+        let delay = rng.between(0, longest_delay) as i64;
+        let sender = usize::from(rng.flag());
+        records[sender].push((second, [announcement, 0, track]));
+        records[1 - sender].push((second + delay, [announcement, 1, track]));
+    }
+    let [first, second] = records;
+    [book_of(first, 0), book_of(second, -offset)]
+}
+
+/// In the order of their times, on a clock that is so much ahead; as far as the day goes.
+fn book_of(mut records: Vec<(i64, [u8; 3])>, ahead: i64) -> Vec<u8> {
+    records.sort_by_key(|&(second, _)| second);
+    let last = i64::from(books::LAST_SECOND);
+    let bytes = records
+        .into_iter()
+        .map(|(second, [announcement, way, track])| {
+            let time = (second + ahead).clamp(0, last) as u32;
+            let [a, b, c, d] = time.to_le_bytes();
+            [announcement, way, track, 0, a, b, c, d]
+        });
+    bytes.collect::<Vec<_>>().concat()
+}
+
+/// Changes one of them in one place.
+pub fn damage_books(rng: &mut Rng, books: &mut [Vec<u8>; 2]) {
+    let book = &mut books[usize::from(rng.flag())];
+    let records = book.len() / books::RECORD_LENGTH;
+    if records == 0 {
+        book.extend_from_slice(&[1, rng.flag(), 0, 0, 5, 0, 0, 0]);
+        return;
+    }
+    let place = books::RECORD_LENGTH * rng.below(records as u64) as usize;
+    match rng.below(9) {
+        0 => book[place] = 1 + rng.below(4) as u8,
+        1 => book[place + 1] ^= 1,
+        2 => book[place + 2] ^= 1,
+        3 => book
+            .drain(place..place + books::RECORD_LENGTH)
+            .for_each(drop),
+        4 => book.truncate(book.len() - rng.between(1, 7)),
+        5 => book[place] = rng.pick(&[0, 5, 255]),
+        6 => book[place + rng.between(1, 3)] = 2 + rng.below(254) as u8,
+        7 => book[place + 4..place + 8]
+            .copy_from_slice(&rng.pick(&[0, 86_399, 86_400, u32::MAX]).to_le_bytes()),
+        _ => book[place + 4] = rng.byte(),
+    }
 }

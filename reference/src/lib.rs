@@ -1,7 +1,8 @@
 //! Direction blocking between two end stations: a second implementation, written from
-//! document 01, requests 1 to 6 of document 02 and the readings that AMBIGUITIES.md names as
+//! document 01, requests 1 to 6 and 9 of document 02 and the readings that AMBIGUITIES.md names as
 //! given beforehand.
 
+pub mod books;
 pub mod dayfile;
 pub mod engine;
 pub mod generate;
