@@ -66,20 +66,10 @@ fn read_full<F: Read>(file: &mut F, buffer: &mut [u8]) -> usize
     done
 }
 
-// Reads the file whose name has this ending, and closes it. A read that fails cuts the bytes short. No answer: it cannot be opened.
-fn read_file<R: Files>(files: &R, name: &[u8], ending: &[u8], buffer: &mut [u8]) -> Option<usize>
-    ensures { IfSome result (λ n. IsPrefixLen n buffer.new) }
-{
-    let mut file = open(files, name, ending)?;
-    Some(read_full(&mut file, buffer))
-}
-
-fn read_sheet<R: Files>(files: &R, name: &[u8], sheet: Sheet, buffer: &mut [u8]) -> Option<usize>
-    ensures { IfSome result (λ n. IsPrefixLen n buffer.new) }
-{
+fn open_sheet<R: Files>(files: &R, name: &[u8], sheet: Sheet) -> Option<R::File> {
     match sheet {
-        Sheet::Listing => read_file(files, name, b".listing", buffer),
-        Sheet::Panel => read_file(files, name, b".panel", buffer),
+        Sheet::Listing => open(files, name, b".listing"),
+        Sheet::Panel => open(files, name, b".panel"),
     }
 }
 
@@ -93,10 +83,11 @@ fn difference_in(sheet: Sheet) -> Day {
 // Compares the stored listing or panel with what is made of the file. A read that fails cuts the
 // stored bytes short, so that they differ.
 fn compare_sheet<R: Files>(files: &R, name: &[u8], sheet: Sheet, file: &[u8]) -> Day {
-    let mut stored = sheet_room();
-    let Some(length) = read_sheet(files, name, sheet, &mut stored) else {
+    let Some(mut descriptor) = open_sheet(files, name, sheet) else {
         return Day::NotRead;
     };
+    let mut stored = sheet_room();
+    let length = read_full(&mut descriptor, &mut stored);
     if agrees(sheet, file, &stored[0..length]) {
         return Day::Agrees;
     }
@@ -113,10 +104,11 @@ fn compare_file<R: Files>(files: &R, name: &[u8], file: &[u8]) -> Day {
 }
 
 fn run<R: Files>(files: &R, name: &[u8]) -> Day {
-    let mut file = listing::file_room();
-    let Some(length) = read_file(files, name, b".day", &mut file) else {
+    let Some(mut descriptor) = open(files, name, b".day") else {
         return Day::NotRead;
     };
+    let mut file = listing::file_room();
+    let length = read_full(&mut descriptor, &mut file);
     compare_file(files, name, &file[0..length])
 }
 
