@@ -17,7 +17,7 @@ returns-then-track-eq1 c =
     let a = c.args in
     let r = told c.in_range.ensures c.if-not-in_range.false in
     c.post_indications.ensures
-    ∙ on_track_is a.s a.track a.post true r (omega (arith, c.if-track-ge2.false)) (omega (arith, c.if-post-c.false))
+    ∙ on_track_is a.s a.track a.post true r (omega arith) (omega (arith, c.if-post-c.false))
     (eq-eqb _ _ c.if-track-eq1.true)
 
 pub post_indications-requires-2 : goal.post_indications-requires-2
@@ -31,5 +31,5 @@ returns c =
     let a = c.args in
     let r = told c.in_range.ensures c.if-not-in_range.false in
     c.post_indications-2.ensures
-    ∙ on_track_is a.s a.track a.post false r (omega (arith, c.if-track-ge2.false)) (omega (arith, c.if-post-c.false))
+    ∙ on_track_is a.s a.track a.post false r (omega arith) (omega (arith, c.if-post-c.false))
     (ne_eqb _ _ c.if-track-eq1.false)

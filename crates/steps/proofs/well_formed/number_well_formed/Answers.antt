@@ -1,5 +1,5 @@
 -- Up to the largest number, the set that was chosen has the kinds that may have it.
-use Rattle.std.proofs.Common.{ℕ, Bool, ◌||◌, inl, inr, refl, ◌≡◌, ◌∙◌, eqb}
+use Rattle.std.proofs.Common.{ℕ, Bool, ◌||◌, inl, inr, refl, ◌≡◌, ◌∙◌, eqb, arith}
 use Rattle.section.specs.Bytes.{within}
 use Rattle.section.specs.Items.{items}
 use Rattle.section.specs.Numbers.{largest_train, release_kind, caution_kind}
@@ -19,7 +19,7 @@ pub returns : goal.returns
 unfolding number_well_formed within items
 returns c =
     let pick =
-    chosen largest_train c.args.number for_a_train is_release refl refl c.requires c.if-number-gt-LARGEST_TRAIN.false
+    chosen largest_train c.args.number for_a_train is_release refl refl c.requires (omega arith)
     (λ (e : c.args.number ≡ 0). e) (λ (e : c.args.number ≡ 0 → ⊥). e) in
     elim c.if-number-eq0.branch [
       | then-number-eq0 w ↦ c.is_in.ensures ∙ pick (inl (w.if-number-eq0.true, w.set-is))
