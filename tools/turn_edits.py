@@ -21,7 +21,7 @@ import subprocess
 import sys
 
 LEFT_OUT = ("streams",)
-# Edits that change what a file imports, or that name a word of the old library in full.
+# Edits that change what a file imports, or that name a word of the old library in full; and one that kept no name.
 HAND = {
     "capi_day/incomplete_last_step_taken_for_none.edit": [
         ("(day_outcome (settings_of settings) steps (step_count steps) room)", "(day_outcome (settings_of settings) steps (whole_steps steps) room)"),
@@ -50,6 +50,10 @@ HAND = {
             "    (cond (ltb (first_malformed s.settings.posts steps) (length steps / 8)) (Malformed",
         ),
         ("{ℕ, ◌*◌, ", "{ℕ, ◌*◌, ◌/◌, "),
+    ],
+    # the constant keeps its name, which the proof of the function cites
+    "run/steps_4097_taken.edit": [
+        ("    if count > MOST_STEPS {", "    const MOST_STEPS: usize = 4097; if count > MOST_STEPS {"),
     ],
     "steps/known_steps_misread.edit": [
         ("requires { known ≡ true → well_formed n s.now ≡ true }", "requires { known ≡ false → well_formed n s.now ≡ true }"),
