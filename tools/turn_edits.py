@@ -82,7 +82,8 @@ HAND = {
         (", set, eqb}", ", set, get_or, eqb}"),
     ],
 }
-PORT = "/opt/rattle/port"
+# The kit's scripts, beside the page that `rt doc` names.
+PORT = os.path.join(os.path.dirname(subprocess.run(["rt", "doc"], capture_output=True, text=True, check=True).stdout.strip()), "port")
 APART = 3
 
 
