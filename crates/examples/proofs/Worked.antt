@@ -25,7 +25,8 @@ use Rattle.examples.specs.Worked.{settings, steps, day, worked_listing, worked_p
 unfoldable listing_of : List ℕ → List ℕ
 unfolding refused_line header verdict_fields fields step_line section_before answer_to lines printed_read printed listing first_texts word letter track_letter
     decimal_digits decimal
-    refusals fresh said_by read_of read_verdict refusal_number refusal_index told if_done length_wrong length_suits trailer_fits trailer_well_formed has_mark mark_of
+    refusals fresh said_by read_of read_verdict refusal_number refusal_index told if_done length_wrong length_suits trailer_fits
+    trailer_well_formed has_mark mark_of
     tail_in tail_of settings_well_formed zeros_well_formed some_malformed first_malformed leading well_at well_formed
     trailer_in settings_in steps_in from_end settings_of step_at le32_at le32
 listing_of file = listing file

@@ -12,7 +12,8 @@ use Rattle.section.specs.Numbers.{step_length}
 use Rattle.section.specs.Settings.{settings_in_range}
 use Rattle.section.specs.Step.{well_formed}
 use Rattle.section.proofs.Laws.{and_parts, and_right}
-use Rattle.layout.specs.Layout.{most_steps, settings_length, settings_distance, steps_distance, tail_of, step_count, trailer_in, tail_in, steps_in, settings_of, step_at}
+use Rattle.layout.specs.Layout.{most_steps, settings_length, settings_distance, steps_distance, step_count}
+use Rattle.layout.specs.Layout.{tail_of, trailer_in, tail_in, steps_in, settings_of, step_at}
 use Rattle.layout.proofs.Parts.{steps_length}
 use Rattle.file_tests.specs.Tests.{length_suits, trailer_well_formed, trailer_fits, zeros_well_formed, settings_well_formed}
 use Rattle.file_tests.specs.Tests.{leading, well_at, first_malformed, some_malformed}

@@ -253,7 +253,9 @@ module _ (s u : Section) (a : AgreeBelow s u) where
     unfolding section_after
     section_after_lem = record {
       settings = a.settings;
-      tracks = by_track (λ b. SameBelow n (track_of (section_after s x) b) (track_of (section_after u x) b)) true (track_after_lem true) (track_after_lem false);
+      tracks =
+          by_track (λ b. SameBelow n (track_of (section_after s x) b) (track_of (section_after u x) b)) true (track_after_lem true)
+          (track_after_lem false);
     }
 
     step_alike : AnsweredAlike (judge_step s x) (judge_step u x)

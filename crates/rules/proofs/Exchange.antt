@@ -51,7 +51,8 @@ module _ (c : Line) where
 module _ (c : Settings) where
   -- ## The tracks after a step
 
-  pub here_after : (s : Section) (b : Bool) (p : ℕ) (k : View) → track_of (section_after_step c s (on b p k)) b ≡ track_after_step (line c s) b p k (track_of s b)
+  pub here_after : (s : Section) (b : Bool) (p : ℕ) (k : View)
+      → track_of (section_after_step c s (on b p k)) b ≡ track_after_step (line c s) b p k (track_of s b)
   unfolding section_after_step
   here_after s false p k = refl
   here_after s true p k = refl

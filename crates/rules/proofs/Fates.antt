@@ -159,6 +159,8 @@ module _ (c : Settings) (n2 : 2 ≤ c.posts) (n16 : c.posts ≤ most_posts) wher
       in_turn_lem z (yes e) = subst (λ w. OneAfterAnother (runs_of b w ds)) (sym e) (rw m.none_zero tt)
       in_turn_lem z (no n) = follows_in_turn c n2 _ _ z (runs_of b z ds) (m.follows z n)
 
-      keeps : (i : ℕ) → suc i < c.posts → Dec (get_or (track_of s b).trains i 0 ≡ 0) → (get_or (track_of s b).trains i 0 ≡ 0) ⊎ TrainThere c b (track_of s b) ds i
+      keeps : (i : ℕ) → suc i < c.posts → Dec (get_or (track_of s b).trains i 0 ≡ 0)
+          → (get_or (track_of s b).trains i 0 ≡ 0) ⊎ TrainThere c b (track_of s b) ds i
       keeps i h (yes e) = inl e
-      keeps i h (no n) = inr (follows_there c n2 b (track_of s b) ds i (get_or (track_of s b).trains i 0) h refl (m.follows (get_or (track_of s b).trains i 0) n))
+      keeps i h (no n) =
+          inr (follows_there c n2 b (track_of s b) ds i (get_or (track_of s b).trains i 0) h refl (m.follows (get_or (track_of s b).trains i 0) n))

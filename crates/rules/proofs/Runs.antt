@@ -107,7 +107,8 @@ module _ (c : Settings) (n2 : 2 ≤ c.posts) where
         → Follows up g y (note_motion pass p runs)
     moved_follows p q ny ep t (off_track h a) = absurd (h q (omega (arith, t.inside)) t.before)
     moved_follows p q ny ep t (on_track m earlier e h x u a) =
-        on_track (suc m) earlier (ap (note_motion pass p) e ∙ ap (λ v. record { from = from; passed = in_turn c from m ++ v ∷ []; left = none } ∷ earlier) there)
+        on_track (suc m) earlier
+        (ap (note_motion pass p) e ∙ ap (λ v. record { from = from; passed = in_turn c from m ++ v ∷ []; left = none } ∷ earlier) there)
         (omega (arith, t.inside, at)) (rw (← at) t.entered) only a
       where
         from : ℕ

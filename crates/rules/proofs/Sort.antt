@@ -67,7 +67,8 @@ module _ (c : Line) where
   pub data Does (v b : Bool) (t : Track) (p q : ℕ) (k : View) : Type 0 where
     moves_on : (m : Motion) (z : ℕ) → k ≡ runs m z → onward m ≡ true → rank_on c b t.cvt p < rank_on c b t.cvt q → Does v b t p q k
     notes_condition : (n : Condition) → k ≡ notes n → Does v b t p q k
-    acts_in_turn : moves_no_train k ≡ true → q ≡ p → (p' : ℕ) (a' : Act) → (track_after_step c b q k t).walk ≡ Turn p' a' → (track_after_step c b q k t).cvt ≡ t.cvt
+    acts_in_turn : moves_no_train k ≡ true → q ≡ p → (p' : ℕ) (a' : Act) → (track_after_step c b q k t).walk ≡ Turn p' a'
+        → (track_after_step c b q k t).cvt ≡ t.cvt
         → rank_on c b t.cvt p ≤ rank_on c b t.cvt p' → Does v b t p q k
     ends_reversal : (track_after_step c b q k t).walk ≡ Settled → NoTrain c.posts t → Does v b t p q k
 
@@ -272,7 +273,8 @@ module _ (c : Settings) where
   other_settled s b h = is_settled_lem (track_of s (not b)).walk (and_left (is_settled (track_of s (not b)).walk) (not (track_of s (not b)).cvt) h)
 
   -- so no order is accepted there
-  pub no_second : (s : Section) (b : Bool) (p : ℕ) (a : Act) (q : ℕ) (k : View) → k ≡ walks order → (track_of s b).walk ≡ Turn p a → other_settled_on_vns s b ≡ true
+  pub no_second : (s : Section) (b : Bool) (p : ℕ) (a : Act) (q : ℕ) (k : View) → k ≡ walks order → (track_of s b).walk ≡ Turn p a
+      → other_settled_on_vns s b ≡ true
       → AcceptedIn c s (on (not b) q k) → ⊥
   unfolding AcceptedIn occupancy_at
   no_second s b p a q k ek w v h =

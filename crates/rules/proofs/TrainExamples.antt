@@ -280,7 +280,8 @@ pub pass_refused_22_under_fault_4 :
     Holds
     ((judged (with_crossings (1 ∷ []) (telephone 3 7)) (on A (FaultOn 1 Four ∷ Start 0 7 ∷ Pass 1 7 ∷ [])) gives refused 22)
     ∷ (judged (with_crossings (0 ∷ []) (materialised 3 7)) (on B (FaultOn 1 Four ∷ Start 2 7 ∷ Pass 1 7 ∷ [])) gives refused 22)
-    ∷ (judged (with_crossings (0 ∷ []) (telephone 3 5)) (on A (reversal_to_cvt (0 ∷ 1 ∷ 2 ∷ []) ++ Start 2 7 ∷ FaultOn 1 Four ∷ Pass 1 7 ∷ [])) gives refused 22)
+    ∷ (judged (with_crossings (0 ∷ []) (telephone 3 5)) (on A (reversal_to_cvt (0 ∷ 1 ∷ 2 ∷ []) ++ Start 2 7 ∷ FaultOn 1 Four ∷ Pass 1 7 ∷ []))
+    gives refused 22)
     ∷ (judged (with_crossings (1 ∷ []) (telephone 3 7)) (on A (FaultOn 1 Four ∷ Start 0 7 ∷ Caution 1 7 ∷ Pass 1 7 ∷ [])) gives accepted)
     -- the form of another train, of another post
     ∷ (judged (with_crossings (1 ∷ []) (telephone 3 7)) (on A (FaultOn 1 Four ∷ Start 0 7 ∷ Caution 1 8 ∷ Pass 1 7 ∷ [])) gives refused 22)

@@ -20,7 +20,8 @@ use Rattle.run.specs.Run.{too_much, outcome_of, answers_after}
 
 -- the refusal of the call, its index, and the buffer afterwards, every byte of which was 255
 unfoldable pub ran : Section → List ℕ → ℕ → List ℕ
-unfolding refusals too_much outcome_of refusal_number refusal_index if_done answers_after section_before answer_to entry_with entry_of entry_on entries_of answer_bytes
+unfolding refusals too_much outcome_of refusal_number refusal_index if_done answers_after section_before answer_to entry_with entry_of
+    entry_on entries_of answer_bytes
     said_by said_number track_letter letter step_at step_count well_at leading first_malformed some_malformed written first_texts
 ran s steps room =
     refusal_number (outcome_of s steps room) ∷ (refusal_index (outcome_of s steps room) ∷ answers_after s steps (replicate room 255))

@@ -107,7 +107,8 @@ module _ (p f z : ℕ) where
   faulted : {k : ℕ} → is_fault f ≡ true → eqb z 0 ≡ true → fields k p (fault_number (fault_of f)) 0 ≡ fields k p f z
   faulted h no_number = rw (fault_back f h, eqb-true z 0 no_number)
 
-  fields_again : (k : ℕ) → is_kind k ≡ true → fault_well_formed k f ≡ true → number_well_formed k z ≡ true → fields_of (step_of (fields k p f z)) ≡ fields k p f z
+  fields_again : (k : ℕ) → is_kind k ≡ true → fault_well_formed k f ≡ true → number_well_formed k z ≡ true
+      → fields_of (step_of (fields k p f z)) ≡ fields k p f z
   unfolding step_of fault_well_formed number_well_formed within
   fields_again =
       from_one (λ (k : ℕ). fault_well_formed k f ≡ true → number_well_formed k z ≡ true → fields_of (step_of (fields k p f z)) ≡ fields k p f z) last_kind

@@ -46,20 +46,26 @@ pub fn read_whole(stdin: Stdin, buffer: &mut [u8]) -> Input
 }
 
 // Writes a line to standard error: what failed, as the caller names it, a colon and the system's words. Where standard error cannot be written
-// either, nobody is left to be told.
-pub fn fail(mut stderr: Stderr, what: &[u8], error: io::Error) {
+// either, nobody is left to be told. Answers false, as `write_whole` does after a failure: no contract can say what is written.
+pub fn fail(mut stderr: Stderr, what: &[u8], error: io::Error) -> bool
+    ensures { result ≡ false }
+{
     let words = words::words_of(error);
     let _ = stderr.write_all(what);
     let _ = stderr.write_all(b": ");
     let _ = stderr.write_all(words.as_bytes());
     let _ = stderr.write_all(b"\n");
+    return false;
 }
 
 // Tells a failed write, but for a pipe that nobody reads any more.
-fn fail_to_write(stderr: Stderr, what: &[u8], error: io::Error) {
-    if error.kind() != ErrorKind::BrokenPipe {
-        fail(stderr, what, error);
+fn fail_to_write(stderr: Stderr, what: &[u8], error: io::Error) -> bool
+    ensures { result ≡ false }
+{
+    if error.kind() == ErrorKind::BrokenPipe {
+        return false;
     }
+    fail(stderr, what, error)
 }
 
 // Writes the text, if all before it was written, and answers whether all is written now. A failure is told on standard error, in the words of the
@@ -75,10 +81,10 @@ pub fn write_whole(
     ensures { written ≡ false → result ≡ false }
 {
     if written {
-        match stdout.write_all(text) {
-            Ok(()) => return true,
+        return match stdout.write_all(text) {
+            Ok(()) => true,
             Err(error) => fail_to_write(stderr, failure, error),
-        }
+        };
     }
     false
 }

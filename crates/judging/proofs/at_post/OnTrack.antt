@@ -74,7 +74,9 @@ module _ (s : Section) (x : TrackStep) where
       → record { verdict = judged_here.verdict; section = after } ≡ answer_of (verdict_on s x) s (section_after s x)
   unfolding verdict_on answer_of track_at judged_at_post trains_at last_at judged_of track_after
   by_ruling (accepts r v) =
-      rw (r, v) (ap (λ (t : Section). record { verdict = verdict.Accepted (effect (line_in s) x.step (site_of s x)).said; section = t }) (sym (one_track_after s x)))
+      rw (r, v)
+      (ap (λ (t : Section). record { verdict = verdict.Accepted (effect (line_in s) x.step (site_of s x)).said; section = t })
+      (sym (one_track_after s x)))
   by_ruling (refuses k r v) =
       rw (r, v, set-get_or own.posts (post_of x.step) blank) (ap (λ (t : Section). record { verdict = verdict.Refused k; section = t }) (same_track s x.track))
 
