@@ -4,8 +4,8 @@ use mathlib.Core.Path.{◌≡◌, refl, ◌∙◌}
 use mathlib.Core.List.{List}
 use native.Mathlib.Omega.{arith}
 use lib.ListN.{length}
-use Rattle.section.specs.declared.Outcome.{Outcome}
-use Rattle.section.specs.declared.Outcome.TheVariants.{Done}
+use Rattle.std.specs.Prelude.{Ok}
+use Rattle.section.specs.Refusal.{Outcome}
 use Rattle.text.specs.Copied.{copied}
 use Rattle.text.proofs.CopiedOut.{copied_whole}
 use Rattle.layout.specs.Layout.{most_steps}
@@ -27,5 +27,5 @@ pub fits_the_panels_room : (sheet : Sheet) (file : List ℕ) → length (printed
 fits_the_panels_room sheet file = omega (arith, printed_fits sheet file, most_room sheet)
 
 -- a text that fits is copied
-pub never_refused : (t b : List ℕ) (r : Outcome) → r ≡ copied t b → length t ≤ length b → ((k : ℕ) → r ≡ Done k → ⊥) → ⊥
+pub never_refused : (t b : List ℕ) (r : Outcome) → r ≡ copied t b → length t ≤ length b → ((k : ℕ) → r ≡ Ok k → ⊥) → ⊥
 never_refused t b r e fits left = left (length t) (e ∙ copied_whole t b fits)

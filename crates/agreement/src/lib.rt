@@ -9,7 +9,6 @@ ghost use Rattle.listing.specs.Sheet.{room};
 ghost use Rattle.agreement.specs.Made.{made};
 
 use listing::sheets::{PANEL_ROOM, Sheet, panel_room, print};
-use section::Outcome;
 
 const SHEET_ROOM: usize = PANEL_ROOM + 1;
 
@@ -29,7 +28,7 @@ pub fn agrees(sheet: Sheet, file: &[u8], stored: &[u8]) -> bool
 {
     let mut buffer = panel_room();
     let copied = print(sheet, file, &mut buffer);
-    let Outcome::Done(length) = copied else {
+    let Ok(length) = copied else {
         return false;
     };
     check::same(&buffer[0..length], stored)

@@ -2,25 +2,21 @@
 
 #![tactic(auto)]
 
-use section::Outcome;
-use std::io::{Stderr, Stdout};
-use streams::Input;
+ghost use Rattle.std.specs.Prelude.{◌≤◌, length, IfSome};
 
-// Writes the listing of a file. The buffer has room for every listing.
-fn print(stdout: Stdout, stderr: Stderr, file: &[u8]) {
-    let mut text = listing::sheets::listing_room();
-    if let Outcome::Done(n) = listing::listing(file, &mut text) {
-        let failure = b"bench: cannot write standard output";
-        streams::write_whole(stdout, stderr, true, &text[..n], failure);
-    }
+use listing::file_room;
+use listing::sheets::listing_room;
+use streams::Program;
+
+// Makes the listing of a file, and answers how long it is, if it has room.
+#[tactic(auto, using(text::proofs::CopiedOut::within))]
+fn make_listing(file: &[u8], text: &mut [u8]) -> Option<usize>
+    ensures { IfSome result (λ n. n ≤ length text.new) }
+{
+    listing::listing(file, text).ok()
 }
 
 fn main(rt: HostRuntime) {
-    let mut file = listing::file_room();
-    match streams::read_whole(rt.stdin(), &mut file) {
-        Input::Bytes(n) => print(rt.stdout(), rt.stderr(), &file[..n]),
-        Input::Failed(error) => {
-            streams::fail(rt.stderr(), b"bench: cannot read standard input", error);
-        }
-    }
+    let mut bench = Program::new(&rt, b"bench");
+    let _ = bench.convert(&mut file_room(), &mut listing_room(), make_listing);
 }

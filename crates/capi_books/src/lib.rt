@@ -8,18 +8,19 @@ ghost use Rattle.registers.specs.Books.{comparison};
 ghost use Rattle.capi_books.specs.Packed.{packed_comparison};
 
 use registers::Comparison;
-use registers::numbers::{finding_of, place_of, refusal_number, which_of};
+use registers::numbers::Numbers;
 
 // An answer in one number.
 #[tactic(auto, unfolding(crate::specs::Packed::packed_comparison))]
 fn packed_comparison(answer: Comparison) -> u64
     ensures { result ≡ packed_comparison answer }
 {
-    let number = refusal_number(answer) as u64;
-    let finding = finding_of(answer) as u64;
-    let which = which_of(answer) as u64;
-    let place = (place_of(answer) % 4294967296) as u64;
-    number + finding * 256 + which * 65536 + place * 4294967296
+    let told = Numbers::from(answer);
+    let place = (told.place % 4294967296) as u64;
+    u64::from(told.refusal)
+        + u64::from(told.finding) * 256
+        + u64::from(told.which) * 65536
+        + place * 4294967296
 }
 
 // Compares two posts' books, which are only read.

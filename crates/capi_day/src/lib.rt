@@ -9,18 +9,27 @@ ghost use Rattle.capi_day.specs.Day.{day_answer, day_notes};
 
 use judging_in_place::whole_day::note_day;
 use packed::{lent_settings_well_formed, packed_outcome};
-use section::Outcome;
+use section::{CallRefusal, Outcome, check};
 
-// Judges the steps, offered one after another from fresh, and writes the note of each, from the buffer's front on. The settings come in a day
-// file's bytes. The day is judged in place, as the listing judges it. How many steps are noted, or the refusal and its index.
-#[tactic(auto, using(section::proofs::Told::told_false, section::proofs::Told::told_true, packed::proofs::Settings::settings_lent), unfolding(crate::specs::Day::day_answer, crate::specs::Day::day_notes))]
+// Notes the steps of a day, whose settings come in a day file's bytes.
+#[tactic(auto, using(packed::proofs::Settings::settings_lent), unfolding(crate::specs::Day::day_answer, crate::specs::Day::day_notes))]
+fn note_lent(settings: &[u8], steps: &[u8], buffer: &mut [u8]) -> Outcome
+    ensures value { result ≡ day_answer settings.now steps.now (length buffer.old) }
+    ensures buffer_after { buffer.new ≡ day_notes settings.now steps.now buffer.old }
+{
+    check(
+        lent_settings_well_formed(settings),
+        CallRefusal::StateOutOfRange,
+    )?;
+    let c = layout::settings_of(settings);
+    note_day(c, steps, layout::step_count(steps), buffer)
+}
+
+// Judges the steps, offered one after another from fresh, and writes the note of each, from the buffer's front on. The day is judged in place, as the
+// listing judges it. How many steps are noted, or the refusal and its index.
 pub fn bsr_day(settings: &[u8], steps: &[u8], buffer: &mut [u8]) -> u64
     ensures value { result ≡ packed_outcome (day_answer settings.now steps.now (length buffer.old)) }
     ensures buffer_after { buffer.new ≡ day_notes settings.now steps.now buffer.old }
 {
-    if !lent_settings_well_formed(settings) {
-        return packed_outcome(Outcome::Refused(6));
-    }
-    let c = layout::settings_of(settings);
-    packed_outcome(note_day(c, steps, layout::step_count(steps), buffer))
+    packed_outcome(note_lent(settings, steps, buffer))
 }

@@ -1,53 +1,46 @@
 -- The lamps of a track take 48 bytes. The answers of a preview, each by the branch that led to it.
-use Prim.Native.Nat.{ℕ, ◌+◌, ◌*◌, ◌<◌, ◌≤◌}
+use Prim.Native.Nat.{ℕ, ◌<◌, ◌≤◌}
 use mathlib.Core.Bool.{Bool, true, false, cond}
 use mathlib.Core.List.{List}
 use mathlib.Core.Path.{◌≡◌, refl, ap, ◌∙◌}
-use native.Mathlib.Nat.{mul_comm}
 use native.Mathlib.Omega.{arith}
 use lib.ListN.{length, get_or}
 use borrow.Author.Tests.{lt-ltb, le-ltb, le-leb, lt-leb}
+use Rattle.std.specs.List.{flat_map}
+use Rattle.section.specs.Refusal.{figure}
 use Rattle.section.specs.declared.Indications.{Indications}
+use Rattle.section.specs.Items.{items}
 use Rattle.section.specs.declared.Section.{Section}
 use Rattle.section.specs.Numbers.{most_posts}
 use Rattle.section.specs.Range.{in_range}
 use Rattle.section.specs.Words.{refusal_of, said_by, said_number}
 use Rattle.rules.specs.Indications.{dark}
 use Rattle.rules.specs.Judge.{judge}
-use Rattle.text.specs.Text.{written, first_texts}
-use Rattle.text.proofs.Laws.{first_texts_whole, then}
+use Rattle.text.specs.Text.{written}
+use Rattle.text.proofs.Laws.{first_texts_whole}
+use Rattle.image.proofs.Made.{joined}
 use Rattle.packed.specs.Packed.{packed_verdict}
 use Rattle.image.specs.Image.{image_well_formed, section_of}
 use Rattle.engine.specs.Preview.{preview}
 use Rattle.engine.specs.declared.previews.Previewed.{Previewed}
 use Rattle.capi_preview.specs.Preview.{lamps_length, track_lamps_length, lamp_bytes, track_lamps, lamps, preview_answer, lamps_after, preview_lamps}
 
-abbrev pub lamps_at : List Indications → ℕ → List ℕ
-lamps_at shown p = lamp_bytes (get_or shown p dark)
-
 -- three bytes a post
-pub lamps_length_lem : (shown : List Indications) (m : ℕ) → length (first_texts (lamps_at shown) m) ≡ 3 * m
-unfolding lamp_bytes
-lamps_length_lem shown m = first_texts_whole (lamps_at shown) 3 m (λ p. omega arith) ∙ mul_comm m 3
-
 pub track_lamps_length_lem : (shown : List Indications) → length (track_lamps shown) ≡ track_lamps_length
-unfolding track_lamps
-track_lamps_length_lem shown = lamps_length_lem shown most_posts
+unfolding track_lamps lamp_bytes
+track_lamps_length_lem shown = first_texts_whole (λ p. lamp_bytes (get_or shown p dark)) 3 most_posts (λ p. omega arith)
 
--- a track's lamps, then the other's
-pub lamps_put :
-    (l m k : List ℕ) (a b : List Indications) (r : ℕ) → lamps_length ≤ length l
-    → (r ≡ 0 + track_lamps_length) × (m ≡ written l 0 (track_lamps a)) → k ≡ written m r (track_lamps b) → k ≡ written l 0 (lamps a b)
-unfolding lamps
-lamps_put l m k a b r room first second =
-    (then l m k 0 r (r + length (track_lamps b)) (track_lamps a) (track_lamps b)
-    (rw (track_lamps_length_lem a) (omega arith)) (rw (track_lamps_length_lem a) first) (refl, second)).1
+-- arrays of three bytes, one for each post, are the lamps of a track
+pub track_flat : (shown : List Indications) {parts : List (List ℕ)} {flat : List ℕ} →
+    parts ≡ items (λ (p : ℕ). lamp_bytes (get_or shown p dark)) most_posts → flat ≡ flat_map (λ x. x) parts → flat ≡ track_lamps shown
+unfolding track_lamps
+track_flat shown e f = f ∙ ap (flat_map (λ x. x)) e ∙ joined _ most_posts
 
 -- ## The answers
 
 -- judging a state out of range answers 6
 six : (s : Section) (step : List ℕ) → in_range s ≡ false → packed_verdict (preview s step).verdict ≡ 6
-unfolding preview judge packed_verdict refusal_of said_by said_number
+unfolding preview judge packed_verdict refusal_of said_by said_number figure
 six s step h = rw h
 
 module _ (image step buffer : List ℕ) where

@@ -3,53 +3,53 @@
 
 #![tactic(auto)]
 
-ghost use Rattle.std.specs.Prelude.{◌≡◌, cond, ◌+◌, ◌≤◌, length};
+ghost use Rattle.std.specs.Prelude.{◌≡◌, cond, ◌≤◌, length};
 ghost use Rattle.section.specs.Range.{in_range};
+ghost use Rattle.text.specs.Put.{HasRoom, put};
 ghost use Rattle.text.specs.Text.{written};
-ghost use Rattle.capi_preview.specs.Preview.{lamps_length, track_lamps_length, track_lamps, lamps, preview_answer, preview_lamps};
+ghost use Rattle.capi_preview.specs.Preview.{lamps_length, track_lamps_length, lamp_bytes, track_lamps, lamps, preview_answer, preview_lamps};
 
 use image::reader;
 use indications::track::PostsShown;
 use packed::packed_verdict;
-use section::{MOST_POSTS, Section};
+use section::{Indications, MOST_POSTS, Section};
+use text::Text;
 
-const POSTS: usize = MOST_POSTS as usize;
+// Three bytes a post, for both tracks.
+const LAMPS: usize = 2 * 3 * MOST_POSTS as usize;
 
-// Of a track: three bytes a post.
-const TRACK_LAMPS: usize = 3 * POSTS;
-
-const LAMPS: usize = 2 * TRACK_LAMPS;
-
+// Numbers, as C takes them: what a buffer gives that is too short.
 const TOO_SHORT: u16 = 5;
 
 // What a state out of range gives, and bytes that are no section's image.
 const OUT_OF_RANGE: u16 = 6;
 
-// CIRCULATION, TRONÇON and permission of the posts 0 to 15 of a track.
-#[tactic(auto, using(text::proofs::Laws::none_put, text::proofs::Laws::one_more_put, crate::proofs::Lamps::lamps_length_lem), unfolding(crate::specs::Preview::lamp_bytes, rules::specs::Indications::dark, crate::specs::Preview::track_lamps))]
-fn put_track(buffer: &mut [u8], at: usize, shown: PostsShown) -> usize
-    requires { at + track_lamps_length ≤ length buffer.old }
-    ensures value { result ≡ at + track_lamps_length }
-    ensures buffer_after { buffer.new ≡ written buffer.old at (track_lamps shown) }
+// CIRCULATION, TRONÇON and permission of a post.
+#[tactic(auto, unfolding(crate::specs::Preview::lamp_bytes))]
+fn lamp_bytes(shown: Indications) -> [u8; 3]
+    ensures { result ≡ lamp_bytes shown }
 {
-    let mut next = at;
-    let mut p = 0;
-    while p < POSTS {
-        let l = shown[p];
-        next = text::put_text(buffer, next, &[l.circulation, l.troncon, l.permission]);
-        p += 1;
-    }
-    next
+    [shown.circulation, shown.troncon, shown.permission]
 }
 
-// Track A's posts, then B's, at the buffer's front.
-#[tactic(auto, using(crate::proofs::Lamps::lamps_put))]
+// Puts those of the posts 0 to 15 of a track.
+fn put_track(text: &mut Text, shown: PostsShown)
+    requires { HasRoom text.old track_lamps_length }
+    ensures { text.new ≡ put text.old (track_lamps shown) }
+{
+    let lamps = shown.map(lamp_bytes);
+    text.put_text(lamps.as_flattened());
+}
+
+// Those of track A, then of B, at the buffer's front.
+#[tactic(auto, using(text::proofs::Put::texts, crate::proofs::Lamps::track_lamps_length_lem), unfolding(text::specs::Put::put, crate::specs::Preview::lamps))]
 fn put_lamps(buffer: &mut [u8], a: PostsShown, b: PostsShown)
     requires { lamps_length ≤ length buffer.old }
     ensures { buffer.new ≡ written buffer.old 0 (lamps a b) }
 {
-    let at_b = put_track(buffer, 0, a);
-    put_track(buffer, at_b, b);
+    let mut text = Text::new(buffer);
+    put_track(&mut text, a);
+    put_track(&mut text, b);
 }
 
 // What a call gives whose buffer is too short: 6 comes before 5.
@@ -78,9 +78,6 @@ pub extern "C" fn bsr_preview(bytes: &[u8], step: &[u8], buffer: &mut [u8]) -> u
         return without_room(s);
     }
     let tried = engine::preview(s, step);
-    let a = tried.a;
-    let b = tried.b;
-    let verdict = tried.verdict;
-    put_lamps(buffer, a, b);
-    packed_verdict(verdict)
+    put_lamps(buffer, tried.a, tried.b);
+    packed_verdict(tried.verdict)
 }

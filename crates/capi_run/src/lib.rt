@@ -9,26 +9,33 @@ ghost use Rattle.capi_run.specs.Run.{run_outcome, run_image, run_answers};
 
 use image::{reader, writer};
 use packed::packed_outcome;
-use section::Outcome;
+use section::{CallRefusal, Outcome, check};
 
-// Offers the steps one after another to the section of the image and writes the answer to each, from the buffer's front on. The image is written
-// back only when the call is not refused. How many steps were taken, or the refusal and its index.
-#[tactic(auto, using(section::proofs::Told::told_false, section::proofs::Told::told_true, image::proofs::Laws::well_formed_length, crate::proofs::Images::no_image, crate::proofs::Images::taken, crate::proofs::Images::refused))]
+// Offers the steps to the section of the image, which is written back only when the call is not refused.
+#[tactic(auto, using(image::proofs::Laws::well_formed_length, crate::proofs::Images::no_image_left, crate::proofs::Images::no_answers, crate::proofs::Images::outcome_told, crate::proofs::Images::answers_are, crate::proofs::Images::written_back, crate::proofs::Images::left), unfolding(crate::specs::Run::run_outcome))]
+fn run_lent(bytes: &mut [u8], steps: &[u8], answers: &mut [u8]) -> Outcome
+    ensures value { result ≡ run_outcome bytes.old steps.now (length answers.old) }
+    ensures bytes_after { bytes.new ≡ run_image bytes.old steps.now (length answers.old) }
+    ensures answers_after { answers.new ≡ run_answers bytes.old steps.now answers.old }
+{
+    check(
+        image::image_well_formed(bytes),
+        CallRefusal::StateOutOfRange,
+    )?;
+    let answer = run::run(reader::section_of(bytes), steps, answers);
+    if answer.outcome.is_ok() {
+        writer::put_image(bytes, answer.section);
+    }
+    answer.outcome
+}
+
+// Offers the steps one after another and writes the answer to each, from the buffer's front on. How many steps were taken, or the refusal and its
+// index.
 #[unsafe(no_mangle)]
 pub extern "C" fn bsr_run(bytes: &mut [u8], steps: &[u8], answers: &mut [u8]) -> u64
     ensures value { result ≡ packed_outcome (run_outcome bytes.old steps.now (length answers.old)) }
     ensures bytes_after { bytes.new ≡ run_image bytes.old steps.now (length answers.old) }
     ensures answers_after { answers.new ≡ run_answers bytes.old steps.now answers.old }
 {
-    if !image::image_well_formed(bytes) {
-        return packed_outcome(Outcome::Refused(6));
-    }
-    let answer = run::run(reader::section_of(bytes), steps, answers);
-    let outcome = answer.outcome;
-    let Outcome::Done(_) = outcome else {
-        return packed_outcome(outcome);
-    };
-    let after = answer.section;
-    writer::put_image(bytes, after);
-    packed_outcome(outcome)
+    packed_outcome(run_lent(bytes, steps, answers))
 }

@@ -1,19 +1,18 @@
 -- The answers of the calls over a section's image, each by the branch that led to it: what a branch has tested decides the definition's `cond`.
-use Prim.Native.Nat.{ℕ, ◌*◌}
-use mathlib.Core.Bool.{true, false}
+use Prim.Native.Nat.{ℕ}
+use mathlib.Core.Bool.{Bool, true, false, cond}
 use mathlib.Core.List.{List}
-use mathlib.Core.Path.{◌≡◌, ◌∙◌}
-use native.Mathlib.Omega.{arith}
+use mathlib.Core.Path.{◌≡◌, refl, ◌∙◌}
 use lib.ListN.{length}
 use lib.Dec.{ltb}
+use Rattle.std.specs.Prelude.{Ok, Err}
+use Rattle.std.specs.Result.{is_ok}
 use Rattle.section.specs.declared.Answer.{Answer}
 use Rattle.section.specs.declared.Indications.{Indications}
-use Rattle.section.specs.declared.Said.{Said}
 use Rattle.section.specs.declared.Section.{Section}
 use Rattle.section.specs.declared.Settings.{Settings}
-use Rattle.section.specs.declared.Verdict.TheVariants.{Accepted, Refused}
 use Rattle.section.specs.Fresh.{fresh_section}
-use Rattle.section.specs.Words.{refusal_of, said_by, said_number}
+use Rattle.section.specs.Refusal.{Verdict}
 use Rattle.rules.specs.Indications.{indications}
 use Rattle.rules.specs.Judge.{judge}
 use Rattle.text.specs.Text.{written}
@@ -49,26 +48,34 @@ module _ (settings buffer : List ℕ) where
 -- ## A step judged
 
 module _ (image step : List ℕ) where
-  -- the answer, and the image afterwards
-  abbrev JudgedImage : ℕ → List ℕ → Type 0
-  JudgedImage r after = (r ≡ judge_answer image step) × (after ≡ judge_image image step)
+  pub no_image_answer : image_well_formed image ≡ false → 6 ≡ judge_answer image step
+  unfolding judge_answer
+  no_image_answer e = rw e
 
-  pub no_image : image_well_formed image ≡ false → JudgedImage 6 image
-  unfolding judge_answer judge_image
-  no_image e = (rw e, rw e)
+  pub no_image_left : image_well_formed image ≡ false → image ≡ judge_image image step
+  unfolding judge_image
+  no_image_left e = rw e
 
   module _ (e : image_well_formed image ≡ true) {s : Section} {a : Answer} (es : s ≡ section_of image) (ea : a ≡ judge s step) where
-    pub accepted :
-        {said : Said} {n : ℕ} {after : List ℕ} → a.verdict ≡ Accepted said → n ≡ said_number said →
-        after ≡ written image 0 (image_of a.section) → JudgedImage (n * 256) after
-    unfolding judge_answer judge_image packed_verdict written_back refusal_of said_by
-    accepted v en ew =
-        let h : a ≡ judge (section_of image) step = rw es at ea in
-        (rw (e, ← h, v) (omega (arith, en)), rw (e, ← h, v) (ew ∙ whole_written image a.section (well_formed_length image e)))
+    judged : a ≡ judge (section_of image) step
+    judged = rw es at ea
 
-    pub refused : {k : ℕ} → a.verdict ≡ Refused k → JudgedImage k image
-    unfolding judge_answer judge_image packed_verdict written_back refusal_of said_by said_number
-    refused v = let h : a ≡ judge (section_of image) step = rw es at ea in (rw (e, ← h, v) (omega arith), rw (e, ← h, v))
+    pub answered : {n : ℕ} → n ≡ packed_verdict a.verdict → n ≡ judge_answer image step
+    unfolding judge_answer
+    answered en = rw (e, ← judged) en
+
+    by_verdict : (v : Verdict) → a.verdict ≡ v → {b : Bool} → b ≡ is_ok v → (after : List ℕ)
+        → after ≡ cond b (written image 0 (image_of a.section)) image → after ≡ judge_image image step
+    unfolding judge_image written_back
+    by_verdict (Ok said) v eb after put = rw (e, ← judged, v) (put ∙ (rw eb (whole_written image a.section (well_formed_length image e))))
+    by_verdict (Err refusal) v eb after put = rw (e, ← judged, v) (put ∙ (rw eb refl))
+
+    pub written_back_lem : {b : Bool} → b ≡ is_ok a.verdict → b ≡ true → {after : List ℕ} → after ≡ written image 0 (image_of a.section)
+        → after ≡ judge_image image step
+    written_back_lem eb t {after} put = by_verdict a.verdict refl eb after (rw t put)
+
+    pub left_lem : {b : Bool} → b ≡ is_ok a.verdict → b ≡ false → image ≡ judge_image image step
+    left_lem eb f = by_verdict a.verdict refl eb image (rw f refl)
 
 -- ## What a post shows
 

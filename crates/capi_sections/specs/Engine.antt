@@ -1,7 +1,7 @@
 -- What the calls to the engine return, packed into one number, and the lent buffer afterwards.
 use Rattle.std.specs.Prelude.{ℕ, cond, List, length, ltb}
-use Rattle.section.specs.declared.Verdict.{Verdict}
-use Rattle.section.specs.declared.Verdict.TheVariants.{Accepted, Refused}
+use Rattle.std.specs.Prelude.{Ok, Err}
+use Rattle.section.specs.Refusal.{Verdict}
 use Rattle.section.specs.Fresh.{fresh_section}
 use Rattle.rules.specs.Indications.{indications}
 use Rattle.rules.specs.Judge.{judge}
@@ -32,8 +32,8 @@ judge_answer image step = cond (image_well_formed image) (packed_verdict (judge 
 
 -- the old bytes or the new: "written back only when accepted"
 unfoldable pub written_back : Verdict → List ℕ → List ℕ → List ℕ
-written_back (Accepted said) old new = new
-written_back (Refused k) old new = old
+written_back (Ok said) old new = new
+written_back (Err k) old new = old
 
 unfoldable pub judge_image : List ℕ → List ℕ → List ℕ
 judge_image image step =

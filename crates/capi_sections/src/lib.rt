@@ -8,11 +8,9 @@ ghost use Rattle.rules.specs.LampTable.{lamp_entry};
 ghost use Rattle.capi_sections.specs.Engine.{fresh_answer, fresh_image, judge_answer, judge_image, shown_of};
 
 use image::{IMAGE_LENGTH, reader, writer};
-use packed::{lent_settings_well_formed, packed_indications};
-use section::Verdict;
-use section::words::said_number;
+use packed::{lent_settings_well_formed, packed_indications, packed_verdict};
 
-// What bytes that are no section's image give, as a state out of range does.
+// What bytes that are no section's image give, as a state out of range does. A number, as C takes it.
 const NO_IMAGE: u16 = 6;
 
 // The fresh section's image, at the front of the buffer. The settings come in a day file's bytes.
@@ -33,7 +31,7 @@ pub extern "C" fn bsr_fresh(settings: &[u8], buffer: &mut [u8]) -> u8
 }
 
 // Judges a step. The image is written back only when the step is accepted.
-#[tactic(auto, using(section::proofs::Told::told_false, section::proofs::Told::told_true, image::proofs::Laws::well_formed_length, section::proofs::words::Laws::said_small, crate::proofs::Images::no_image, crate::proofs::Images::accepted, crate::proofs::Images::refused))]
+#[tactic(auto, using(section::proofs::Told::told_false, section::proofs::Told::told_true, image::proofs::Laws::well_formed_length, crate::proofs::Images::no_image_answer, crate::proofs::Images::no_image_left, crate::proofs::Images::answered, crate::proofs::Images::written_back_lem, crate::proofs::Images::left_lem))]
 #[unsafe(no_mangle)]
 pub extern "C" fn bsr_judge(bytes: &mut [u8], step: &[u8]) -> u16
     ensures value { result ≡ judge_answer bytes.old step.now }
@@ -43,15 +41,10 @@ pub extern "C" fn bsr_judge(bytes: &mut [u8], step: &[u8]) -> u16
         return NO_IMAGE;
     }
     let answer = engine::judge(reader::section_of(bytes), step);
-    let verdict = answer.verdict;
-    match verdict {
-        Verdict::Accepted(said) => {
-            let after = answer.section;
-            writer::put_image(bytes, after);
-            (said_number(said) as u16) * 256
-        }
-        Verdict::Refused(number) => number as u16,
+    if answer.verdict.is_ok() {
+        writer::put_image(bytes, answer.section);
     }
+    packed_verdict(answer.verdict)
 }
 
 // What a post shows on a track.

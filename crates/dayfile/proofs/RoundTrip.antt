@@ -8,7 +8,8 @@ use lib.Dec.{ltb}
 use lib.ListN.{length, drop, length-append}
 use lib.Seq.{take_at}
 use borrow.Author.Tests.{ltb-false, le-ltb, le-leb}
-use Rattle.section.specs.declared.Outcome.TheVariants.{Done}
+use Rattle.std.specs.Prelude.{Ok}
+use Rattle.section.specs.declared.CallRefusal.TheVariants.{WrongLength, WrongTrailer, WrongSettings, NoRoom}
 use Rattle.section.specs.declared.Settings.{Settings}
 use Rattle.section.specs.Bytes.{AllBytes}
 use Rattle.section.specs.Numbers.{step_length, most_crossings}
@@ -20,7 +21,9 @@ use Rattle.layout.specs.Layout.{settings_in, steps_in, settings_of, steps_part}
 use Rattle.layout.proofs.Parts.{tail_of_lem, tail_in_lem, part_long, trailer_long, trailer_length_lem, steps_length}
 use Rattle.file_tests.specs.Tests.{length_wrong, length_suits, trailer_fits, settings_well_formed, some_malformed, first_malformed}
 use Rattle.file_tests.proofs.Laws.{few_steps, all_whole, settings_length_lem as settings-suit}
-use Rattle.dayfile.specs.Answers.{read_verdict, read_of, write_verdict, written_into}
+use Rattle.section.specs.Refusal.{call_figure}
+use Rattle.dayfile.specs.declared.ReadDay.{ReadDay}
+use Rattle.dayfile.specs.Answers.{read_of, write_verdict, written_into}
 use Rattle.dayfile.specs.RoundTrip.{ReadsWhatIsWritten, WritesWhatIsRead, MeansOneThing, GivesItsSteps, IndexOfTheFirst}
 use Rattle.dayfile.proofs.Parts.{settings_said, settings_well_formed_lem, settings_in_range_lem, settings_bytes_lem, trailer_well_formed_lem, trailer_bytes}
 use Rattle.dayfile.proofs.Parts.{tail_said, tail_is, steps_of, settings_of_lem, trailer_of, of_its_parts, trailer_all_bytes, settings_all_bytes}
@@ -80,7 +83,7 @@ module _ (c : Settings) (steps : List ℕ) (written : ℕ) (w : BytesWritten c s
   unfolding some_malformed
   none_malformed = ltb-false _ _ w.steps_well
 
-  read_back : length c.crossings ≡ most_crossings → read_of (file_of c steps) ≡ record { reading = Done (step_count steps); settings = c }
+  read_back : length c.crossings ≡ most_crossings → read_of (file_of c steps) ≡ Ok (record { settings = c; count = step_count steps })
   read_back eight =
       sym
       (answer_day (file_of c steps) (not_wrong _ file_length_right) trailer_fits_back (settings_part c) (sym settings_back)
@@ -97,11 +100,7 @@ reads_what_is_written c steps buffer written eight e =
 
 -- ## What is read is written back
 
-read_settings : (file : List ℕ) (count : ℕ) → read_verdict file ≡ Done count → (read_of file).settings ≡ settings_of (settings_in file)
-unfolding read_of if_done
-read_settings file count e = rw e
-
-module _ (file : List ℕ) (count : ℕ) (d : DayRead file count) where
+module _ (file : List ℕ) (day : ReadDay) (d : DayRead file day) where
   -- the settings list crossings where the file's mark says so
   same_tail : tail_in file ≡ tail_of (settings_of (settings_in file))
   same_tail = omega (arith, settings_length_lem file d.trailer_well.least, settings-suit (settings_in file) d.settings_well)
@@ -111,7 +110,7 @@ module _ (file : List ℕ) (count : ℕ) (d : DayRead file count) where
   same_length =
       omega (arith, steps_length file, d.trailer_well.least, d.length_well.whole, (tail_in_lem file).whole)
 
-module _ (file : List ℕ) (count : ℕ) (bytes : AllBytes file) (d : DayRead file count) where
+module _ (file : List ℕ) (day : ReadDay) (bytes : AllBytes file) (d : DayRead file day) where
   same_file : file_of (settings_of (settings_in file)) (steps_in file) ≡ file
   unfolding file_of
   same_file =
@@ -119,21 +118,21 @@ module _ (file : List ℕ) (count : ℕ) (bytes : AllBytes file) (d : DayRead fi
       let t = trailer_in file in
       rw (
         settings_bytes_lem (settings_in file) (settings_all_bytes file bytes) d.settings_well,
-        ← same_tail file count d,
+        ← same_tail file day d,
         trailer_bytes (tail_in file) n t (trailer_length_lem file d.length_well.least) (trailer_all_bytes file bytes) d.trailer_well.trailer_well,
       )
       (of_its_parts file d.trailer_well.least)
 
   module _ (buffer : List ℕ) (h : length file ≤ length buffer) where
-    same_verdict : write_verdict (settings_of (settings_in file)) (steps_in file) (length buffer) ≡ Done (length file)
+    same_verdict : write_verdict (settings_of (settings_in file)) (steps_in file) (length buffer) ≡ Ok (length file)
     unfolding write_verdict
     same_verdict =
         rw (
           settings_in_range_lem (settings_in file) (settings_all_bytes file bytes) d.settings_well,
           d.steps_well,
-          ← same_tail file count d,
+          ← same_tail file day d,
           le-ltb most_steps (step_count (steps_in file)) (few_steps file d.trailer_well.most),
-          same_length file count d,
+          same_length file day d,
           le-ltb (length buffer) (length file) h,
         )
 
@@ -143,19 +142,18 @@ module _ (file : List ℕ) (count : ℕ) (bytes : AllBytes file) (d : DayRead fi
     same_buffer = rw (same_verdict, same_file)
 
 pub writes_what_is_read : WritesWhatIsRead
-unfolding read_of
-writes_what_is_read file count bytes e =
-    let d = day_read file count e in (
-      rw (read_settings file count e) (same_file file count bytes d),
+writes_what_is_read file day bytes e =
+    let d = day_read file day e in (
+      rw d.settings_are (same_file file day bytes d),
       λ buffer h. (
-        rw (read_settings file count e) (same_verdict file count bytes d buffer h),
-        rw (read_settings file count e) (same_buffer file count bytes d buffer h),
+        rw d.settings_are (same_verdict file day bytes d buffer h),
+        rw d.settings_are (same_buffer file day bytes d buffer h),
       ),
     )
 
 pub means_one_thing : MeansOneThing
-means_one_thing one other count number bytes others e f s t =
-    sym (writes_what_is_read one count bytes e).0 ∙ (rw (s, t) (writes_what_is_read other number others f).0)
+means_one_thing one other day same bytes others e f s t =
+    sym (writes_what_is_read one day bytes e).0 ∙ (rw (s, t) (writes_what_is_read other same others f).0)
 
 -- ## The steps as a part of the file
 
@@ -166,29 +164,28 @@ steps_part_lem file count e =
     rw (le-ltb (length file) (step_length * count) (omega arith), f)
 
 pub gives_its_steps : GivesItsSteps
-unfolding read_of
-gives_its_steps file count e =
-    let d = day_read file count e in
-    steps_part_lem file count (ap (steps_distance (tail_in file)) (sym d.counted) ∙ same_length file count d)
+gives_its_steps file day e =
+    let d = day_read file day e in
+    steps_part_lem file day.count (ap (steps_distance (tail_in file)) (sym d.counted) ∙ same_length file day d)
 
 -- ## The index
 
 pub index_of_the_first : IndexOfTheFirst
-unfolding read_verdict write_verdict
+unfolding read_of write_verdict call_figure
 index_of_the_first = (
   λ file.
       let n = (settings_of (settings_in file)).posts in
       let first = first_malformed n (steps_in file) in
-      other_refusal first (length_wrong (length file)) 1 _ (λ e. omega arith)
-      (other_refusal first (not (trailer_fits file)) 2 _ (λ e. omega arith)
-      (other_refusal first (not (settings_well_formed (settings_in file))) 3 _ (λ e. omega arith)
+      other_refusal first (length_wrong (length file)) WrongLength _ (λ e. omega arith)
+      (other_refusal first (not (trailer_fits file)) WrongTrailer _ (λ e. omega arith)
+      (other_refusal first (not (settings_well_formed (settings_in file))) WrongSettings _ (λ e. omega arith)
       (step_refusal first (some_malformed n (steps_in file)) _
-      (no_refusal first (step_count (steps_in file)))))),
+      (no_refusal first _)))),
   λ c steps room.
       let first = first_malformed c.posts steps in
       let size = steps_distance (tail_of c) (step_count steps) in
-      other_refusal first (not (settings_in_range c)) 3 _ (λ e. omega arith)
+      other_refusal first (not (settings_in_range c)) WrongSettings _ (λ e. omega arith)
       (step_refusal first (some_malformed c.posts steps) _
-      (other_refusal first (ltb most_steps (step_count steps) || ltb room size) 5 _ (λ e. omega arith)
+      (other_refusal first (ltb most_steps (step_count steps) || ltb room size) NoRoom _ (λ e. omega arith)
       (no_refusal first size))),
 )

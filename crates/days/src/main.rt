@@ -3,175 +3,105 @@
 
 #![tactic(auto)]
 
-ghost use Rattle.std.specs.Prelude.{IfSome};
-ghost use Rattle.streams.specs.LiesIn.{IsPrefixLen};
-
 use agreement::{agrees, sheet_room};
+use arrayvec::ArrayString;
+use listing::file_room;
 use listing::sheets::Sheet;
 use std::env::{Env, FillError};
-use std::io::{Read, Stderr, Stdout};
+use std::fmt::Write;
 use std::rt::Files;
 use std::{fs, str};
+use streams::{Program, Told};
+use thiserror::Error;
 
-// What running a stored day shows.
-#[derive(Clone, Copy)]
-enum Day {
-    Agrees,
+// Room for the path of a file, and for the longest name of a day that is taken: the endings fit behind it.
+const PATH_ROOM: usize = 4096;
+
+const LONGEST_NAME: usize = 4000;
+
+// How a stored day differs from what is made of it. One that cannot be read counts among those that differ.
+#[derive(Clone, Copy, Debug, Error)]
+enum Difference {
+    #[error("cannot be read")]
     NotRead,
-    ListingDiffers,
-    PanelDiffers,
+    #[error("listing differs")]
+    Listing,
+    #[error("panel differs")]
+    Panel,
 }
 
-// A day that cannot be read counts among those that differ.
-fn differs(day: Day) -> bool {
-    match day {
-        Day::Agrees => false,
-        Day::NotRead => true,
-        Day::ListingDiffers => true,
-        Day::PanelDiffers => true,
-    }
-}
-
-// Opens the file whose name has this ending, or answers nothing; so too for a name that does not fit the buffer for a path or is not UTF-8.
-fn open<R: Files>(files: &R, name: &[u8], ending: &[u8]) -> Option<R::File> {
-    if name.len() > 4000 {
+// Opens the file whose name has this ending, or answers nothing; so too for a name that is too long or is not UTF-8. Not one function with that of
+// `books`, which is no plainer: each is two calls of std, with errors of its own.
+fn open<R: Files>(files: &R, name: &[u8], ending: &str) -> Option<R::File> {
+    if name.len() > LONGEST_NAME {
         return None;
     }
-    if ending.len() > 90 {
-        return None;
-    }
-    let mut path = [0; 4096];
-    let dot = text::put_text(&mut path, 0, name);
-    let end = text::put_text(&mut path, dot, ending);
-    let Ok(path) = str::from_utf8(&path[0..end]) else {
-        return None;
-    };
-    fs::open(files, path).ok()
-}
-
-// Reads until the buffer is full, the file ends or a read fails, and answers how many bytes stand at the buffer's front.
-fn read_full<F: Read>(file: &mut F, buffer: &mut [u8]) -> usize
-    ensures { IsPrefixLen result buffer.new }
-{
-    let mut done = 0;
-    while done < buffer.len() {
-        let Ok(more) = file.read(&mut buffer[done..]) else {
-            break;
-        };
-        if more == 0 {
-            break;
-        }
-        done += more;
-    }
-    done
-}
-
-fn open_sheet<R: Files>(files: &R, name: &[u8], sheet: Sheet) -> Option<R::File> {
-    match sheet {
-        Sheet::Listing => open(files, name, b".listing"),
-        Sheet::Panel => open(files, name, b".panel"),
-    }
-}
-
-fn difference_in(sheet: Sheet) -> Day {
-    match sheet {
-        Sheet::Listing => Day::ListingDiffers,
-        Sheet::Panel => Day::PanelDiffers,
-    }
+    let name = str::from_utf8(name).ok()?;
+    let mut path = ArrayString::<PATH_ROOM>::new();
+    write!(path, "{name}{ending}").ok()?;
+    fs::open(files, path.as_str()).ok()
 }
 
 // Compares the stored listing or panel with what is made of the file. A read that fails cuts the
 // stored bytes short, so that they differ.
-fn compare_sheet<R: Files>(files: &R, name: &[u8], sheet: Sheet, file: &[u8]) -> Day {
-    let Some(mut descriptor) = open_sheet(files, name, sheet) else {
-        return Day::NotRead;
+fn compare_sheet<R: Files>(
+    files: &R,
+    name: &[u8],
+    sheet: Sheet,
+    file: &[u8],
+) -> Result<(), Difference> {
+    let (ending, difference) = match sheet {
+        Sheet::Listing => (".listing", Difference::Listing),
+        Sheet::Panel => (".panel", Difference::Panel),
     };
+    let mut opened = open(files, name, ending).ok_or(Difference::NotRead)?;
     let mut stored = sheet_room();
-    let length = read_full(&mut descriptor, &mut stored);
-    if agrees(sheet, file, &stored[0..length]) {
-        return Day::Agrees;
-    }
-    difference_in(sheet)
-}
-
-// The panel is looked at where the listing agrees.
-fn compare_file<R: Files>(files: &R, name: &[u8], file: &[u8]) -> Day {
-    let day = compare_sheet(files, name, Sheet::Listing, file);
-    if differs(day) {
-        return day;
-    }
-    compare_sheet(files, name, Sheet::Panel, file)
-}
-
-fn run<R: Files>(files: &R, name: &[u8]) -> Day {
-    let Some(mut descriptor) = open(files, name, b".day") else {
-        return Day::NotRead;
-    };
-    let mut file = listing::file_room();
-    let length = read_full(&mut descriptor, &mut file);
-    compare_file(files, name, &file[0..length])
-}
-
-// Writes a text, if all before it was written, and answers whether all is written now.
-fn write(stdout: Stdout, stderr: Stderr, written: bool, text: &[u8]) -> bool {
-    let failure = b"days: cannot write standard output";
-    streams::write_whole(stdout, stderr, written, text, failure)
-}
-
-fn write_line(stdout: Stdout, stderr: Stderr, written: bool, name: &[u8], what: &[u8]) -> bool {
-    let named = write(stdout, stderr, written, name);
-    write(stdout, stderr, named, what)
-}
-
-fn write_number(stdout: Stdout, stderr: Stderr, written: bool, number: u64) -> bool {
-    let mut digits = itoa::Buffer::new();
-    write(stdout, stderr, written, digits.format(number).as_bytes())
-}
-
-// Writes the line of a day that differs.
-fn report(stdout: Stdout, stderr: Stderr, written: bool, name: &[u8], day: Day) -> bool {
-    match day {
-        Day::Agrees => written,
-        Day::NotRead => write_line(stdout, stderr, written, name, b": cannot be read\n"),
-        Day::ListingDiffers => write_line(stdout, stderr, written, name, b": listing differs\n"),
-        Day::PanelDiffers => write_line(stdout, stderr, written, name, b": panel differs\n"),
+    let (length, _) = streams::fill(&mut opened, &mut stored);
+    if agrees(sheet, file, &stored[..length]) {
+        Ok(())
+    } else {
+        Err(difference)
     }
 }
 
-// Writes the last line.
-fn report_counts(stdout: Stdout, stderr: Stderr, written: bool, days: u64, differ: u64) -> bool {
-    let counted = write_number(stdout, stderr, written, days);
-    let named = write(stdout, stderr, counted, b" days, ");
-    let compared = write_number(stdout, stderr, named, differ);
-    write(stdout, stderr, compared, b" differ\n")
+// Compares a stored day with what is made of it. The panel is looked at where the listing agrees. A read that fails cuts the day short.
+fn compare<R: Files>(files: &R, name: &[u8]) -> Result<(), Difference> {
+    let mut opened = open(files, name, ".day").ok_or(Difference::NotRead)?;
+    let mut file = file_room();
+    let (length, _) = streams::fill(&mut opened, &mut file);
+    compare_sheet(files, name, Sheet::Listing, &file[..length])?;
+    compare_sheet(files, name, Sheet::Panel, &file[..length])
 }
 
-// Puts an argument at the buffer's front, and answers its length, 0 for one that does not fit; no answer past the last argument.
-fn argument<R: Env>(env: &R, i: usize, buffer: &mut [u8]) -> Option<usize>
-    ensures { IfSome result (λ n. IsPrefixLen n buffer.new) }
-{
+// The argument, in the buffer: an empty one for one that does not fit; none past the last.
+fn argument<'a, R: Env>(env: &R, i: usize, buffer: &'a mut [u8]) -> Option<&'a [u8]> {
     match env.arg(i, buffer) {
-        Ok(length) => Some(length),
-        Err(FillError::TooLong) => Some(0),
+        Ok(length) => Some(&buffer[..length]),
+        Err(FillError::TooLong) => Some(&[]),
         Err(FillError::NotPresent) => None,
     }
 }
 
-fn main(rt: HostRuntime) {
+// Writes a line for each day that differs, and one that counts.
+fn run(rt: &HostRuntime, output: &mut Program<'_>) -> Result<(), Told> {
     let mut days: u64 = 0;
     let mut differ: u64 = 0;
-    let mut written = true;
     for i in 1..usize::MAX {
-        let mut name = [0; 4096];
-        let Some(length) = argument(&rt, i, &mut name) else {
+        let mut room = [0; PATH_ROOM];
+        let Some(name) = argument(rt, i, &mut room) else {
             break;
         };
-        let day = run(&rt, &name[0..length]);
-        written = report(rt.stdout(), rt.stderr(), written, &name[0..length], day);
         days += 1;
-        if differs(day) {
+        if let Err(difference) = compare(rt, name) {
             differ += 1;
+            output.write_whole(name)?;
+            writeln!(output, ": {difference}")?;
         }
     }
-    report_counts(rt.stdout(), rt.stderr(), written, days, differ);
+    writeln!(output, "{days} days, {differ} differ")
+}
+
+fn main(rt: HostRuntime) {
+    let mut output = Program::new(&rt, b"days");
+    let _ = run(&rt, &mut output);
 }

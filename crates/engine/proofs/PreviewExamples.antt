@@ -8,7 +8,6 @@ use Rattle.section.specs.declared.Section.{Section}
 use Rattle.section.specs.Items.{items}
 use Rattle.section.specs.Words.{refusal_of}
 use Rattle.rules.specs.Indications.{set_count, is_next_to_set, circulation, troncon, shown, lamps_at, dark, indications_on, indications, track_indications}
-use Rattle.rules.specs.Judge.{judge}
 use Rattle.rules.proofs.Days.{telephone, fresh, refusals}
 use Rattle.rules.proofs.Rows.{◌gives◌, Holds}
 use Rattle.engine.specs.Preview.{preview}

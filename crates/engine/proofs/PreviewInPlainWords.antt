@@ -7,7 +7,7 @@ use Rattle.section.specs.declared.Section.{Section}
 use Rattle.rules.specs.Demand3.{state_after}
 use Rattle.rules.specs.Indications.{indications}
 use Rattle.rules.specs.Judge.{judge}
-use Rattle.engine.specs.Preview.{preview, AnswersAsJudging, ShowsTheSectionAfter, Taken, Tried, PreviewsLeaveTheDay, steps_taken, verdicts_of}
+use Rattle.engine.specs.Preview.{AnswersAsJudging, ShowsTheSectionAfter, Taken, Tried, PreviewsLeaveTheDay, steps_taken, verdicts_of}
 use Rattle.engine.specs.PreviewInPlainWords.{PreviewInPlainWords}
 use Rattle.engine.proofs.PreviewLaws.{answers_as_judging, shows_the_section_after, previews_leave_the_day}
 

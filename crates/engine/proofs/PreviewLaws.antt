@@ -6,11 +6,12 @@ use mathlib.Core.Bool.{Bool, true, false}
 use mathlib.Core.List.{List, [], ◌∷◌}
 use mathlib.Core.Path.{◌≡◌, refl, sym, ◌∙◌, ap}
 use lib.ListN.{replicate}
+use Rattle.std.specs.Prelude.{Err}
+use Rattle.section.specs.declared.Refusal.TheVariants.{OutOfRange}
 use Rattle.section.specs.declared.Answer.{Answer}
 use Rattle.section.specs.declared.Indications.{Indications}
 use Rattle.section.specs.declared.Section.{Section}
-use Rattle.section.specs.declared.Verdict.{Verdict}
-use Rattle.section.specs.declared.Verdict.TheVariants.{Refused}
+use Rattle.section.specs.Refusal.{Verdict, figure}
 use Rattle.section.specs.Numbers.{most_posts}
 use Rattle.section.specs.Range.{in_range}
 use Rattle.section.specs.Words.{refusal_of}
@@ -20,7 +21,7 @@ use Rattle.rules.specs.Judge.{judge}
 use Rattle.rules.proofs.OnlyOutOfRange.{only_out_of_range, out_of_range_gives_6}
 use Rattle.rules.proofs.RangeLaw.{ranges_kept}
 use Rattle.indications.proofs.track.Laws.{dark_out, at_its_place}
-use Rattle.engine.specs.Preview.{preview, AnswersAsJudging, ShowsTheSectionAfter, Request, Taken, Tried, PreviewsLeaveTheDay}
+use Rattle.engine.specs.Preview.{preview, AnswersAsJudging, ShowsTheSectionAfter, Taken, Tried, PreviewsLeaveTheDay}
 use Rattle.engine.specs.Preview.{steps_taken, answers_to, section_after_day, verdicts_of}
 use Rattle.engine.specs.declared.previews.Previewed.{Previewed}
 
@@ -28,21 +29,23 @@ use Rattle.engine.specs.declared.previews.Previewed.{Previewed}
 
 pub out_of_range_is :
     (s : Section) (bytes : List ℕ) → in_range s ≡ false
-    → ◌≡◌ {A = Previewed} (record { verdict = Refused 6; a = replicate most_posts dark; b = replicate most_posts dark; section = s }) (preview s bytes)
+    → ◌≡◌ {A = Previewed} (record { verdict = Err OutOfRange; a = replicate most_posts dark; b = replicate most_posts dark; section = s }) (preview s bytes)
 unfolding preview judge
 out_of_range_is s bytes h = rw (h, ← dark_out s 0 h, ← dark_out s 1 h)
 
 module _ (s : Section) (bytes : List ℕ) {w : Answer} {k : ℕ} (ew : w ≡ judge s bytes) (ek : k ≡ refusal_of w.verdict) where
-  pub answered_6 : k ≡ 6 → in_range s ≡ false
-  answered_6 six = only_out_of_range s bytes (ap (λ (a : Answer). refusal_of a.verdict) (sym ew) ∙ sym ek ∙ six)
+  pub answered_6 : {n : ℕ} → n ≡ figure OutOfRange → k ≡ n → in_range s ≡ false
+  unfolding figure
+  answered_6 six e = only_out_of_range s bytes (ap (λ (a : Answer). refusal_of a.verdict) (sym ew) ∙ sym ek ∙ e ∙ six)
 
   -- with any other answer the section is in its ranges, and so is the one that judging gives
-  pub after_in_range : (k ≡ 6 → ⊥) → in_range w.section ≡ true
-  after_in_range other = rw ew (go (in_range s) refl)
+  pub after_in_range : {n : ℕ} → n ≡ figure OutOfRange → (k ≡ n → ⊥) → in_range w.section ≡ true
+  unfolding figure
+  after_in_range six other = rw ew (go (in_range s) refl)
     where
       go : (b : Bool) → in_range s ≡ b → in_range (judge s bytes).section ≡ true
       go true r = ranges_kept s bytes r
-      go false r = absurd (other (ek ∙ (rw ew (out_of_range_gives_6 s bytes r))))
+      go false r = absurd (other (ek ∙ (rw ew (out_of_range_gives_6 s bytes r)) ∙ sym six))
 
   pub tried_is :
       {a b : List Indications} → a ≡ track_indications w.section 0 → b ≡ track_indications w.section 1

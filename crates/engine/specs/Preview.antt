@@ -1,7 +1,7 @@
 -- A step tried first (document 02, request 2).
 use Rattle.std.specs.Prelude.{ℕ, List, [], ◌∷◌, ◌≡◌, get_or}
 use Rattle.section.specs.declared.Section.{Section}
-use Rattle.section.specs.declared.Verdict.{Verdict}
+use Rattle.section.specs.Refusal.{Verdict}
 use Rattle.rules.specs.Demand3.{state_after}
 use Rattle.rules.specs.Indications.{dark, indications, track_indications}
 use Rattle.rules.specs.Judge.{judge}

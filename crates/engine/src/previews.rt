@@ -1,14 +1,14 @@
 // A step tried first: its answer and every indication after it, and the section as it came.
-ghost use Rattle.std.specs.Prelude.{◌≡◌, replicate};
+ghost use Rattle.std.specs.Prelude.{◌≡◌, Err, replicate};
+ghost use Rattle.section.specs.declared.Refusal.TheVariants.{OutOfRange};
 ghost use Rattle.section.specs.Numbers.{most_posts};
-ghost use Rattle.section.specs.declared.Verdict.{Verdict};
 ghost use Rattle.rules.specs.Indications.{dark};
 ghost use Rattle.engine.specs.Preview.{preview};
 
 use crate::judge;
 use indications::track::{PostsShown, all_posts_dark, track_indications};
 use section::words::refusal_of;
-use section::{Section, Verdict};
+use section::{Refusal, Section, Verdict};
 
 // The answer, what the posts of both tracks show after the step, and the section that came.
 #[derive(Clone, Copy)]
@@ -21,10 +21,10 @@ pub struct Previewed {
 
 // A state that gives 6 shows nothing.
 fn out_of_range(state: Section) -> Previewed
-    ensures { result ≡ record { verdict = Verdict.Refused 6; a = replicate most_posts dark; b = replicate most_posts dark; section = state } }
+    ensures { result ≡ record { verdict = Err OutOfRange; a = replicate most_posts dark; b = replicate most_posts dark; section = state } }
 {
     Previewed {
-        verdict: Verdict::Refused(6),
+        verdict: Err(Refusal::OutOfRange),
         a: all_posts_dark(),
         b: all_posts_dark(),
         section: state,
@@ -38,15 +38,13 @@ pub fn preview(s: Section, bytes: &[u8]) -> Previewed
     ensures { result ≡ preview s bytes.now }
 {
     let answer = judge(s, bytes);
-    let verdict = answer.verdict;
-    if refusal_of(verdict) == 6 {
+    if refusal_of(answer.verdict) == u8::from(Refusal::OutOfRange) {
         return out_of_range(s);
     }
-    let after = answer.section;
     Previewed {
-        verdict: verdict,
-        a: track_indications(after, 0),
-        b: track_indications(after, 1),
+        verdict: answer.verdict,
+        a: track_indications(answer.section, 0),
+        b: track_indications(answer.section, 1),
         section: s,
     }
 }

@@ -2,7 +2,7 @@
 use Prim.Native.Nat.{ℕ}
 use mathlib.Core.Path.{◌≡◌, refl}
 use mathlib.Core.List.{List, []}
-use Rattle.section.specs.Outcome.{refusal_number, refusal_index, told, if_done}
+use Rattle.section.specs.Refusal.{call_figure, index_of}
 use Rattle.section.specs.Words.{said_by, letter, track_letter}
 use Rattle.section.specs.Step.{well_formed}
 use Rattle.rules.specs.Indications.{set_count, is_next_to_set, circulation, troncon, shown, lamps_at, dark, indications_on, indications}
@@ -11,21 +11,22 @@ use Rattle.layout.specs.Layout.{steps_in, settings_of, step_at, has_mark, mark_o
 use Rattle.file_tests.specs.Tests.{length_wrong, length_suits, trailer_fits, trailer_well_formed, zeros_well_formed, settings_well_formed}
 use Rattle.file_tests.specs.Tests.{well_at, leading, first_malformed}
 use Rattle.file_tests.specs.Tests.{some_malformed}
-use Rattle.dayfile.specs.Answers.{read_verdict, read_of}
+use Rattle.dayfile.specs.Answers.{read_of}
 use Rattle.rules.proofs.Days.{offered_as, refusals, fresh}
 use Rattle.text.specs.Text.{decimal_digits, decimal, first_texts}
 use Rattle.lines.specs.Lines.{word, refused_line, header, verdict_fields, fields, step_line}
 use Rattle.lines.specs.PanelLine.{post_field, post_fields, track_name, panel_fields, panel_line}
 use Rattle.judging_in_place.specs.Offered.{section_before, answer_to}
-use Rattle.listing.specs.Printed.{lines, printed_read, printed}
+use Rattle.listing.specs.Printed.{lines, printed_day, printed_read, printed}
 use Rattle.listing.specs.Listing.{listing}
 use Rattle.listing.specs.Panel.{panel}
 use Rattle.examples.specs.Worked.{settings, steps, day, worked_listing, worked_panel, listing_of_nothing}
 
 unfoldable listing_of : List ℕ → List ℕ
-unfolding refused_line header verdict_fields fields step_line section_before answer_to lines printed_read printed listing first_texts word letter track_letter
+unfolding refused_line header verdict_fields fields step_line section_before answer_to lines printed_day printed_read printed listing
+    first_texts word letter track_letter
     decimal_digits decimal
-    refusals fresh said_by read_of read_verdict refusal_number refusal_index told if_done length_wrong length_suits trailer_fits
+    refusals fresh said_by call_figure index_of read_of length_wrong length_suits trailer_fits
     trailer_well_formed has_mark mark_of
     tail_in tail_of settings_well_formed zeros_well_formed some_malformed first_malformed leading well_at well_formed
     trailer_in settings_in steps_in from_end settings_of step_at le32_at le32

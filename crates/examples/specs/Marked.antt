@@ -13,7 +13,7 @@ use Rattle.rules.proofs.Rows.{Row, ◌gives◌}
 
 -- a file given to the reader: 0 where it is read, or the refusal
 unfoldable pub reading : List ℕ → ℕ
-reading file = refusal_number (read_of file).reading
+reading file = refusal_number (read_of file)
 
 -- the trailer of a day with no step: "BSR1", 24, 24, 0
 abbrev pub trailer_of_none : List ℕ

@@ -5,6 +5,8 @@ use mathlib.Core.List.{List}
 use Prim.Native.Nat.{ℕ, zero, suc, ◌+◌, ◌-◌, ◌*◌, ◌/◌, ◌<◌, ◌≤◌}
 use native.Mathlib.Nat.{not-suc-le-zero}
 use native.Mathlib.Omega.{arith}
+use Rattle.std.specs.Prelude.{Option, Some, None, MatchOption}
+use Rattle.std.specs.Option.{unwrap_or}
 use lib.ListN.{length, take, drop, length-take, length-drop}
 use lib.Dec.{eqb, leb}
 use borrow.Author.Tests.{eqb-true, ltb-false, leb-true, leb-false, ne_eqb}
@@ -75,6 +77,16 @@ leading_is t (suc m) (suc r) h below at =
     rw (below 0 (omega arith))
     (ap suc
     (leading_is (λ (k : ℕ). t (suc k)) m r (omega arith) (λ k q. below (suc k) (omega arith)) (λ q. at (omega arith))))
+
+-- what `find` says of the first number below `whole` that fails, where all from there on fail
+pub leading_found :
+    (t : ℕ → Bool) (m whole : ℕ) (r : Option ℕ) → whole ≤ m → (whole < m → t whole ≡ false) →
+    MatchOption r ((k : ℕ) → 0 ≤ k → k < whole → t k ≡ true)
+    (λ i. (0 ≤ i) × (i < whole) × (t i ≡ false) × ((k : ℕ) → 0 ≤ k → k < i → t k ≡ true)) →
+    unwrap_or r whole ≡ leading t m
+leading_found t m whole None h last below = leading_is t m whole h (λ k q. below k (omega arith) q) last
+leading_found t m whole (Some i) h last (from, to, fails, below) =
+    leading_is t m i (omega arith) (λ k q. below k (omega arith) q) (λ q. fails)
 
 -- where none of the first m fails, all pass
 pub all_pass : (t : ℕ → Bool) (m : ℕ) → m ≤ leading t m → (k : ℕ) → k < m → t k ≡ true

@@ -1,13 +1,19 @@
--- Laws of images: the lengths of what is written, by those of its parts; the test of the posts, from the last down;
+-- Laws of images: the lengths of what is written, by those of its parts; the test of the posts;
 -- an image that is well formed is as long as what is written, so the whole of it is written over.
-use Prim.Native.Nat.{ℕ, suc, ◌+◌, ◌*◌, ◌-◌, ◌<◌}
+use Prim.Native.Nat.{ℕ, zero, suc, ◌+◌, ◌*◌, ◌<◌, ◌≤◌}
 use mathlib.Core.Bool.{Bool, true, false, ◌&&◌}
 use mathlib.Core.List.{List, [], ◌∷◌, ◌++◌, append-nil}
 use mathlib.Core.Path.{◌≡◌, refl, ap, ◌∙◌}
+use native.Mathlib.Nat.{not-suc-le-zero, zero-add}
+use native.Mathlib.Numerals.{add-one}
 use native.Mathlib.Omega.{arith}
 use lib.ListN.{length, drop, get_or, length-append, drop_of_length-le}
 use lib.Dec.{eqb}
+use borrow.Author.Count.{below_more}
 use borrow.Author.Tests.{eqb-true}
+use Rattle.std.specs.Int.{from_bool}
+use Rattle.std.specs.List.{list_all, range_with_len}
+use Rattle.section.specs.Bytes.{truth_number}
 use Rattle.section.specs.declared.Post.{Post}
 use Rattle.section.specs.declared.Section.{Section}
 use Rattle.section.specs.declared.Track.{Track}
@@ -16,7 +22,6 @@ use Rattle.section.specs.declared.Walk.TheVariants.{Settled, Turn}
 use Rattle.section.specs.Numbers.{most_posts, most_blocks}
 use Rattle.section.specs.Post.{blank}
 use Rattle.section.proofs.Laws.{and_parts}
-use Rattle.section.proofs.Tests.{stops, goes_on}
 use Rattle.layout.specs.Layout.{le16_bytes, settings_bytes}
 use Rattle.text.specs.Text.{written}
 use Rattle.text.proofs.Laws.{first_texts_whole}
@@ -65,19 +70,52 @@ pub image_length_lem : (s : Section) → length (image_of s) ≡ image_length
 unfolding image_of
 image_length_lem s = simp length-append (omega (arith, image_head_length s, track_length_lem s.a, track_length_lem s.b))
 
--- ## A test that goes from the last post down
+-- ## A flag as a number
 
-module _ (l : List ℕ) (at : ℕ) where
-  abbrev post_test : ℕ → Bool
-  post_test i = post_well_formed l (at + post_length * i)
+pub flag_number : (x : Bool) → from_bool x ≡ truth_number x
+flag_number true = refl
+flag_number false = refl
 
-  pub posts_stop : (i : ℕ) → 0 < i → post_test (i - 1) ≡ false → posts_well_formed l at i ≡ false
-  unfolding posts_well_formed
-  posts_stop = stops post_test (posts_well_formed l at) (λ i. refl)
+pub flag_small : (x : Bool) → from_bool x ≤ 1
+flag_small true = omega arith
+flag_small false = omega arith
 
-  pub posts_go_on : (i : ℕ) → 0 < i → post_test (i - 1) ≡ true → posts_well_formed l at i ≡ posts_well_formed l at (i - 1)
-  unfolding posts_well_formed
-  posts_go_on = goes_on post_test (posts_well_formed l at) (λ i. refl)
+-- ## The test of the posts
+
+pub all_well_formed :
+    (l : List ℕ) (at m : ℕ) → ((p : ℕ) → p < m → post_well_formed l (at + post_length * p) ≡ true) → posts_well_formed l at m ≡ true
+unfolding posts_well_formed
+all_well_formed l at zero h = refl
+all_well_formed l at (suc m) h = rw (h m (omega arith), all_well_formed l at m (λ p k. h p (omega (arith, k))))
+
+pub each_post : (l : List ℕ) (at m : ℕ) → posts_well_formed l at m ≡ true → (p : ℕ) → p < m → post_well_formed l (at + post_length * p) ≡ true
+unfolding posts_well_formed
+each_post l at zero e p h = absurd (not-suc-le-zero h)
+each_post l at (suc m) e p h =
+    let parts = and_parts (post_well_formed l (at + post_length * m)) (posts_well_formed l at m) e in
+    below_more (λ (q : ℕ). post_well_formed l (at + post_length * q) ≡ true) m (each_post l at m parts.1) parts.0 p (rw add-one h)
+
+-- a test of the numbers from a on, the last of them first
+last_first : (test : ℕ → Bool) (a n : ℕ) → list_all test (range_with_len a (suc n)) ≡ (test (a + n) && list_all test (range_with_len a n))
+last_first test a zero = let e : a + 0 ≡ a = omega arith in rw e
+last_first test a (suc n) =
+    let e : a + 1 + n ≡ a + suc n = omega arith in
+    let rest = list_all test (range_with_len (a + 1) n) in
+    ap (λ (b : Bool). test a && b) (last_first test (a + 1) n ∙ rw e) ∙ swapped (test a) (test (a + suc n)) rest
+  where
+    swapped : (b c d : Bool) → (b && (c && d)) ≡ (c && (b && d))
+    swapped true c d = refl
+    swapped false true d = refl
+    swapped false false d = refl
+
+-- the posts tested in a row, from the first on
+pub posts_tested :
+    (l : List ℕ) (at m : ℕ) → list_all (λ (p : ℕ). post_well_formed l (at + post_length * p)) (range_with_len 0 m) ≡ posts_well_formed l at m
+unfolding posts_well_formed
+posts_tested l at zero = refl
+posts_tested l at (suc m) =
+    let test = λ (p : ℕ). post_well_formed l (at + post_length * p) in
+    last_first test 0 m ∙ rw (zero-add m, posts_tested l at m)
 
 -- ## A well-formed image is as long as what is written
 

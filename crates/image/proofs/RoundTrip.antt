@@ -1,5 +1,5 @@
 -- What is written is read back: each part of an image, wherever it stands in the bytes.
-use Prim.Native.Nat.{ℕ, zero, suc, ◌+◌, ◌*◌, ◌/◌, ◌%◌, ◌<◌, ◌≤◌}
+use Prim.Native.Nat.{ℕ, ◌+◌, ◌*◌, ◌/◌, ◌%◌, ◌≤◌}
 use mathlib.Core.Bool.{Bool, true, false}
 use mathlib.Core.List.{List, [], ◌∷◌, ◌++◌, append_assoc, append-nil}
 use mathlib.Core.Path.{◌≡◌, refl, sym, ap, ◌∙◌}
@@ -29,7 +29,7 @@ use Rattle.image.specs.RoundTrip.{Small, TrackHeld, SectionHeld, ReadsBack}
 use Rattle.section.proofs.Items.{same_items, first_items}
 use Rattle.image.proofs.Items.{each}
 use Rattle.image.proofs.Laws.{post_length_lem, le16_length, posts_length_lem, numbers_length_lem, head_length_lem, track_length_lem}
-use Rattle.image.proofs.Laws.{image_head_length, image_length_lem}
+use Rattle.image.proofs.Laws.{image_head_length, image_length_lem, all_well_formed}
 
 -- ## Flags
 
@@ -138,12 +138,6 @@ module _ (front : List ℕ) {at : ℕ} (here : length front ≡ at) (rest : List
         )
 
 -- ## Numbers and posts, one after another
-
-all_well_formed :
-    (l : List ℕ) (at m : ℕ) → ((p : ℕ) → p < m → post_well_formed l (at + post_length * p) ≡ true) → posts_well_formed l at m ≡ true
-unfolding posts_well_formed
-all_well_formed l at zero h = refl
-all_well_formed l at (suc m) h = rw (h m (omega arith), all_well_formed l at m (λ p k. h p (omega (arith, k))))
 
 module _ (front : List ℕ) {at : ℕ} (here : length front ≡ at) where
   numbers_back :

@@ -3,13 +3,11 @@ use Prim.Native.Nat.{ℕ, zero, suc, ◌+◌, ◌*◌, ◌/◌, ◌%◌, ◌<◌
 use mathlib.Core.Bool.{Bool, true, false, cond, ◌&&◌}
 use mathlib.Core.List.{List, [], ◌∷◌, ◌++◌}
 use mathlib.Core.Path.{◌≡◌, refl, sym, ap, ◌∙◌}
-use native.Mathlib.Nat.{div-div-eq-div-mul, not-suc-le-zero}
-use native.Mathlib.Numerals.{add-one}
+use native.Mathlib.Nat.{div-div-eq-div-mul}
 use native.Mathlib.Omega.{arith}
 use lib.Dec.{eqb, leb}
 use lib.ListN.{length, take, drop, length-drop}
 use lib.Seq.{take_all, take-add, drop-drop, get_or-drop}
-use borrow.Author.Count.{below_more}
 use borrow.Author.Tests.{eqb-true, leb-true}
 use Rattle.section.specs.Bytes.{byte, AllBytes, le16, truth_number}
 use Rattle.section.specs.Items.{items}
@@ -26,7 +24,7 @@ use Rattle.image.specs.Image.{faults_byte, post_image, posts_image, numbers_imag
 use Rattle.image.specs.Image.{number_at, post_at, posts_from, numbers_from, walk_of, track_from, section_of}
 use Rattle.image.specs.Image.{post_well_formed, posts_well_formed, walk_well_formed, track_well_formed}
 use Rattle.image.specs.RoundTrip.{WritesBack}
-use Rattle.image.proofs.Laws.{ImageTested, image_tested}
+use Rattle.image.proofs.Laws.{ImageTested, image_tested, each_post}
 
 -- ## Parts of bytes
 
@@ -143,13 +141,6 @@ module _ (l : List ℕ) (at : ℕ) where
       )
 
 -- ## Numbers and posts, one after another
-
-each_post : (l : List ℕ) (at m : ℕ) → posts_well_formed l at m ≡ true → (p : ℕ) → p < m → post_well_formed l (at + post_length * p) ≡ true
-unfolding posts_well_formed
-each_post l at zero e p h = absurd (not-suc-le-zero h)
-each_post l at (suc m) e p h =
-    let parts = and_parts (post_well_formed l (at + post_length * m)) (posts_well_formed l at m) e in
-    below_more (λ (q : ℕ). post_well_formed l (at + post_length * q) ≡ true) m (each_post l at m parts.1) parts.0 p (rw add-one h)
 
 module _ (l : List ℕ) (bytes : AllBytes l) (at m : ℕ) where
   numbers_kept : at + number_length * m ≤ length l → numbers_image m (numbers_from l at m) ≡ part l at (number_length * m)

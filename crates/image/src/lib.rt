@@ -6,9 +6,9 @@
 pub mod reader;
 pub mod writer;
 
-ghost use Rattle.std.specs.Prelude.{◌≡◌, ◌+◌, ◌≤◌, length};
+ghost use Rattle.std.specs.Prelude.{◌≡◌, ◌≤◌, ◌&&◌, length};
 ghost use Rattle.section.specs.Numbers.{most_posts};
-ghost use Rattle.image.specs.Image.{track_length, post_length, posts_length};
+ghost use Rattle.image.specs.Image.{track_length, post_length, posts_length, track_a, track_b, image_length};
 ghost use Rattle.image.specs.Image.{post_well_formed, posts_well_formed, walk_well_formed, track_well_formed, image_well_formed};
 
 use layout::LONGEST_SETTINGS;
@@ -46,43 +46,25 @@ pub const TRACK_B: usize = TRACK_A + TRACK_LENGTH;
 pub const IMAGE_LENGTH: usize = TRACK_B + TRACK_LENGTH;
 
 // Of a post: device, permission, measures, faults, mark, zero.
-#[tactic(auto, using(section::proofs::Tests::first), unfolding(crate::specs::Image::post_well_formed))]
-fn post_well_formed(bytes: &[u8], at: usize) -> bool
-    requires { at + post_length ≤ length bytes.now }
-    ensures { result ≡ post_well_formed bytes.now at }
+#[tactic(auto, unfolding(crate::specs::Image::post_well_formed))]
+fn post_well_formed(bytes: &[u8]) -> bool
+    requires { post_length ≤ length bytes.now }
+    ensures { result ≡ post_well_formed bytes.now 0 }
 {
-    if bytes[at] > 1 {
-        return false;
-    }
-    if bytes[at + 1] > 1 {
-        return false;
-    }
-    if bytes[at + 2] > 1 {
-        return false;
-    }
-    if bytes[at + 3] > 15 {
-        return false;
-    }
-    if bytes[at + 4] > 1 {
-        return false;
-    }
-    bytes[at + 5] == 0
+    bytes[0] <= 1
+        && bytes[1] <= 1
+        && bytes[2] <= 1
+        && bytes[3] <= 15
+        && bytes[4] <= 1
+        && bytes[5] == 0
 }
 
-// Of all sixteen posts, from the last one down.
-#[tactic(auto, using(section::proofs::Told::told_false, section::proofs::Told::told_true, crate::proofs::Laws::posts_stop, crate::proofs::Laws::posts_go_on), unfolding(crate::specs::Image::posts_well_formed))]
-fn posts_well_formed(bytes: &[u8], at: usize) -> bool
-    requires { at + posts_length ≤ length bytes.now }
-    ensures { result ≡ posts_well_formed bytes.now at most_posts }
+// Of all sixteen posts.
+fn posts_well_formed(bytes: &[u8]) -> bool
+    requires { posts_length ≤ length bytes.now }
+    ensures { result ≡ posts_well_formed bytes.now 0 most_posts }
 {
-    let mut i = POSTS_HELD;
-    while i > 0 {
-        i -= 1;
-        if !post_well_formed(bytes, at + POST_LENGTH * i) {
-            return false;
-        }
-    }
-    true
+    (0..POSTS_HELD).all(|i| post_well_formed(&bytes[POST_LENGTH * i..POST_LENGTH * (i + 1)]))
 }
 
 // Of the act and the turn's post, which is zero with no reversal.
@@ -90,46 +72,37 @@ fn posts_well_formed(bytes: &[u8], at: usize) -> bool
 fn walk_well_formed(act: u8, post: u8) -> bool
     ensures { result ≡ walk_well_formed act post }
 {
-    if act == 0 {
-        return post == 0;
-    }
-    act <= 3
+    if act == 0 { post == 0 } else { act <= 3 }
 }
 
 // Of a track: direction, act and turn's post, zero, posts.
-#[tactic(auto, using(section::proofs::Tests::first, section::proofs::Told::told_false, section::proofs::Told::told_true), unfolding(crate::specs::Image::track_well_formed))]
-fn track_well_formed(bytes: &[u8], at: usize) -> bool
-    requires { at + track_length ≤ length bytes.now }
-    ensures { result ≡ track_well_formed bytes.now at }
+#[tactic(auto, using(crate::proofs::Places::posts_place), unfolding(crate::specs::Image::track_well_formed))]
+fn track_well_formed(bytes: &[u8]) -> bool
+    requires { track_length ≤ length bytes.now }
+    ensures { result ≡ track_well_formed bytes.now 0 }
 {
-    if bytes[at] > 1 {
-        return false;
-    }
-    if !walk_well_formed(bytes[at + 1], bytes[at + 2]) {
-        return false;
-    }
-    if bytes[at + 3] != 0 {
-        return false;
-    }
-    posts_well_formed(bytes, at + POSTS)
+    bytes[0] <= 1
+        && walk_well_formed(bytes[1], bytes[2])
+        && bytes[3] == 0
+        && posts_well_formed(&bytes[POSTS..TRAINS])
+}
+
+// Of both tracks.
+#[tactic(auto, using(crate::proofs::Places::track_place))]
+fn tracks_well_formed(bytes: &[u8]) -> bool
+    requires { image_length ≤ length bytes.now }
+    ensures { result ≡ (track_well_formed bytes.now track_a && track_well_formed bytes.now track_b) }
+{
+    track_well_formed(&bytes[TRACK_A..TRACK_B]) && track_well_formed(&bytes[TRACK_B..IMAGE_LENGTH])
 }
 
 // Of this length and this layout, zero where the settings say nothing, and both tracks.
-#[tactic(auto, using(section::proofs::Tests::first, section::proofs::Told::told_false, section::proofs::Told::told_true), unfolding(crate::specs::Image::image_well_formed))]
+#[tactic(auto, unfolding(crate::specs::Image::image_well_formed))]
 pub fn image_well_formed(bytes: &[u8]) -> bool
     ensures { result ≡ image_well_formed bytes.now }
 {
-    if bytes.len() != IMAGE_LENGTH {
-        return false;
-    }
-    if reader::number_at(bytes, 0) != LAYOUT_NUMBER {
-        return false;
-    }
-    if reader::number_at(bytes, SETTINGS_ZEROS) != 0 {
-        return false;
-    }
-    if !track_well_formed(bytes, TRACK_A) {
-        return false;
-    }
-    track_well_formed(bytes, TRACK_B)
+    bytes.len() == IMAGE_LENGTH
+        && reader::number_at(bytes, 0) == LAYOUT_NUMBER
+        && reader::number_at(bytes, SETTINGS_ZEROS) == 0
+        && tracks_well_formed(bytes)
 }

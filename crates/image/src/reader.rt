@@ -5,25 +5,28 @@ ghost use Rattle.image.specs.Image.{image_length, track_length, post_length, pos
 ghost use Rattle.image.specs.Image.{number_at, post_at, posts_from, numbers_from, walk_of, track_from, section_of};
 
 use crate::{
-    LAST_TRAINS, NUMBER_LENGTH, POST_LENGTH, POSTS, POSTS_HELD, SETTINGS, TRACK_A, TRACK_B, TRAINS,
+    IMAGE_LENGTH, LAST_TRAINS, NUMBER_LENGTH, POST_LENGTH, POSTS, SETTINGS, TRACK_A, TRACK_B,
+    TRACK_LENGTH, TRAINS,
 };
-use section::{Act, Faults, MOST_BLOCKS, Post, Posts, Section, Track, Trains, Walk};
+use section::{Act, Faults, Post, Posts, Section, Track, Trains, Walk};
+use std::array;
 
-// Two bytes, the lower first.
-#[tactic(auto, unfolding(crate::specs::Image::number_at))]
+// Two bytes, the lower first. Bytes and a place, since a slice of two would be no plainer at its calls.
+#[tactic(auto, unfolding(crate::specs::Image::number_at, section::specs::Bytes::le16))]
 pub fn number_at(bytes: &[u8], at: usize) -> u16
     requires { at + number_length ≤ length bytes.now }
     ensures { result ≡ number_at bytes.now at }
 {
-    section::le16_of(bytes[at], bytes[at + 1])
+    u16::from_le_bytes([bytes[at], bytes[at + 1]])
 }
 
+// A post from its ten bytes.
 #[tactic(auto, unfolding(crate::specs::Image::post_at))]
-fn post_at(bytes: &[u8], at: usize) -> Post
-    requires { at + post_length ≤ length bytes.now }
-    ensures { result ≡ post_at bytes.now at }
+fn post_of(bytes: &[u8]) -> Post
+    requires { post_length ≤ length bytes.now }
+    ensures { result ≡ post_at bytes.now 0 }
 {
-    let flags = bytes[at + 3];
+    let flags = bytes[3];
     let faults = Faults {
         one: flags % 2 == 1,
         two: flags / 2 % 2 == 1,
@@ -31,44 +34,31 @@ fn post_at(bytes: &[u8], at: usize) -> Post
         four: flags / 8 % 2 == 1,
     };
     Post {
-        device: bytes[at] == 1,
-        permission: bytes[at + 1] == 1,
-        measures: bytes[at + 2] == 1,
-        faults: faults,
-        mark: bytes[at + 4] == 1,
-        seals: number_at(bytes, at + 6),
-        caution: number_at(bytes, at + 8),
+        device: bytes[0] == 1,
+        permission: bytes[1] == 1,
+        measures: bytes[2] == 1,
+        faults,
+        mark: bytes[4] == 1,
+        seals: number_at(bytes, 6),
+        caution: number_at(bytes, 8),
     }
 }
 
-#[tactic(auto, using(section::proofs::Items::none_filled, section::proofs::Items::one_more, section::proofs::Items::all_filled), unfolding(crate::specs::Image::posts_from))]
-fn posts_from(bytes: &[u8], at: usize) -> Posts
-    requires { at + posts_length ≤ length bytes.now }
-    ensures { result ≡ posts_from bytes.now at most_posts }
+fn posts_of(bytes: &[u8]) -> Posts
+    requires { posts_length ≤ length bytes.now }
+    ensures { result ≡ posts_from bytes.now 0 most_posts }
 {
-    let mut posts = [section::blank(); POSTS_HELD];
-    let mut i = 0;
-    while i < POSTS_HELD {
-        posts[i] = post_at(bytes, at + POST_LENGTH * i);
-        i += 1;
-    }
-    posts
+    array::from_fn(|i| post_of(&bytes[POST_LENGTH * i..POST_LENGTH * (i + 1)]))
 }
 
-#[tactic(auto, using(section::proofs::Items::none_filled, section::proofs::Items::one_more, section::proofs::Items::all_filled), unfolding(crate::specs::Image::numbers_from))]
-fn numbers_from(bytes: &[u8], at: usize) -> Trains
-    requires { at + numbers_length ≤ length bytes.now }
-    ensures { result ≡ numbers_from bytes.now at most_blocks }
+fn numbers_of(bytes: &[u8]) -> Trains
+    requires { numbers_length ≤ length bytes.now }
+    ensures { result ≡ numbers_from bytes.now 0 most_blocks }
 {
-    let mut numbers = [0; MOST_BLOCKS];
-    let mut i = 0;
-    while i < MOST_BLOCKS {
-        numbers[i] = number_at(bytes, at + NUMBER_LENGTH * i);
-        i += 1;
-    }
-    numbers
+    array::from_fn(|i| number_at(bytes, NUMBER_LENGTH * i))
 }
 
+// Of a number and a post, as C hands them over.
 #[tactic(auto, unfolding(crate::specs::Image::walk_of))]
 fn walk_of(act: u8, post: u8) -> Walk
     ensures { result ≡ walk_of act post }
@@ -81,17 +71,18 @@ fn walk_of(act: u8, post: u8) -> Walk
     }
 }
 
+// A track from its bytes alone.
 #[tactic(auto, unfolding(crate::specs::Image::track_from))]
-fn track_from(bytes: &[u8], at: usize) -> Track
-    requires { at + track_length ≤ length bytes.now }
-    ensures { result ≡ track_from bytes.now at }
+fn track_of(bytes: &[u8]) -> Track
+    requires { track_length ≤ length bytes.now }
+    ensures { result ≡ track_from bytes.now 0 }
 {
     Track {
-        posts: posts_from(bytes, at + POSTS),
-        trains: numbers_from(bytes, at + TRAINS),
-        last: numbers_from(bytes, at + LAST_TRAINS),
-        cvt: bytes[at] == 1,
-        walk: walk_of(bytes[at + 1], bytes[at + 2]),
+        posts: posts_of(&bytes[POSTS..TRAINS]),
+        trains: numbers_of(&bytes[TRAINS..LAST_TRAINS]),
+        last: numbers_of(&bytes[LAST_TRAINS..TRACK_LENGTH]),
+        cvt: bytes[0] == 1,
+        walk: walk_of(bytes[1], bytes[2]),
     }
 }
 
@@ -103,7 +94,7 @@ pub fn section_of(bytes: &[u8]) -> Section
 {
     Section {
         settings: layout::settings_of(&bytes[SETTINGS..TRACK_A]),
-        a: track_from(bytes, TRACK_A),
-        b: track_from(bytes, TRACK_B),
+        a: track_of(&bytes[TRACK_A..TRACK_B]),
+        b: track_of(&bytes[TRACK_B..IMAGE_LENGTH]),
     }
 }

@@ -18,9 +18,9 @@ ghost use Rattle.site.specs.InItsRanges.{InItsRanges};
 
 use index::index_at;
 use lamp_table::{LampTable, look_up};
-use rules::{Line, Site};
 use section::{Indications, Section, Settings, Track, Trains};
 use site::line::line_of;
+use site::place::Place;
 use site::running::{running_of, site};
 
 #[tactic(auto, unfolding(rules::specs::LampTable::taken_apart))]
@@ -36,11 +36,11 @@ fn taken_apart(entry: u8) -> Indications
 
 // What the post of a site shows, read from the lent table.
 #[tactic(auto, using(rules::proofs::LampTable::read_from_table))]
-fn read_at(table: &LampTable, c: Line, e: Site, trains: &Trains) -> Indications
-    requires { (table.now ≡ lamp_table) × (InItsRanges c e) }
-    ensures { result ≡ shown (lamps_at c e trains.now) }
+fn read_at(table: &LampTable, place: Place, trains: &Trains) -> Indications
+    requires { (table.now ≡ lamp_table) × (InItsRanges place.line place.site) }
+    ensures { result ≡ shown (lamps_at place.line place.site trains.now) }
 {
-    taken_apart(look_up(table, index_at(c, e, trains)))
+    taken_apart(look_up(table, index_at(place, trains)))
 }
 
 // What a post of a track in its ranges shows.
@@ -50,11 +50,11 @@ fn post_indications(c: Settings, track: bool, post: u8, t: Track) -> Indications
     ensures { result ≡ shown (lamps_at (line_of c) (site_on track post t) t.trains) }
 {
     let at = post as usize;
-    let own = t.posts[at];
-    let trains = t.trains;
-    let table = lamp_table::table();
-    let e = site(track, post, own, running_of(t));
-    read_at(&table, line_of(c), e, &trains)
+    let place = Place {
+        line: line_of(c),
+        site: site(track, post, t.posts[at], running_of(&t)),
+    };
+    read_at(&lamp_table::table(), place, &t.trains)
 }
 
 #[tactic(auto, unfolding(rules::specs::Indications::dark))]

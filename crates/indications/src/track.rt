@@ -10,6 +10,7 @@ ghost use Rattle.indications.specs.OnTrack.{indications_at};
 use crate::{all_dark, lamp_table, read_at};
 use section::{Indications, MOST_POSTS, Section, Settings, Track};
 use site::line::line_of;
+use site::place::Place;
 use site::running::{running_of, site};
 
 // Posts 0 to 15.
@@ -23,15 +24,15 @@ fn posts_of(c: Settings, track: bool, t: Track) -> PostsShown
 {
     let table = lamp_table::table();
     let line = line_of(c);
-    let trains = t.trains;
-    let running = running_of(t);
+    let running = running_of(&t);
     let mut filled = all_posts_dark();
-    let mut p = 0;
-    while p < c.posts {
+    for p in 0..c.posts {
         let at = p as usize;
-        let own = t.posts[at];
-        filled[at] = read_at(&table, line, site(track, p, own, running), &trains);
-        p += 1;
+        let place = Place {
+            line,
+            site: site(track, p, t.posts[at], running),
+        };
+        filled[at] = read_at(&table, place, &t.trains);
     }
     filled
 }

@@ -3,12 +3,10 @@ use Rattle.std.specs.Prelude.{ℕ, Bool, true, false, List, set}
 use Rattle.rules.specs.declared.Line.{Line}
 use Rattle.section.specs.declared.Step.{Step}
 use Rattle.section.specs.declared.Track.{Track}
-use Rattle.section.specs.declared.Verdict.{Verdict}
-use Rattle.section.specs.declared.Verdict.TheVariants as verdict
+use Rattle.section.specs.Refusal.{Verdict}
 use Rattle.rules.specs.declared.Site.{Site}
-use Rattle.site.specs.declared.ruling.Ruling.{Ruling}
-use Rattle.site.specs.declared.ruling.Ruling.TheVariants.{Refused, Accepted}
-use Rattle.site.specs.Ruling.{ruling_at, cells_ruled}
+use Rattle.std.specs.Prelude.{Ok, Err}
+use Rattle.site.specs.Ruling.{Ruling, ruling_at, cells_ruled}
 use Rattle.judging.specs.declared.at_post.PostAnswer.{PostAnswer}
 
 -- a refused step leaves what it found
@@ -16,8 +14,8 @@ abbrev pub as_before : Verdict → Site → PostAnswer
 as_before verdict e = record { verdict = verdict; own = e.own; running = record { cvt = e.cvt; walk = e.walk } }
 
 unfoldable pub judged_of : Ruling → Site → PostAnswer
-judged_of (Accepted f) e = record { verdict = verdict.Accepted f.said; own = f.own; running = record { cvt = f.cvt; walk = f.walk } }
-judged_of (Refused k) e = as_before (verdict.Refused k) e
+judged_of (Ok f) e = record { verdict = Ok f.said; own = f.own; running = record { cvt = f.cvt; walk = f.walk } }
+judged_of (Err k) e = as_before (Err k) e
 
 module _ (c : Line) (other_on_vns : Bool) (x : Step) (e : Site) (trains last : List ℕ) where
   unfoldable pub judged_at_post : PostAnswer

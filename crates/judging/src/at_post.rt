@@ -8,7 +8,7 @@ ghost use Rattle.judging.specs.AtPost.{as_before, judged_at_post, trains_at, las
 use crate::table::rule;
 use rules::{Line, Site};
 use section::{Post, Step, TrackStep, Trains, Verdict};
-use site::ruling::Ruling;
+use site::place::Place;
 use site::running;
 use site::running::Running;
 
@@ -24,14 +24,12 @@ pub struct PostAnswer {
 fn as_before(verdict: Verdict, e: Site) -> PostAnswer
     ensures { result ≡ as_before verdict e }
 {
-    let own = e.own;
-    let walk = e.walk;
     PostAnswer {
-        verdict: verdict,
-        own: own,
+        verdict,
+        own: e.own,
         running: Running {
             cvt: e.cvt,
-            walk: walk,
+            walk: e.walk,
         },
     }
 }
@@ -39,34 +37,27 @@ fn as_before(verdict: Verdict, e: Site) -> PostAnswer
 // Judges a step at its site.
 #[tactic(auto, using(crate::proofs::at_post::AtSite::accepted, crate::proofs::at_post::AtSite::refused, crate::proofs::at_post::AtSite::trains_told, crate::proofs::at_post::AtSite::last_told))]
 fn judge_at(
-    c: Line,
+    place: Place,
     x: Step,
-    e: Site,
     other_on_vns: bool,
     trains: &mut Trains,
     last: &mut Trains,
 ) -> PostAnswer
-    requires { InItsRanges c e }
-    ensures value { result ≡ judged_at_post c other_on_vns x e trains.old last.old }
-    ensures trains_after { trains.new ≡ trains_at c other_on_vns x e trains.old last.old }
-    ensures last_after { last.new ≡ last_at c other_on_vns x e trains.old last.old }
+    requires { InItsRanges place.line place.site }
+    ensures value { result ≡ judged_at_post place.line other_on_vns x place.site trains.old last.old }
+    ensures trains_after { trains.new ≡ trains_at place.line other_on_vns x place.site trains.old last.old }
+    ensures last_after { last.new ≡ last_at place.line other_on_vns x place.site trains.old last.old }
 {
-    let ruling = rule(c, x, e, other_on_vns, trains, last);
-    match ruling {
-        Ruling::Accepted(f) => {
-            let own = f.own;
-            let walk = f.walk;
-            let said = f.said;
-            PostAnswer {
-                verdict: Verdict::Accepted(said),
-                own: own,
-                running: Running {
-                    cvt: f.cvt,
-                    walk: walk,
-                },
-            }
-        }
-        Ruling::Refused(number) => as_before(Verdict::Refused(number), e),
+    match rule(place, x, other_on_vns, trains, last) {
+        Ok(f) => PostAnswer {
+            verdict: Ok(f.said),
+            own: f.own,
+            running: Running {
+                cvt: f.cvt,
+                walk: f.walk,
+            },
+        },
+        Err(number) => as_before(Err(number), place.site),
     }
 }
 
@@ -85,7 +76,9 @@ pub fn judge_at_post(
     ensures trains_after { trains.new ≡ trains_at c (on_vns other) x.step (site_with x.track (post_of x.step) own running) trains.old last.old }
     ensures last_after { last.new ≡ last_at c (on_vns other) x.step (site_with x.track (post_of x.step) own running) trains.old last.old }
 {
-    let step = x.step;
-    let e = running::site(x.track, running::post_of(step), own, running);
-    judge_at(c, step, e, running::settled_on_vns(other), trains, last)
+    let place = Place {
+        line: c,
+        site: running::site(x.track, running::post_of(x.step), own, running),
+    };
+    judge_at(place, x.step, running::settled_on_vns(other), trains, last)
 }

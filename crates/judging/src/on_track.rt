@@ -3,47 +3,32 @@ ghost use Rattle.std.specs.Prelude.{◌≡◌};
 ghost use Rattle.section.specs.Step.{post_of};
 ghost use Rattle.rules.specs.Site.{site_on};
 ghost use Rattle.site.specs.InItsRanges.{InItsRanges};
-ghost use Rattle.judging.specs.OnTrack.{judged_on_track};
+ghost use Rattle.judging.specs.OnTrack.{answer_on, judged_on_track};
 
-use crate::at_post;
+use crate::at_post::judge_at_post;
 use rules::Line;
 use section::{Track, TrackStep, Verdict};
-use site::running;
-use site::running::Running;
+use site::running::{Running, place_of, running_of};
 
-// A step's verdict, and its track after it.
-#[derive(Clone, Copy)]
-pub struct TrackAnswer {
-    pub verdict: Verdict,
-    pub track: Track,
-}
-
-// Judges a well-formed step on its own track; of the other only the running direction and the walk count.
+// Judges a well-formed step on its own track, in place; of the other only the running direction and the walk count.
 #[tactic(auto, using(crate::proofs::at_post::OnTrack::site_in, crate::proofs::on_track::OnTrack::put_back))]
-pub fn judge_on_track(c: Line, x: TrackStep, t: Track, other: Running) -> TrackAnswer
-    requires { InItsRanges c (site_on x.track (post_of x.step) t) }
-    ensures { result ≡ judged_on_track c x t other }
+pub fn judge_on_track(c: Line, x: TrackStep, own: &mut Track, other: Running) -> Verdict
+    requires { InItsRanges c (site_on x.track (post_of x.step) own.old) }
+    ensures { answer_on own.new result ≡ judged_on_track c x own.old other }
 {
-    let running = running::running_of(t);
-    let at = running::place_of(x);
-    let mut posts = t.posts;
-    let mut trains = t.trains;
-    let mut last = t.last;
-    let own = posts[at];
-    let judged = at_post::judge_at_post(c, x, own, running, other, &mut trains, &mut last);
-    let verdict = judged.verdict;
-    let own_after = judged.own;
-    let after = judged.running;
-    let walk = after.walk;
-    posts[at] = own_after;
-    TrackAnswer {
-        verdict: verdict,
-        track: Track {
-            posts: posts,
-            trains: trains,
-            last: last,
-            cvt: after.cvt,
-            walk: walk,
-        },
-    }
+    let p = place_of(x);
+    let running = running_of(own);
+    let judged = judge_at_post(
+        c,
+        x,
+        own.posts[p],
+        running,
+        other,
+        &mut own.trains,
+        &mut own.last,
+    );
+    own.posts[p] = judged.own;
+    own.cvt = judged.running.cvt;
+    own.walk = judged.running.walk;
+    judged.verdict
 }

@@ -6,6 +6,7 @@ use mathlib.Core.Path.{◌≡◌, refl, sym, ◌∙◌, ap}
 use native.Mathlib.Omega.{arith}
 use native.Mathlib.Numerals.{add-one}
 use lib.ListN.{length}
+use Rattle.std.proofs.Math.Nat.{mul-le-mul_left}
 use Rattle.section.specs.declared.Answer.{Answer}
 use Rattle.section.specs.declared.Section.{Section}
 use Rattle.section.specs.Range.{in_range}
@@ -15,12 +16,8 @@ use Rattle.rules.proofs.RangeLaw.{ranges_kept, settings_kept, judged_in_range}
 use Rattle.layout.specs.Layout.{step_at}
 use Rattle.text.specs.Text.{written, first_texts}
 use Rattle.text.proofs.Laws.{Putting, first_texts_whole, one_more_put}
-use Rattle.notes.proofs.Laws.{answer_length_lem, note_length_lem}
-use Rattle.notes.specs.Note.{note}
-use Rattle.judging_in_place.specs.declared.Entries.{Entries}
-use Rattle.judging_in_place.specs.declared.Entries.TheVariants.{Answers, Notes}
 use Rattle.judging_in_place.specs.Offered.{section_before, answer_to, offered_of, StepsAreOffered}
-use Rattle.judging_in_place.specs.Entries.{entry_length, entry_with, entry_of, entry_on, entries_of}
+use Rattle.judging_in_place.specs.Entries.{Entry, AsLong, entry_of, entry_on}
 
 -- ## The sections along the steps
 
@@ -72,48 +69,32 @@ steps_are_offered first steps (suc i) =
     ∙ state_one (state_after first (offered_of steps i)) (step_at steps i)
     ∙ sym (state_append first (offered_of steps i) (step_at steps i ∷ []))
 
--- ## How long what is kept is
-
-entry_length_lem : (entries : Entries) (answer : Answer) → length (entry_of entries answer) ≡ entry_length entries
-unfolding entry_of entry_with entry_length note
-entry_length_lem Answers answer = answer_length_lem answer.verdict
-entry_length_lem Notes answer = note_length_lem answer
-
-pub entries_length :
-    (entries : Entries) (first : Section) (steps : List ℕ) (m : ℕ) → length (first_texts (entry_on entries first steps) m) ≡ m * entry_length entries
-unfolding entry_on
-entries_length entries first steps m =
-    first_texts_whole (entry_on entries first steps) (entry_length entries) m (λ i. entry_length_lem entries (answer_to first steps i))
+-- ## What is kept
 
 -- room for what is kept of all steps is room for that of each
-pub one_fits :
-    (entries : Entries) (count i : ℕ) {room : ℕ} → i < count → entry_length entries * count ≤ room
-    → entry_length entries * i + entry_length entries ≤ room
-unfolding entry_length
-one_fits Answers count i more fits = omega arith
-one_fits Notes count i more fits = omega arith
+pub one_fits : (entry : Entry) (count i : ℕ) {room : ℕ} → i < count → entry.long * count ≤ room → entry.long * i + entry.long ≤ room
+one_fits entry count i more fits =
+    let next : i + 1 ≤ count = omega (arith, more) in
+    omega (arith, mul-le-mul_left entry.long next, fits)
 
--- ## One entry more
+module _ (entry : Entry) (as_long : AsLong entry) (first : Section) (steps : List ℕ) where
+  pub entries_length : (m : ℕ) → length (first_texts (entry_on entry first steps) m) ≡ m * entry.long
+  unfolding entry_on entry_of
+  entries_length m = first_texts_whole (entry_on entry first steps) entry.long m (λ i. as_long _ _ _)
 
-so_far_fits :
-    (entries : Entries) (i : ℕ) {long room : ℕ} → long ≡ i * entry_length entries → entry_length entries * i + entry_length entries ≤ room
-    → 0 + long ≤ room
-unfolding entry_length
-so_far_fits Answers i l fits = omega arith
-so_far_fits Notes i l fits = omega arith
-
-pub entry_put :
-    (entries : Entries) (first : Section) (steps lent : List ℕ) (count i : ℕ) {buffer after : List ℕ} (answer : Answer) → i < count
-    → entry_length entries * count ≤ length lent → buffer ≡ written lent 0 (first_texts (entry_on entries first steps) i)
-    → answer ≡ answer_to first steps i → after ≡ written buffer (i * entry_length entries) (entry_of entries answer)
-    → after ≡ written lent 0 (first_texts (entry_on entries first steps) (i + 1))
-unfolding entry_on
-entry_put entries first steps lent count i {buffer} {after} answer more room kept told put =
-    let place = entries_length entries first steps i in
-    let so_far : i * entry_length entries ≡ 0 + length (first_texts (entry_on entries first steps) i) = omega (arith, place) in
-    let one : Putting buffer (i * entry_length entries) (entry_on entries first steps i) _ after = (
-      refl,
-      put ∙ ap (λ (a : Answer). written buffer (i * entry_length entries) (entry_of entries a)) told,
-    ) in
-    (one_more_put (entry_on entries first steps) lent buffer after 0 i (i * entry_length entries) _
-    (so_far_fits entries i place (one_fits entries count i more room)) (so_far, kept) one).1
+  -- one entry more
+  pub entry_put :
+      (lent : List ℕ) (count i : ℕ) {buffer after : List ℕ} (answer : Answer) → i < count
+      → entry.long * count ≤ length lent → buffer ≡ written lent 0 (first_texts (entry_on entry first steps) i)
+      → answer ≡ answer_to first steps i → after ≡ written buffer (i * entry.long) (entry_of entry answer)
+      → after ≡ written lent 0 (first_texts (entry_on entry first steps) (i + 1))
+  unfolding entry_on
+  entry_put lent count i {buffer} {after} answer more room kept told put =
+      let place = entries_length i in
+      let so_far : i * entry.long ≡ 0 + length (first_texts (entry_on entry first steps) i) = omega (arith, place) in
+      let fits = one_fits entry count i more room in
+      let one : Putting buffer (i * entry.long) (entry_on entry first steps i) _ after = (
+        refl,
+        put ∙ ap (λ (a : Answer). written buffer (i * entry.long) (entry_of entry a)) told,
+      ) in
+      (one_more_put (entry_on entry first steps) lent buffer after 0 i (i * entry.long) _ (omega (arith, place, fits)) (so_far, kept) one).1

@@ -1,4 +1,4 @@
 pub mod Entries
 pub mod Offered
-pub mod Cells
+pub mod Tracks
 pub mod Notes

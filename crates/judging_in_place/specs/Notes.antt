@@ -1,7 +1,8 @@
 -- What is noted of the steps of a day, offered one after another from fresh.
 use Rattle.std.specs.Prelude.{ℕ, ◌*◌, ◌/◌, not, cond, List, ◌≡◌, ltb, length}
-use Rattle.section.specs.declared.Outcome.{Outcome}
-use Rattle.section.specs.declared.Outcome.TheVariants.{Done, Malformed, Refused}
+use Rattle.std.specs.Prelude.{Ok, Err}
+use Rattle.section.specs.declared.CallRefusal.TheVariants.{MalformedStep, NoRoom, StateOutOfRange}
+use Rattle.section.specs.Refusal.{Outcome}
 use Rattle.section.specs.declared.Settings.{Settings}
 use Rattle.section.specs.Fresh.{fresh_section}
 use Rattle.section.specs.Numbers.{step_length}
@@ -26,10 +27,10 @@ whole_steps steps = length steps / step_length
 -- notes; else how many are noted
 unfoldable pub day_outcome : Settings → List ℕ → ℕ → ℕ → Outcome
 day_outcome c steps count room =
-    cond (not (settings_in_range c)) (Refused 6)
-    (cond (ltb (whole_steps steps) count) (Malformed (whole_steps steps))
-    (cond (ltb room (note_length * count)) (Refused 5)
-    (Done count)))
+    cond (not (settings_in_range c)) (Err StateOutOfRange)
+    (cond (ltb (whole_steps steps) count) (Err (MalformedStep (whole_steps steps)))
+    (cond (ltb room (note_length * count)) (Err NoRoom)
+    (Ok count)))
 
 -- the buffer afterwards: the notes at its front; a refusal leaves it untouched
 unfoldable pub notes_after : Settings → List ℕ → ℕ → List ℕ → List ℕ

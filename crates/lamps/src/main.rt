@@ -3,10 +3,11 @@
 #![tactic(auto)]
 
 use lines::lamps::{TABLE_ROOM, put_table};
+use streams::Program;
 
+#[tactic(auto, using(lines::proofs::lamps::Laws::table_fits, std::proofs::lemmas::Grind::common_steps))]
 fn main(rt: HostRuntime) {
     let mut text = [0; TABLE_ROOM];
-    let n = put_table(&mut text);
-    let failure = b"lamps: cannot write standard output";
-    streams::write_whole(rt.stdout(), rt.stderr(), true, &text[..n], failure);
+    let length = put_table(&mut text);
+    let _ = Program::new(&rt, b"lamps").write_whole(&text[..length]);
 }

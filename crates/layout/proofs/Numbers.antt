@@ -1,11 +1,11 @@
--- Numbers and their bytes, both ways, and a list by its bytes.
-use mathlib.Core.Path.{◌≡◌, ◌∙◌, ap}
+-- Numbers and their bytes, both ways, as the library proves them of its own words; and a list by its bytes.
+use mathlib.Core.Path.{◌≡◌, refl, ◌∙◌, ap}
 use mathlib.Core.List.{List, [], ◌∷◌}
-use Prim.Native.Nat.{ℕ, zero, suc, ◌+◌, ◌*◌, ◌/◌, ◌%◌, ◌<◌}
-use native.Mathlib.Nat.{div-div-eq-div-mul, add-mul-mod_self_right, add-mul-div_right, mod-eq_of_lt, div-eq_of_lt}
+use Prim.Native.Nat.{ℕ, zero, suc, ◌+◌, ◌/◌, ◌%◌, ◌<◌}
 use native.Mathlib.Omega.{arith}
-use lib.ListN.{length, drop, drop_of_length-le}
+use lib.ListN.{length, get_or, drop, drop_of_length-le}
 use lib.Seq.{drop-cons}
+use Rattle.std.proofs.lemmas.Nat.{le_bytes_2, le_bytes_4, from_le_bytes-to_le_bytes_2, from_le_bytes-to_le_bytes_4}
 use Rattle.section.specs.Bytes.{byte, le16}
 use Rattle.layout.specs.Layout.{le16_bytes, le32, le32_bytes}
 
@@ -13,47 +13,33 @@ use Rattle.layout.specs.Layout.{le16_bytes, le32, le32_bytes}
 
 pub le16_number : (x : ℕ) → x < 65536 → le16 (x % 256) (x / 256 % 256) ≡ x
 unfolding le16
-le16_number x h = omega arith
+le16_number x h = from_le_bytes-to_le_bytes_2 x h
 
 pub le32_number : (x : ℕ) → x < 4294967296 → le32 (x % 256) (x / 256 % 256) (x / 65536 % 256) (x / 16777216 % 256) ≡ x
 unfolding le32
-le32_number x h =
-    rw (← div-div-eq-div-mul x 256 65536, ← div-div-eq-div-mul (x / 256) 256 256, ← div-div-eq-div-mul x 256 256) (omega arith)
-
--- the lowest digit, and the rest
-module _ (a q : ℕ) (h : a < 256) where
-  lowest : (a + q * 256) % 256 ≡ a
-  lowest = add-mul-mod_self_right a q 256 ∙ mod-eq_of_lt h
-
-  rest : (a + q * 256) / 256 ≡ q
-  rest = add-mul-div_right a q {z = 256} (omega arith) ∙ rw (div-eq_of_lt h) (omega arith)
+le32_number x h = from_le_bytes-to_le_bytes_4 x h
 
 module _ (a b : ℕ) (ha : a < 256) (hb : b < 256) where
+  two_small : (i : ℕ) → get_or (a ∷ b ∷ []) i 0 < 256
+  two_small zero = ha
+  two_small (suc zero) = hb
+  two_small (suc (suc i)) = omega arith
+
   pub le16_bytes_lem : le16_bytes (le16 a b) ≡ a ∷ b ∷ []
   unfolding le16_bytes le16
-  le16_bytes_lem = rw (lowest a b ha, rest a b ha, mod-eq_of_lt hb)
+  le16_bytes_lem = le_bytes_2 (a ∷ b ∷ []) _ refl two_small refl
 
   module _ (c d : ℕ) (hc : c < 256) (hd : d < 256) where
+    four_small : (i : ℕ) → get_or (a ∷ b ∷ c ∷ d ∷ []) i 0 < 256
+    four_small zero = ha
+    four_small (suc zero) = hb
+    four_small (suc (suc zero)) = hc
+    four_small (suc (suc (suc zero))) = hd
+    four_small (suc (suc (suc (suc i)))) = omega arith
+
     pub le32_bytes_lem : le32_bytes (le32 a b c d) ≡ a ∷ b ∷ c ∷ d ∷ []
     unfolding le32_bytes le32
-    le32_bytes_lem =
-        let z = c + d * 256 in
-        let y = b + z * 256 in
-        let x = a + y * 256 in
-        let e : a + b * 256 + c * 65536 + d * 16777216 ≡ x = omega arith in
-        rw (
-          e,
-          ← div-div-eq-div-mul x 256 65536,
-          ← div-div-eq-div-mul (x / 256) 256 256,
-          ← div-div-eq-div-mul x 256 256,
-          lowest a y ha,
-          rest a y ha,
-          lowest b z hb,
-          rest b z hb,
-          lowest c d hc,
-          rest c d hc,
-          mod-eq_of_lt hd,
-        )
+    le32_bytes_lem = le_bytes_4 (a ∷ b ∷ c ∷ d ∷ []) _ refl four_small refl
 
 -- ## A list of known length
 

@@ -4,12 +4,13 @@
 
 pub mod writer;
 
-ghost use Rattle.std.specs.Prelude.{◌≡◌, ◌+◌, ◌*◌, ◌≤◌, length, get_or};
-ghost use Rattle.section.specs.Numbers.{step_length, unused};
-ghost use Rattle.layout.specs.Layout.{shortest_file, settings_distance, settings_length, trailer_length, le32, le32_at, has_mark};
+ghost use Rattle.std.specs.Prelude.{◌≡◌, ◌+◌, ◌*◌, ◌≤◌, length};
+ghost use Rattle.section.specs.Numbers.{step_length};
+ghost use Rattle.layout.specs.Layout.{shortest_file, settings_distance, settings_length, trailer_length, le32_at, has_mark};
 ghost use Rattle.layout.specs.Layout.{trailer_in, tail_in, settings_in, steps_in, crossings_of, settings_of, step_at, step_count};
 
-use section::{Crossings, MOST_CROSSINGS, STEP_LENGTH, Settings, UNUSED, le16_of};
+use section::{Crossings, MOST_CROSSINGS, STEP_LENGTH, Settings, UNUSED};
+use std::array;
 
 pub const MOST_STEPS: usize = 4096;
 
@@ -32,51 +33,24 @@ pub const SHORTEST_FILE: usize = SETTINGS_LENGTH + TRAILER_LENGTH;
 
 pub const LONGEST_FILE: usize = SHORTEST_FILE + MOST_CROSSINGS + STEP_LENGTH * MOST_STEPS;
 
-// The 32-bit number of four bytes.
-#[tactic(auto, unfolding(crate::specs::Layout::le32))]
-fn le32_of(a: u8, b: u8, c: u8, d: u8) -> u32
-    ensures { result ≡ le32 a b c d }
-{
-    (a as u32) + (b as u32) * 256 + (c as u32) * 65536 + (d as u32) * 16777216
-}
-
 // The 32-bit number from byte i on.
-#[tactic(auto, unfolding(crate::specs::Layout::le32_at))]
+#[tactic(auto, unfolding(crate::specs::Layout::le32, crate::specs::Layout::le32_at))]
 pub fn le32_at(s: &[u8], i: usize) -> u32
     requires { i + 4 ≤ length s.now }
     ensures { result ≡ le32_at s.now i }
 {
-    le32_of(s[i], s[i + 1], s[i + 2], s[i + 3])
+    u32::from_le_bytes([s[i], s[i + 1], s[i + 2], s[i + 3]])
 }
 
-// A byte, or UNUSED past the end.
-fn crossing_at(s: &[u8], i: usize) -> u8
-    ensures { result ≡ get_or s.now i unused }
-{
-    if i < s.len() {
-        return s[i];
-    }
-    UNUSED // past the end
-}
-
-// The crossings that the tail says.
+// The crossings that the tail says: UNUSED where the bytes end before.
 fn crossings_of(s: &[u8]) -> Crossings
     ensures { result ≡ crossings_of s.now }
 {
-    [
-        crossing_at(s, 8),
-        crossing_at(s, 9),
-        crossing_at(s, 10),
-        crossing_at(s, 11),
-        crossing_at(s, 12),
-        crossing_at(s, 13),
-        crossing_at(s, 14),
-        crossing_at(s, 15),
-    ]
+    array::from_fn(|i| s.get(SETTINGS_LENGTH + i).copied().unwrap_or(UNUSED))
 }
 
 // The settings that eight bytes say, or sixteen.
-#[tactic(auto, unfolding(crate::specs::Layout::settings_of))]
+#[tactic(auto, unfolding(crate::specs::Layout::settings_of, section::specs::Bytes::le16))]
 pub fn settings_of(s: &[u8]) -> Settings
     requires { settings_length ≤ length s.now }
     ensures { result ≡ settings_of s.now }
@@ -84,8 +58,8 @@ pub fn settings_of(s: &[u8]) -> Settings
     Settings {
         posts: s[0],
         form: s[1],
-        mask: le16_of(s[2], s[3]),
-        line: le16_of(s[4], s[5]),
+        mask: u16::from_le_bytes([s[2], s[3]]),
+        line: u16::from_le_bytes([s[4], s[5]]),
         crossings: crossings_of(s),
     }
 }
@@ -101,21 +75,12 @@ pub fn trailer_in(file: &[u8]) -> &[u8]
 }
 
 // Whether the trailer begins with the mark.
-#[tactic(auto, using(section::proofs::Tests::first), unfolding(crate::specs::Layout::has_mark))]
+#[tactic(auto, unfolding(crate::specs::Layout::has_mark))]
 pub fn has_mark(mark: [u8; 4], t: &[u8]) -> bool
     requires { trailer_length ≤ length t.now }
     ensures { result ≡ has_mark mark t.now }
 {
-    if t[0] != mark[0] {
-        return false;
-    }
-    if t[1] != mark[1] {
-        return false;
-    }
-    if t[2] != mark[2] {
-        return false;
-    }
-    t[3] == mark[3]
+    t.starts_with(&mark)
 }
 
 // The length of the tail that a file with this mark has.
@@ -169,9 +134,5 @@ pub fn step_at(steps: &[u8], i: usize) -> &[u8]
 pub fn step_count(steps: &[u8]) -> usize
     ensures { result ≡ step_count steps.now }
 {
-    let whole = steps.len() / STEP_LENGTH;
-    if whole * STEP_LENGTH < steps.len() {
-        return whole + 1;
-    }
-    whole
+    steps.len().div_ceil(STEP_LENGTH)
 }

@@ -1,19 +1,11 @@
--- The fields of a line put one after another into a buffer, and how long a line is.
-use mathlib.Core.List.{List, [], ◌∷◌, ◌++◌, append_assoc}
-use Prim.Native.Nat.{ℕ, ◌+◌, ◌≤◌}
+-- How long the parts of a line are, and a line.
+use Prim.Native.Nat.{ℕ, ◌≤◌}
 use native.Mathlib.Omega.{arith}
 use lib.ListN.{length, length-append}
 use Rattle.section.specs.declared.Said.{Said}
 use Rattle.section.specs.declared.Said.TheVariants.{Nothing, Cvt, Cvtz, Vns, Vnsz}
-use Rattle.text.specs.Text.{decimal}
-use Rattle.text.proofs.Laws.{Putting, then, decimal_length}
+use Rattle.text.proofs.Laws.{decimal_length}
 use Rattle.lines.specs.Lines.{word, refused_line, header, verdict_fields, fields, refused_room, header_room, step_line_room}
-
-pub number_length_lem : (x end : ℕ) → length (decimal x ++ (end ∷ [])) ≤ 6
-number_length_lem x end = simp length-append (omega (arith, decimal_length x))
-
-pub named_length : (name : List ℕ) (x end : ℕ) → length (name ++ (decimal x ++ (end ∷ []))) ≤ length name + 6
-named_length name x end = simp length-append (omega (arith, decimal_length x))
 
 pub word_length : (said : Said) → length (word said) ≤ 4
 unfolding word
@@ -22,23 +14,6 @@ word_length Cvt = omega arith
 word_length Cvtz = omega arith
 word_length Vns = omega arith
 word_length Vnsz = omega arith
-
--- a number and the byte that follows it, then another text
-pub number_then :
-    (l m k : List ℕ) (at r q x end : ℕ) (t : List ℕ) → at + 6 ≤ length l → Putting l at (decimal x ++ (end ∷ [])) r m
-    → Putting m r t q k → Putting l at (decimal x ++ (end ∷ t)) q k
-number_then l m k at r q x end t room a b =
-    let h = number_length_lem x end in
-    rw (append_assoc (decimal x) (end ∷ []) t) at (then l m k at r q (decimal x ++ (end ∷ [])) t (omega arith) a b)
-
--- a name, a number and the byte that follows it, then another text
-pub named_then :
-    (l m k : List ℕ) (at r q : ℕ) (name : List ℕ) (x end : ℕ) (t : List ℕ) → at + (length name + 6) ≤ length l
-    → Putting l at (name ++ (decimal x ++ (end ∷ []))) r m → Putting m r t q k → Putting l at (name ++ (decimal x ++ (end ∷ t))) q k
-named_then l m k at r q name x end t room a b =
-    let h = named_length name x end in
-    rw (append_assoc name (decimal x ++ (end ∷ [])) t, append_assoc (decimal x) (end ∷ []) t)
-    at (then l m k at r q (name ++ (decimal x ++ (end ∷ []))) t (omega arith) a b)
 
 pub verdict_length : (refusal : ℕ) (said : Said) → length (verdict_fields refusal said) ≤ 10
 unfolding verdict_fields

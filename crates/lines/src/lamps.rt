@@ -6,6 +6,7 @@ ghost use Rattle.lines.specs.PrintedTable.{table_room, table_text};
 use crate::put_number;
 use indications::lamp_table::TABLE_LENGTH;
 use indications::rule::entry_by_rule;
+use text::Text;
 
 const LINE_ROOM: usize = 6;
 
@@ -13,17 +14,15 @@ const LINE_ROOM: usize = 6;
 pub const TABLE_ROOM: usize = LINE_ROOM * TABLE_LENGTH;
 
 // Writes the table from the buffer's front on, and returns its length.
-#[tactic(auto, using(text::proofs::Laws::none_put, text::proofs::Laws::one_more_put, crate::proofs::lamps::Laws::lines_fit), unfolding(crate::specs::PrintedTable::table_text))]
+#[tactic(auto, using(text::proofs::Put::first_none), unfolding(crate::specs::PrintedTable::table_text, text::specs::Put::put))]
 pub fn put_table(buffer: &mut [u8]) -> usize
     requires { table_room ≤ length buffer.old }
     ensures value { result ≡ length table_text }
     ensures buffer_after { buffer.new ≡ written buffer.old 0 table_text }
 {
-    let mut next = 0;
-    let mut i: usize = 0;
-    while i < TABLE_LENGTH {
-        next = put_number(buffer, next, entry_by_rule(i as u8) as usize, b'\n');
-        i += 1;
+    let mut text = Text::new(buffer);
+    for i in 0..TABLE_LENGTH {
+        put_number(&mut text, entry_by_rule(i as u8) as usize, b'\n');
     }
-    next
+    text.length()
 }

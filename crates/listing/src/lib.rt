@@ -2,6 +2,7 @@
 
 #![tactic(auto)]
 
+mod day;
 pub mod sheets;
 
 ghost use Rattle.std.specs.Prelude.{◌≡◌, ◌+◌, replicate};
@@ -24,7 +25,7 @@ pub fn file_room() -> [u8; FILE_ROOM]
     [0; FILE_ROOM]
 }
 
-// The bench listing of a file.
+// The bench listing of a file. Not one generic function with `panel`, which is no plainer: each is one call of `print`, with its own definition.
 #[tactic(auto, unfolding(crate::specs::Listing::listing, crate::specs::Sheet::line_on))]
 pub fn listing(file: &[u8], buffer: &mut [u8]) -> Outcome
     ensures value { result ≡ copied (listing file.now) buffer.old }

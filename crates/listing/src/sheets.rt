@@ -1,30 +1,33 @@
 // What is printed of a file, a line a step: the listing or the panel.
-ghost use Rattle.std.specs.Prelude.{true, ◌≡◌, ◌+◌, ◌*◌, ◌≤◌, length, replicate};
-ghost use Rattle.section.specs.declared.Outcome.{Outcome};
+ghost use Rattle.std.specs.Prelude.{true, ◌≡◌, ◌*◌, ◌≤◌, length, replicate};
 ghost use Rattle.section.specs.Fresh.{fresh_section};
 ghost use Rattle.section.specs.Numbers.{step_length};
-ghost use Rattle.section.specs.Settings.{settings_in_range};
+ghost use Rattle.section.specs.Range.{in_range};
+ghost use Rattle.rules.specs.Judge.{judge};
 ghost use Rattle.layout.specs.Layout.{most_steps};
+ghost use Rattle.text.specs.Put.{HasRoom, put};
 ghost use Rattle.text.specs.Text.{written};
 ghost use Rattle.text.specs.Copied.{copied, copied_out};
 ghost use Rattle.lines.specs.Lines.{step_line_room};
 ghost use Rattle.notes.specs.Note.{note_length};
 ghost use Rattle.lines.specs.PanelLine.{panel_line_room};
 ghost use Rattle.listing.specs.declared.sheets.Sheet.{Sheet};
-ghost use Rattle.listing.specs.Printed.{lines, printed_read, printed};
+ghost use Rattle.listing.specs.Printed.{lines, printed_day, printed};
 ghost use Rattle.listing.specs.Sheet.{line_on, line_room, room};
 
+use crate::day::Day;
 use judging_in_place::whole_day::note_day;
-use judging_in_place::{Entries, judge_steps};
+use judging_in_place::{Answers, judge_steps};
 use layout::{MOST_STEPS, step_at};
 use lines::listing::put_noted_lines;
 use lines::panel::put_panel;
 use lines::{put_header, put_refused};
 use notes::{ANSWER_LENGTH, NOTE_LENGTH};
-use section::{Outcome, Settings};
-use text::copy_out;
+use section::{Outcome, Section};
+use text::{Text, copy_out};
 
-// What is printed of each step: what it did, or what the posts show after it.
+// What is printed of each step: what it did, or what the posts show after it. A trait in its place would hold the same two ways to put the
+// lines, and beside them as laws what `line_on` and `room` say of both; and a caller has a sheet as a value.
 #[derive(Clone, Copy)]
 pub enum Sheet {
     Listing,
@@ -55,7 +58,7 @@ fn room_for(sheet: Sheet) -> usize
     }
 }
 
-// Room for the longest listing.
+// Room for the longest listing. Not one function with `panel_room`: an array's length is in its type, so each call would have to name it.
 #[tactic(auto, unfolding(crate::specs::Sheet::room, crate::specs::Sheet::line_room))]
 pub fn listing_room() -> [u8; LISTING_ROOM]
     ensures { result ≡ replicate (room Sheet.Listing most_steps) 0 }
@@ -78,95 +81,98 @@ fn room_for_notes() -> [u8; NOTES_ROOM]
     [0; NOTES_ROOM]
 }
 
-// Writes the listing's lines of all steps, from the notes taken of them, and returns the next place. Such a day can be noted, so the answer
-// is not looked at.
+// Puts the listing's lines of all steps, from the notes taken of them. Such a day can be noted, so the answer is not looked at.
 #[tactic(auto, using(judging_in_place::proofs::whole_day::Laws::day_done, judging_in_place::proofs::whole_day::Laws::notes_written, crate::proofs::sheets::Laws::lines_noted))]
-fn put_listing_lines(buffer: &mut [u8], at: usize, c: Settings, steps: &[u8], count: usize) -> usize
-    requires count_in_bounds { (at + step_line_room * count ≤ length buffer.old) × (count ≤ most_steps) }
-    requires count_in_bounds_2 { (step_length * count ≤ length steps.now) × (settings_in_range c ≡ true) }
-    ensures value { result ≡ at + length (lines (line_on Sheet.Listing) (fresh_section c) steps.now count) }
-    ensures buffer_after { buffer.new ≡ written buffer.old at (lines (line_on Sheet.Listing) (fresh_section c) steps.now count) }
+fn put_listing_lines(text: &mut Text, day: &Day)
+    requires { HasRoom text.old (step_line_room * day.now.count) }
+    ensures { text.new ≡ put text.old (lines (line_on Sheet.Listing) (fresh_section day.now.settings) day.now.steps.now day.now.count) }
 {
     let mut notes = room_for_notes();
-    note_day(c, steps, count, &mut notes);
-    put_noted_lines(buffer, at, &notes, count)
+    let _ = note_day(day.settings, day.steps, day.count, &mut notes);
+    put_noted_lines(text, &notes, day.count);
 }
 
-// Writes the panel's lines of all steps, each judged on the section that the one before left, and returns the next place. A line shows the posts
-// after its step, so the walk is taken a step at a time; the answers are not shown.
-#[tactic(auto, using(text::proofs::Laws::none_put, text::proofs::Laws::one_more_put, judging_in_place::proofs::Laws::in_range_before, judging_in_place::proofs::Laws::step_after, judging_in_place::proofs::whole_day::Laws::started, crate::proofs::sheets::Laws::line_at, crate::proofs::sheets::Laws::in_range_after, crate::proofs::sheets::Laws::one_more_fits, crate::proofs::sheets::Laws::line_put, crate::proofs::sheets::Laws::step_length_lem, crate::proofs::sheets::Laws::one_step), unfolding(judging_in_place::specs::Offered::section_before, judging_in_place::specs::Entries::entry_length, crate::specs::Printed::lines, crate::specs::Sheet::line_on))]
-fn put_panel_lines(buffer: &mut [u8], at: usize, c: Settings, steps: &[u8], count: usize) -> usize
-    requires count_in_bounds { at + panel_line_room * count ≤ length buffer.old }
-    requires count_in_bounds_2 { (step_length * count ≤ length steps.now) × (settings_in_range c ≡ true) }
-    ensures value { result ≡ at + length (lines (line_on Sheet.Panel) (fresh_section c) steps.now count) }
-    ensures buffer_after { buffer.new ≡ written buffer.old at (lines (line_on Sheet.Panel) (fresh_section c) steps.now count) }
+// The section after a step. Its answer is not shown.
+#[tactic(auto, using(crate::proofs::sheets::Laws::walk_of_one))]
+fn section_after(s: Section, bytes: &[u8]) -> Section
+    requires { (in_range s ≡ true) × (length bytes.now ≡ step_length) }
+    ensures { result ≡ (judge s bytes.now).section }
 {
-    let mut state = section::fresh(c);
     let mut answer: [u8; ANSWER_LENGTH] = [0; ANSWER_LENGTH];
-    let mut next = at;
-    let mut i = 0;
-    while i < count {
-        let bytes = step_at(steps, i);
-        state = judge_steps(state, bytes, 1, false, Entries::Answers, &mut answer);
-        next = put_panel(buffer, next, i, bytes[1], state);
-        i += 1;
-    }
-    next
+    judge_steps::<Answers>(s, bytes, 1, false, &mut answer)
 }
 
-// Writes the lines of all steps, and returns the next place.
+// Puts the panel's lines of all steps, each judged on the section that the one before left. A line shows the posts after its step, so the walk
+// is taken a step at a time.
+#[tactic(auto, using(text::proofs::Put::first_none, crate::proofs::sheets::Laws::step_length_lem), unfolding(judging_in_place::specs::Offered::section_before, crate::specs::Printed::lines, crate::specs::Sheet::line_on))]
+fn put_panel_lines(text: &mut Text, day: &Day)
+    requires { HasRoom text.old (panel_line_room * day.now.count) }
+    ensures { text.new ≡ put text.old (lines (line_on Sheet.Panel) (fresh_section day.now.settings) day.now.steps.now day.now.count) }
+{
+    let Day {
+        settings,
+        steps,
+        count,
+    } = *day;
+    let mut state = section::fresh(settings);
+    for i in 0..count {
+        let bytes = step_at(steps, i);
+        state = section_after(state, bytes);
+        put_panel(text, i, bytes[1], state);
+    }
+}
+
+// Puts the lines of all steps.
 #[tactic(auto, unfolding(crate::specs::Sheet::line_room))]
-fn put_lines(
-    sheet: Sheet,
-    buffer: &mut [u8],
-    at: usize,
-    c: Settings,
-    steps: &[u8],
-    count: usize,
-) -> usize
-    requires count_in_bounds { (at + line_room sheet * count ≤ length buffer.old) × (count ≤ most_steps) }
-    requires count_in_bounds_2 { (step_length * count ≤ length steps.now) × (settings_in_range c ≡ true) }
-    ensures value { result ≡ at + length (lines (line_on sheet) (fresh_section c) steps.now count) }
-    ensures buffer_after { buffer.new ≡ written buffer.old at (lines (line_on sheet) (fresh_section c) steps.now count) }
+fn put_lines(sheet: Sheet, text: &mut Text, day: &Day)
+    requires { HasRoom text.old (line_room sheet * day.now.count) }
+    ensures { text.new ≡ put text.old (lines (line_on sheet) (fresh_section day.now.settings) day.now.steps.now day.now.count) }
 {
     match sheet {
-        Sheet::Listing => put_listing_lines(buffer, at, c, steps, count),
-        Sheet::Panel => put_panel_lines(buffer, at, c, steps, count),
+        Sheet::Listing => put_listing_lines(text, day),
+        Sheet::Panel => put_panel_lines(text, day),
     }
 }
 
-// Writes what is printed of a day, and returns its length.
-#[tactic(auto, using(text::proofs::Laws::then, lines::proofs::Puts::header_length), unfolding(crate::specs::Sheet::room, crate::specs::Printed::printed_read, section::specs::Outcome::told, section::specs::Outcome::if_done))]
-fn put_day(sheet: Sheet, buffer: &mut [u8], c: Settings, steps: &[u8], count: usize) -> usize
-    requires count_in_bounds { (room sheet count ≤ length buffer.old) × (count ≤ most_steps) }
-    requires count_in_bounds_2 { (step_length * count ≤ length steps.now) × (settings_in_range c ≡ true) }
-    ensures value { result ≡ length (printed_read (line_on sheet) (Outcome.Done count) c steps.now) }
-    ensures buffer_after { buffer.new ≡ written buffer.old 0 (printed_read (line_on sheet) (Outcome.Done count) c steps.now) }
+// Puts what is printed of a day.
+#[tactic(auto, using(text::proofs::Put::texts, lines::proofs::Puts::header_length), unfolding(crate::specs::Sheet::room, crate::specs::Printed::printed_day))]
+fn put_day(sheet: Sheet, text: &mut Text, day: &Day)
+    requires { HasRoom text.old (room sheet day.now.count) }
+    ensures { text.new ≡ put text.old (printed_day (line_on sheet) day.now.settings day.now.count day.now.steps.now) }
 {
-    let next = put_header(buffer, 0, c.posts, count);
-    put_lines(sheet, buffer, next, c, steps, count)
+    put_header(text, day.settings.posts, day.count);
+    put_lines(sheet, text, day);
 }
 
-// Writes what is printed of a file, and returns its length.
-#[tactic(auto, using(crate::proofs::sheets::Laws::fewer_fit, crate::proofs::sheets::Laws::few_steps_read, crate::proofs::sheets::Laws::steps_whole, crate::proofs::sheets::Laws::settings_read_right, crate::proofs::sheets::Laws::printed_refused, crate::proofs::sheets::Laws::printed_malformed, crate::proofs::sheets::Laws::printed_day, crate::proofs::sheets::Laws::same_text), unfolding(crate::specs::Sheet::room))]
+// Puts what is printed of a file.
+#[tactic(auto, using(crate::proofs::sheets::Laws::fewer_fit, crate::proofs::sheets::Laws::few_steps_read, crate::proofs::sheets::Laws::steps_whole, crate::proofs::sheets::Laws::settings_read_right, crate::proofs::sheets::Laws::printed_refused, crate::proofs::sheets::Laws::printed_of_day), unfolding(crate::specs::Sheet::room))]
+fn put_file(sheet: Sheet, file: &[u8], text: &mut Text)
+    requires { HasRoom text.old (room sheet most_steps) }
+    ensures { text.new ≡ put text.old (printed (line_on sheet) file.now) }
+{
+    match dayfile::read(file) {
+        Ok(read) => {
+            let day = Day {
+                settings: read.settings,
+                steps: dayfile::steps(file, read.count),
+                count: read.count,
+            };
+            put_day(sheet, text, &day);
+        }
+        Err(refusal) => put_refused(text, u8::from(refusal), refusal.index()),
+    }
+}
+
+// Writes what is printed of a file to the front of a buffer that any sheet fits, and returns its length.
+#[tactic(auto, unfolding(text::specs::Put::put))]
 fn put_sheet(sheet: Sheet, file: &[u8], buffer: &mut [u8]) -> usize
     requires { room sheet most_steps ≤ length buffer.old }
     ensures value { result ≡ length (printed (line_on sheet) file.now) }
     ensures buffer_after { buffer.new ≡ written buffer.old 0 (printed (line_on sheet) file.now) }
 {
-    let answer = dayfile::read(file);
-    let reading = answer.reading;
-    match reading {
-        Outcome::Refused(number) => put_refused(buffer, 0, number, 0),
-        Outcome::Malformed(index) => put_refused(buffer, 0, 4, index),
-        Outcome::Done(count) => put_day(
-            sheet,
-            buffer,
-            answer.settings,
-            dayfile::steps(file, count),
-            count,
-        ),
-    }
+    let mut text = Text::new(buffer);
+    put_file(sheet, file, &mut text);
+    text.length()
 }
 
 // What is printed of a file, at the front of the buffer, if it is long enough. A buffer that any sheet fits is written to at once.
@@ -176,7 +182,7 @@ pub fn print(sheet: Sheet, file: &[u8], buffer: &mut [u8]) -> Outcome
     ensures buffer_after { buffer.new ≡ copied_out (printed (line_on sheet) file.now) buffer.old }
 {
     if room_for(sheet) <= buffer.len() {
-        return Outcome::Done(put_sheet(sheet, file, buffer));
+        return Ok(put_sheet(sheet, file, buffer));
     }
     let mut space = panel_room();
     let length = put_sheet(sheet, file, &mut space);

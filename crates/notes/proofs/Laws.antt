@@ -7,7 +7,7 @@ use native.Mathlib.Numerals.{add-one}
 use lib.ListN.{length, set, take, drop}
 use lib.Seq.{sets-eq}
 use Rattle.section.specs.declared.Answer.{Answer}
-use Rattle.section.specs.declared.Verdict.{Verdict}
+use Rattle.section.specs.Refusal.{Verdict}
 use Rattle.text.specs.Text.{written}
 use Rattle.text.proofs.Laws.{written_twice}
 use Rattle.notes.specs.Note.{answer_length, answer_bytes, note_length, note_with, note}

@@ -1,7 +1,7 @@
 -- What is kept of a step that was judged: its answer (document 02, request 4), or its note, for a line of the listing.
 use Rattle.std.specs.Prelude.{ℕ, List, [], ◌∷◌, ◌++◌}
 use Rattle.section.specs.declared.Answer.{Answer}
-use Rattle.section.specs.declared.Verdict.{Verdict}
+use Rattle.section.specs.Refusal.{Verdict}
 use Rattle.section.specs.Words.{refusal_of, said_by, said_number, track_letter}
 
 abbrev pub answer_length : ℕ

@@ -7,20 +7,21 @@ ghost use Rattle.text.specs.Text.{written};
 ghost use Rattle.notes.specs.Note.{answer_length, answer_bytes, note_length, note_with};
 
 use section::Verdict;
-use section::words::{refusal_of, said_by, said_number};
+use section::words::{refusal_of, said_by};
 
 pub const ANSWER_LENGTH: usize = 2;
 
 pub const NOTE_LENGTH: usize = 4;
 
-// Writes the answer to a step: 0 or the refusal, then the number of what is said.
+// Writes the answer to a step: 0 or the refusal, then the number of what is said. It stands at its step's place, not behind what was put before, so
+// that the buffer is no `Text`.
 #[tactic(auto, using(crate::proofs::Laws::two_stored), unfolding(crate::specs::Note::answer_bytes))]
 pub fn put_answer(answers: &mut [u8], at: usize, verdict: Verdict)
     requires { at + answer_length ≤ length answers.old }
     ensures { answers.new ≡ written answers.old at (answer_bytes verdict) }
 {
     answers[at] = refusal_of(verdict);
-    answers[at + 1] = said_number(said_by(verdict));
+    answers[at + 1] = u8::from(said_by(verdict));
 }
 
 // Writes the note of a step.

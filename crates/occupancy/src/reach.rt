@@ -9,19 +9,16 @@ use section::Trains;
 use site::ends::ends_at;
 
 // A train between the post of rank `from` and the next at which one ends: the next signalled post, or the next of all.
-#[tactic(auto, using(section::proofs::Told::told, crate::proofs::reach::Laws::reach_here, crate::proofs::reach::Laws::reach_ended, crate::proofs::reach::Laws::reach_on, crate::proofs::reach::Laws::is_train_lem, crate::proofs::reach::Laws::no_train), unfolding(rules::specs::Site::reach))]
+#[tactic(auto, using(crate::proofs::reach::Laws::reach_here, crate::proofs::reach::Laws::reach_ended, crate::proofs::reach::Laws::reach_on), unfolding(rules::specs::Site::reach))]
 pub fn holds_from(c: Line, signalled_only: bool, up: bool, from: u8, trains: &Trains) -> bool
     requires { (from < c.posts) × (c.posts ≤ most_posts) }
     ensures { result ≡ holds_from c signalled_only up trains.now from }
 {
-    let n = c.posts;
-    let mut j = from;
-    while j + 1 < n {
-        if train_after(trains, n, up, j) != 0 {
+    for j in from..c.posts - 1 {
+        if train_after(trains, c.posts, up, j) != 0 {
             return true;
         }
-        j += 1;
-        if ends_at(c, signalled_only, up, j) {
+        if ends_at(c, signalled_only, up, j + 1) {
             return false;
         }
     }

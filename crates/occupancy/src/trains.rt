@@ -2,13 +2,10 @@
 ghost use Rattle.std.specs.Prelude.{false, ◌≡◌, ◌+◌, ◌<◌, ◌≤◌, get_or};
 ghost use Rattle.section.specs.Numbers.{most_blocks, most_posts};
 ghost use Rattle.section.specs.Geometry.{block};
-ghost use Rattle.rules.specs.Site.{any_of, at_sending_end, at_receiving_end, block_ahead, train_before};
-ghost use Rattle.site.specs.OnTheLine.{OnTheLine};
-ghost use Rattle.occupancy.specs.Sought.{is_sought_train};
+ghost use Rattle.rules.specs.Site.{any_of, is_train, is_number, at_sending_end, at_receiving_end, block_ahead, train_before};
 
-use rules::{Line, Site};
 use section::{Trains, positions};
-use site::place::{block_ahead, block_before};
+use site::place::Place;
 
 // The train, or the last train, of block section i: the only place where judging reads a cell.
 fn train_in(cells: &Trains, i: usize) -> u16
@@ -27,52 +24,36 @@ pub fn train_after(cells: &Trains, n: u8, up: bool, j: u8) -> u16
     train_in(cells, positions::block(n, up, j) as usize)
 }
 
-// What is looked for: any train, or the one of that number.
-#[derive(Clone, Copy)]
-pub enum Sought {
-    AnyTrain,
-    Number(u16),
-}
-
-fn is_sought(sought: Sought, number: u16) -> bool
-    ensures { result ≡ is_sought_train sought number }
-{
-    match sought {
-        Sought::AnyTrain => number != 0,
-        Sought::Number(wanted) => number == wanted,
-    }
-}
-
-// One of the first m block sections keeps what is looked for.
-#[tactic(auto, using(section::proofs::Told::told, crate::proofs::trains::Laws::any_here, crate::proofs::trains::Laws::any_below), unfolding(rules::specs::Site::any_of))]
-pub fn any_of(m: u8, sought: Sought, trains: &Trains) -> bool
+// One of the first m block sections keeps a train.
+pub fn any_train(m: u8, trains: &Trains) -> bool
     requires { m ≤ most_blocks }
-    ensures { result ≡ any_of (is_sought_train sought) m trains.now }
+    ensures { result ≡ any_of is_train m trains.now }
 {
-    let mut i = m as usize;
-    while i > 0 {
-        i -= 1;
-        if is_sought(sought, train_in(trains, i)) {
-            return true;
-        }
-    }
-    false
+    trains[..m as usize].iter().any(|x| *x != 0)
+}
+
+// One of the first m block sections keeps that number.
+pub fn any_numbered(m: u8, number: u16, trains: &Trains) -> bool
+    requires { m ≤ most_blocks }
+    ensures { result ≡ any_of (is_number number) m trains.now }
+{
+    trains[..m as usize].iter().any(|x| *x == number)
 }
 
 // The train in the block section before the post.
 #[tactic(auto, using(site::proofs::place::Laws::has_before), unfolding(rules::specs::Site::train_before))]
-pub fn train_before(c: Line, e: Site, trains: &Trains) -> u16
-    requires { (OnTheLine c e) × (at_sending_end c e ≡ false) }
-    ensures { result ≡ train_before c e trains.now }
+pub fn train_before(place: Place, trains: &Trains) -> u16
+    requires { at_sending_end place.line place.site ≡ false }
+    ensures { result ≡ train_before place.line place.site trains.now }
 {
-    train_in(trains, block_before(c, e))
+    train_in(trains, place.block_before())
 }
 
 // The train, or the last train, of the block section ahead.
 #[tactic(auto, using(site::proofs::place::Laws::has_ahead))]
-pub fn train_ahead(c: Line, e: Site, cells: &Trains) -> u16
-    requires { (OnTheLine c e) × (at_receiving_end c e ≡ false) }
-    ensures { result ≡ get_or cells.now (block_ahead c e) 0 }
+pub fn train_ahead(place: Place, cells: &Trains) -> u16
+    requires { at_receiving_end place.line place.site ≡ false }
+    ensures { result ≡ get_or cells.now (block_ahead place.line place.site) 0 }
 {
-    train_in(cells, block_ahead(c, e))
+    train_in(cells, place.block_ahead())
 }

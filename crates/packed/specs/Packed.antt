@@ -1,8 +1,7 @@
 -- What the C interface returns, packed into one number.
 use Rattle.std.specs.Prelude.{ℕ, ◌+◌, ◌*◌, ◌%◌, ◌^◌}
 use Rattle.section.specs.declared.Indications.{Indications}
-use Rattle.section.specs.declared.Outcome.{Outcome}
-use Rattle.section.specs.declared.Verdict.{Verdict}
+use Rattle.section.specs.Refusal.{Outcome, Verdict}
 use Rattle.section.specs.Outcome.{refusal_number, told, if_done}
 use Rattle.section.specs.Words.{refusal_of, said_by, said_number}
 

@@ -3,10 +3,11 @@
 #![tactic(auto)]
 
 ghost use Rattle.std.specs.Prelude.{◌≡◌, ◌<◌, ◌≤◌, ◌^◌};
+ghost use Rattle.section.specs.Outcome.{refusal_number, told};
 ghost use Rattle.packed.specs.Packed.{packed_reading, packed_figure, packed_outcome, packed_verdict, packed_indications, packed_copied};
 ghost use Rattle.packed.specs.Settings.{lent_settings_well_formed};
 
-use section::words::{refusal_of, said_by, said_number};
+use section::words::{refusal_of, said_by};
 use section::{Indications, Outcome, Verdict};
 
 // Whether lent bytes are settings: as many as a day file has for them, eight or, with crossings, sixteen, and such that its reader takes them.
@@ -16,17 +17,25 @@ pub fn lent_settings_well_formed(bytes: &[u8]) -> bool
     file_tests::settings_well_formed(bytes)
 }
 
+// The refusal, 0 for none, and how much was done or the refusal's index.
+#[tactic(auto, unfolding(section::specs::Outcome::refusal_number, section::specs::Outcome::told, section::specs::Outcome::refusal_index))]
+fn refusal_and_figure(outcome: Outcome) -> (u8, usize)
+    ensures { (result.0 ≡ refusal_number outcome) × (result.1 ≡ told outcome) }
+{
+    match outcome {
+        Ok(figure) => (0, figure),
+        Err(refusal) => (u8::from(refusal), refusal.index()),
+    }
+}
+
 // The refusal, and the count of steps or the refusal's index: every reading of a file fits.
-#[tactic(auto, unfolding(crate::specs::Packed::packed_reading, section::specs::Outcome::refusal_number, section::specs::Outcome::told, section::specs::Outcome::refusal_index))]
+#[tactic(auto, unfolding(crate::specs::Packed::packed_reading))]
 pub fn packed_reading(reading: Outcome) -> u32
     requires { packed_reading reading < 2 ^ 32 }
     ensures { result ≡ packed_reading reading }
 {
-    match reading {
-        Outcome::Done(count) => count as u32,
-        Outcome::Malformed(index) => 4 * 65536 + (index as u32),
-        Outcome::Refused(number) => (number as u32) * 65536,
-    }
+    let (number, figure) = refusal_and_figure(reading);
+    u32::from(number) * 65536 + (figure as u32)
 }
 
 // A refusal, 0 for none, and a figure beside it, of which the lowest 32 bits are kept.
@@ -34,19 +43,16 @@ pub fn packed_reading(reading: Outcome) -> u32
 pub fn packed_figure(number: u8, figure: usize) -> u64
     ensures { result ≡ packed_figure number figure }
 {
-    (number as u64) + ((figure % 4294967296) as u64) * 256
+    u64::from(number) + ((figure % 4294967296) as u64) * 256
 }
 
 // The refusal, and how much was done or the refusal's index.
-#[tactic(auto, unfolding(crate::specs::Packed::packed_outcome, section::specs::Outcome::refusal_number, section::specs::Outcome::told, section::specs::Outcome::refusal_index))]
+#[tactic(auto, unfolding(crate::specs::Packed::packed_outcome))]
 pub fn packed_outcome(outcome: Outcome) -> u64
     ensures { result ≡ packed_outcome outcome }
 {
-    match outcome {
-        Outcome::Done(figure) => packed_figure(0, figure),
-        Outcome::Malformed(index) => packed_figure(4, index),
-        Outcome::Refused(number) => packed_figure(number, 0),
-    }
+    let (number, figure) = refusal_and_figure(outcome);
+    packed_figure(number, figure)
 }
 
 // The refusal, and what is said.
@@ -54,7 +60,7 @@ pub fn packed_outcome(outcome: Outcome) -> u64
 pub fn packed_verdict(verdict: Verdict) -> u16
     ensures { result ≡ packed_verdict verdict }
 {
-    (refusal_of(verdict) as u16) + (said_number(said_by(verdict)) as u16) * 256
+    u16::from(refusal_of(verdict)) + u16::from(u8::from(said_by(verdict))) * 256
 }
 
 // What a post shows.
@@ -62,7 +68,7 @@ pub fn packed_verdict(verdict: Verdict) -> u16
 pub fn packed_indications(shown: Indications) -> u16
     ensures { result ≡ packed_indications shown }
 {
-    (shown.circulation as u16) + (shown.troncon as u16) * 8 + (shown.permission as u16) * 64
+    u16::from(shown.circulation) + u16::from(shown.troncon) * 8 + u16::from(shown.permission) * 64
 }
 
 // The length and 1, or 0. No buffer, and so no text in it, is as long as 2^63 bytes.
@@ -72,8 +78,7 @@ pub fn packed_copied(done: Outcome) -> u64
     ensures { result ≡ packed_copied done }
 {
     match done {
-        Outcome::Done(size) => (size as u64) + 1,
-        Outcome::Malformed(_) => 0,
-        Outcome::Refused(_) => 0,
+        Ok(size) => (size as u64) + 1,
+        Err(_) => 0,
     }
 }

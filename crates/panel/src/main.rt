@@ -2,25 +2,21 @@
 
 #![tactic(auto)]
 
-use section::Outcome;
-use std::io::{Stderr, Stdout};
-use streams::Input;
+ghost use Rattle.std.specs.Prelude.{◌≤◌, length, IfSome};
 
-// Writes the panel of a file. The buffer has room for every panel.
-fn print(stdout: Stdout, stderr: Stderr, file: &[u8]) {
-    let mut text = listing::sheets::panel_room();
-    if let Outcome::Done(n) = listing::panel(file, &mut text) {
-        let failure = b"panel: cannot write standard output";
-        streams::write_whole(stdout, stderr, true, &text[..n], failure);
-    }
+use listing::file_room;
+use listing::sheets::panel_room;
+use streams::Program;
+
+// Makes the panel of a file, and answers how long it is, if it has room.
+#[tactic(auto, using(text::proofs::CopiedOut::within))]
+fn make_panel(file: &[u8], text: &mut [u8]) -> Option<usize>
+    ensures { IfSome result (λ n. n ≤ length text.new) }
+{
+    listing::panel(file, text).ok()
 }
 
 fn main(rt: HostRuntime) {
-    let mut file = listing::file_room();
-    match streams::read_whole(rt.stdin(), &mut file) {
-        Input::Bytes(n) => print(rt.stdout(), rt.stderr(), &file[..n]),
-        Input::Failed(error) => {
-            streams::fail(rt.stderr(), b"panel: cannot read standard input", error);
-        }
-    }
+    let mut panel = Program::new(&rt, b"panel");
+    let _ = panel.convert(&mut file_room(), &mut panel_room(), make_panel);
 }

@@ -13,38 +13,19 @@ fn none_from(mask: u16, n: u8) -> bool
     requires { n ≤ most_posts }
     ensures { result ≡ none_from mask n }
 {
-    (mask as u32) >> n == 0
+    u32::from(mask) >> n == 0
 }
 
-#[tactic(auto, using(section::proofs::Laws::both, section::proofs::Tests::first, section::proofs::Told::told_false, section::proofs::Told::told_true), unfolding(section::specs::Settings::settings_in_range, section::specs::Bytes::within))]
+#[tactic(auto, unfolding(section::specs::Settings::settings_in_range, section::specs::Bytes::within))]
 pub fn settings_in_range(c: Settings) -> bool
     ensures { result ≡ settings_in_range c }
 {
     let n = c.posts;
-    if n < LEAST_POSTS {
-        return false;
-    }
-    if n > MOST_POSTS {
-        return false;
-    }
-    if c.form > 1 {
-        return false;
-    }
-    if !is_signalled(c.mask, 0) {
-        return false;
-    }
-    if !is_signalled(c.mask, n - 1) {
-        return false;
-    }
-    if !none_from(c.mask, n) {
-        return false;
-    }
-    if c.line < 1 {
-        return false;
-    }
-    if c.line > LARGEST_LINE {
-        return false;
-    }
-    let crossings = c.crossings;
-    crossings_in_range(n, &crossings)
+    (LEAST_POSTS..=MOST_POSTS).contains(&n)
+        && c.form <= 1
+        && is_signalled(c.mask, 0)
+        && is_signalled(c.mask, n - 1)
+        && none_from(c.mask, n)
+        && (1..=LARGEST_LINE).contains(&c.line)
+        && crossings_in_range(n, &c.crossings)
 }

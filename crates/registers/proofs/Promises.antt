@@ -5,14 +5,16 @@ use mathlib.Core.Bool.{Bool, true, false, not, cond, ◌||◌, true≢false}
 use mathlib.Core.List.{List}
 use Prim.Native.Nat.{ℕ, zero, suc, ◌<◌, ◌≤◌}
 use native.Mathlib.Nat.{not-suc-le-zero}
+use Rattle.std.specs.Prelude.{Option, Some, None, Ok, Err}
 use native.Mathlib.Omega.{arith}
 use lib.Dec.{ltb}
 use borrow.Author.Tests.{not-true, not-false, ltb-true, ltb-false}
 use Rattle.layout.specs.Layout.{step_count}
 use Rattle.file_tests.specs.Tests.{leading}
 use Rattle.file_tests.proofs.Laws.{all_pass}
-use Rattle.registers.specs.declared.Comparison.{Comparison}
-use Rattle.registers.specs.declared.Comparison.TheVariants.{Matched, NoOffset, Differs, Malformed}
+use Rattle.registers.specs.declared.Book.{Book}
+use Rattle.registers.specs.declared.Book.TheVariants.{First, Second}
+use Rattle.registers.specs.declared.Mismatch.TheVariants.{Differs, Malformed}
 use Rattle.registers.specs.Books.{well_at, first_malformed, some_malformed, sent, received, same_list, first_difference}
 use Rattle.registers.specs.Books.{fits, smallest_offset, offset_answer, match_answer, comparison}
 use Rattle.registers.specs.Answers.{refusal_number}
@@ -54,41 +56,38 @@ past : {A : Type 0} (b : Bool) (x y c : A) → (x ≡ c → ⊥) → cond b x y 
 past true x y c other e = absurd (other e)
 past false x y c other e = (refl, e)
 
--- an answer that names no place is the search's
-module _ (first second : List ℕ) (c : Comparison) (names : (n i : ℕ) → (Malformed n i ≡ c → ⊥) × (Differs n i ≡ c → ⊥)) where
-  searched : comparison first second ≡ c → offset_answer first second ≡ c
+ok_not_err : {A E : Type 0} (x : A) (e : E) → Err e ≡ Ok x → ⊥
+ok_not_err x e p = cc
+
+-- an answer that is no mismatch is the search's
+module _ (first second : List ℕ) (o : Option ℕ) where
+  searched : comparison first second ≡ Ok o → offset_answer first second ≡ o
   unfolding comparison match_answer
   searched e =
-      let e₁ = (past (some_malformed first) _ _ c (names 0 (first_malformed first)).0 e).1 in
-      let e₂ = (past (some_malformed second) _ _ c (names 1 (first_malformed second)).0 e₁).1 in
-      let e₃ =
-      (past (not (same_list (sent first) (received second))) _ _ c (names 0 (first_difference (sent first) (received second))).1 e₂).1 in
-      (past (not (same_list (sent second) (received first))) _ _ c (names 1 (first_difference (sent second) (received first))).1 e₃).1
-
-matched_names : (k n i : ℕ) → (Malformed n i ≡ Matched k → ⊥) × (Differs n i ≡ Matched k → ⊥)
-matched_names k n i = (λ e. let z : ◌≡◌ {A = ℕ} 0 1 = cc in omega arith, λ e. let z : ◌≡◌ {A = ℕ} 0 1 = cc in omega arith)
-
-none_names : (n i : ℕ) → (Malformed n i ≡ NoOffset → ⊥) × (Differs n i ≡ NoOffset → ⊥)
-none_names n i = (λ e. let z : ◌≡◌ {A = ℕ} 0 1 = cc in omega arith, λ e. let z : ◌≡◌ {A = ℕ} 0 1 = cc in omega arith)
+      let e₁ = (past (some_malformed first) _ _ (Ok o) (ok_not_err _ _) e).1 in
+      let e₂ = (past (some_malformed second) _ _ (Ok o) (ok_not_err _ _) e₁).1 in
+      let e₃ = (past (not (same_list (sent first) (received second))) _ _ (Ok o) (ok_not_err _ _) e₂).1 in
+      let e₄ = (past (not (same_list (sent second) (received first))) _ _ (Ok o) (ok_not_err _ _) e₃).1 in
+      cc
 
 -- ## Malformed records
 
 -- what comes after the tests of the records refuses nothing
-none_later : (c d e : Bool) (i j k : ℕ) → refusal_number (cond c (Differs 0 i) (cond d (Differs 1 j) (cond e (Matched k) NoOffset))) ≡ 0
+none_later :
+    (c d : Bool) (i j : ℕ) (o : Option ℕ) →
+    refusal_number (cond c (Err (Differs First i)) (cond d (Err (Differs Second j)) (Ok o))) ≡ 0
 unfolding refusal_number
-none_later true d e i j k = refl
-none_later false true e i j k = refl
-none_later false false true i j k = refl
-none_later false false false i j k = refl
+none_later true d i j o = refl
+none_later false true i j o = refl
+none_later false false i j o = refl
 
 match_refuses_none : (first second : List ℕ) → refusal_number (match_answer first second) ≡ 0
-unfolding match_answer offset_answer
+unfolding match_answer
 match_refuses_none first second =
     none_later (not (same_list (sent first) (received second))) (not (same_list (sent second) (received first)))
-    (ltb (smallest_offset first second) 241) (first_difference (sent first) (received second)) (first_difference (sent second) (received first))
-    (smallest_offset first second)
+    (first_difference (sent first) (received second)) (first_difference (sent second) (received first)) (offset_answer first second)
 
-match_names_none : (first second : List ℕ) (b i : ℕ) → match_answer first second ≡ Malformed b i → ⊥
+match_names_none : (first second : List ℕ) (b : Book) (i : ℕ) → match_answer first second ≡ Err (Malformed b i) → ⊥
 unfolding refusal_number
 match_names_none first second b i e =
     let z : ◌≡◌ {A = ℕ} 0 24 = sym (match_refuses_none first second) ∙ ap refusal_number e in omega arith
@@ -100,7 +99,8 @@ refused_with_24 first second = go (some_malformed first) (some_malformed second)
     go :
         (a b : Bool) →
         refusal_number
-        (cond a (Malformed 0 (first_malformed first)) (cond b (Malformed 1 (first_malformed second)) (match_answer first second)))
+        (cond a (Err (Malformed First (first_malformed first)))
+        (cond b (Err (Malformed Second (first_malformed second))) (match_answer first second)))
         ≡ cond (a || b) 24 0
     go true b = refl
     go false true = refl
@@ -122,48 +122,48 @@ first_book_first first second i =
   where
     of_first :
         (a : Bool) → some_malformed first ≡ a →
-        cond a (Malformed 0 (first_malformed first))
-        (cond (some_malformed second) (Malformed 1 (first_malformed second)) (match_answer first second))
-        ≡ Malformed 0 i →
+        cond a (Err (Malformed First (first_malformed first)))
+        (cond (some_malformed second) (Err (Malformed Second (first_malformed second))) (match_answer first second))
+        ≡ Err (Malformed First i) →
         FirstSuch first i
     of_first true m e = first_such first i m cc
     of_first false m e =
-        absurd
-        (match_names_none first second 0 i
-        (past (some_malformed second) _ _ (Malformed 0 i) (λ q. let z : ◌≡◌ {A = ℕ} 0 1 = cc in omega arith) e).1)
+        absurd (match_names_none first second First i (past (some_malformed second) _ _ (Err (Malformed First i)) (λ q. cc) e).1)
 
     of_second :
         (a : Bool) → some_malformed first ≡ a → (b : Bool) → some_malformed second ≡ b →
-        cond a (Malformed 0 (first_malformed first)) (cond b (Malformed 1 (first_malformed second)) (match_answer first second)) ≡ Malformed 1 i →
+        cond a (Err (Malformed First (first_malformed first)))
+        (cond b (Err (Malformed Second (first_malformed second))) (match_answer first second))
+        ≡ Err (Malformed Second i) →
         (some_malformed first ≡ false) × FirstSuch second i
-    of_second true m b q e = absurd (let z : ◌≡◌ {A = ℕ} 0 1 = cc in omega arith)
+    of_second true m b q e = absurd cc
     of_second false m true q e = (m, first_such second i q cc)
-    of_second false m false q e = absurd (match_names_none first second 1 i e)
+    of_second false m false q e = absurd (match_names_none first second Second i e)
 
 -- ## The offset
 
 -- what the search ended with
-found : (n k : ℕ) → cond (ltb n 241) (Matched n) NoOffset ≡ Matched k → (n < 241) × (n ≡ k)
+found : (n k : ℕ) → cond (ltb n 241) (Some n) None ≡ Some k → (n < 241) × (n ≡ k)
 found n k e = go (ltb n 241) refl e
   where
-    go : (b : Bool) → ltb n 241 ≡ b → cond b (Matched n) NoOffset ≡ Matched k → (n < 241) × (n ≡ k)
+    go : (b : Bool) → ltb n 241 ≡ b → cond b (Some n) None ≡ Some k → (n < 241) × (n ≡ k)
     go true p e = (ltb-true n 241 p, cc)
-    go false p e = absurd (let z : ◌≡◌ {A = ℕ} 0 1 = cc in omega arith)
+    go false p e = absurd cc
 
-nowhere : (n : ℕ) → cond (ltb n 241) (Matched n) NoOffset ≡ NoOffset → 241 ≤ n
+nowhere : (n : ℕ) → cond (ltb n 241) (Some n) None ≡ None → 241 ≤ n
 nowhere n e = go (ltb n 241) refl e
   where
-    go : (b : Bool) → ltb n 241 ≡ b → cond b (Matched n) NoOffset ≡ NoOffset → 241 ≤ n
-    go true p e = absurd (let z : ◌≡◌ {A = ℕ} 0 1 = cc in omega arith)
+    go : (b : Bool) → ltb n 241 ≡ b → cond b (Some n) None ≡ None → 241 ≤ n
+    go true p e = absurd cc
     go false p e = ltb-false n 241 p
 
 module _ (first second : List ℕ) where
-  smallest_is_found : (k : ℕ) → offset_answer first second ≡ Matched k → smallest_offset first second ≡ k
+  smallest_is_found : (k : ℕ) → offset_answer first second ≡ Some k → smallest_offset first second ≡ k
   unfolding offset_answer
   smallest_is_found k e = (found (smallest_offset first second) k e).1
 
   smallest_found :
-      (k : ℕ) → offset_answer first second ≡ Matched k →
+      (k : ℕ) → offset_answer first second ≡ Some k →
       (k ≤ 240) × ((fits first second k ≡ true) × ((j : ℕ) → j < k → fits first second j ≡ false))
   unfolding offset_answer smallest_offset
   smallest_found k e =
@@ -177,30 +177,30 @@ module _ (first second : List ℕ) where
         ),
       )
 
-  none_found : offset_answer first second ≡ NoOffset → NoneFits first second
+  none_found : offset_answer first second ≡ None → NoneFits first second
   unfolding offset_answer smallest_offset
   none_found e k h =
       let n = leading (λ (j : ℕ). not (fits first second j)) 241 in
       not-true (fits first second k) (all_pass (λ (j : ℕ). not (fits first second j)) 241 (nowhere n e) k (omega arith))
 
 pub smallest_offset_lem : SmallestOffset
-smallest_offset_lem first second k e = smallest_found first second k (searched first second (Matched k) (matched_names k) e)
+smallest_offset_lem first second k e = smallest_found first second k (searched first second (Some k) e)
 
 pub only_if_none_exists : OnlyIfNoneExists
-only_if_none_exists first second e = none_found first second (searched first second NoOffset none_names e)
+only_if_none_exists first second e = none_found first second (searched first second None e)
 
 -- the lower end of what the walks leave
 pub intersection : Intersection
 unfolding offset_within
-intersection first second l₀ m₀ l₁ m₁ a b w v = go (none_left l₀ m₀ l₁ m₁) refl (offset_answer_is first second l₀ m₀ l₁ m₁ a b w v)
+intersection first second one other a b w v = go (none_left one other) refl (offset_answer_is first second one other a b w v)
   where
     go :
-        (t : Bool) → none_left l₀ m₀ l₁ m₁ ≡ t → cond t NoOffset (Matched (lower_end l₀ m₁)) ≡ offset_answer first second →
-        (none_left l₀ m₀ l₁ m₁ ≡ false → smallest_offset first second ≡ lower_end l₀ m₁)
-        × ((none_left l₀ m₀ l₁ m₁ ≡ true → NoneFits first second) × (NoneFits first second → none_left l₀ m₀ l₁ m₁ ≡ true))
+        (t : Bool) → none_left one other ≡ t → cond t None (Some (lower_end one other)) ≡ offset_answer first second →
+        (none_left one other ≡ false → smallest_offset first second ≡ lower_end one other)
+        × ((none_left one other ≡ true → NoneFits first second) × (NoneFits first second → none_left one other ≡ true))
     go true p e = (λ q. absurd (true≢false (sym p ∙ q)), (λ q. none_found first second (sym e), λ q. p))
     go false p e =
-        let at = smallest_found first second (lower_end l₀ m₁) (sym e) in (
-          λ q. smallest_is_found first second (lower_end l₀ m₁) (sym e),
-          (λ q. absurd (true≢false (sym q ∙ p)), λ q. absurd (true≢false (sym at.1.0 ∙ q (lower_end l₀ m₁) at.0))),
+        let at = smallest_found first second (lower_end one other) (sym e) in (
+          λ q. smallest_is_found first second (lower_end one other) (sym e),
+          (λ q. absurd (true≢false (sym q ∙ p)), λ q. absurd (true≢false (sym at.1.0 ∙ q (lower_end one other) at.0))),
         )

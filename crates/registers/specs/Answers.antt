@@ -1,36 +1,42 @@
 -- The paper's number and the values of each answer. The promises, the printed words and the number over C are made of these.
-use Rattle.std.specs.Prelude.{ℕ}
-use Rattle.registers.specs.declared.Comparison.{Comparison}
-use Rattle.registers.specs.declared.Comparison.TheVariants.{Matched, NoOffset, Differs, Malformed}
+use Rattle.std.specs.Prelude.{ℕ, Option, Some, None, Result, Ok, Err}
+use Rattle.registers.specs.declared.Book.{Book}
+use Rattle.registers.specs.declared.Book.TheVariants.{First, Second}
+use Rattle.registers.specs.declared.Mismatch.{Mismatch}
+use Rattle.registers.specs.declared.Mismatch.TheVariants.{Differs, Malformed}
+use Rattle.registers.specs.Books.{the_first, the_second}
 
 -- "24: a malformed record, an incomplete last one included"
 abbrev pub malformed_record : ℕ
 malformed_record = 24
 
+-- the number of a book, and of the pair of lists that it sent
+abbrev pub book_number : Book → ℕ
+book_number First = the_first
+book_number Second = the_second
+
 -- the refusal, 0 for none
-unfoldable pub refusal_number : Comparison → ℕ
-refusal_number (Matched k) = 0
-refusal_number NoOffset = 0
-refusal_number (Differs pair index) = 0
-refusal_number (Malformed book index) = malformed_record
+unfoldable pub refusal_number : Result (Option ℕ) Mismatch → ℕ
+refusal_number (Ok offset) = 0
+refusal_number (Err (Differs pair index)) = 0
+refusal_number (Err (Malformed book index)) = malformed_record
 
 -- what is found where nothing is refused: 0 an offset, 1 no offset, 2 a difference
-unfoldable pub finding : Comparison → ℕ
-finding (Matched k) = 0
-finding NoOffset = 1
-finding (Differs pair index) = 2
-finding (Malformed book index) = 0
+unfoldable pub finding : Result (Option ℕ) Mismatch → ℕ
+finding (Ok (Some k)) = 0
+finding (Ok None) = 1
+finding (Err (Differs pair index)) = 2
+finding (Err (Malformed book index)) = 0
 
 -- the offset, with 120 added; "which pair"; "book"
-unfoldable pub which : Comparison → ℕ
-which (Matched k) = k
-which NoOffset = 0
-which (Differs pair index) = pair
-which (Malformed book index) = book
+unfoldable pub which : Result (Option ℕ) Mismatch → ℕ
+which (Ok (Some k)) = k
+which (Ok None) = 0
+which (Err (Differs pair index)) = book_number pair
+which (Err (Malformed book index)) = book_number book
 
 -- "and the index"
-unfoldable pub place : Comparison → ℕ
-place (Matched k) = 0
-place NoOffset = 0
-place (Differs pair index) = index
-place (Malformed book index) = index
+unfoldable pub place : Result (Option ℕ) Mismatch → ℕ
+place (Ok offset) = 0
+place (Err (Differs pair index)) = index
+place (Err (Malformed book index)) = index

@@ -1,12 +1,14 @@
 -- Two posts' books side by side (document 02, request 9). "Neighbouring posts each keep a register of the day."
 use Rattle.std.specs.Prelude.{ℕ, zero, suc, ◌+◌, ◌*◌, ◌/◌, Bool, true, false, not, cond, ◌&&◌, List, [], ◌∷◌, length, eqb, ltb, leb, ℤ}
+use Rattle.std.specs.Prelude.{Option, Some, None, Result, Ok, Err}
 use Rattle.std.proofs.Math.IntN.{sub_ℕ}
 use Rattle.section.specs.Bytes.{byte, within}
 use Rattle.layout.specs.Layout.{le32_at, step_count}
 use Rattle.file_tests.specs.Tests.{leading}
 use Rattle.registers.specs.declared.Entry.{Entry}
-use Rattle.registers.specs.declared.Comparison.{Comparison}
-use Rattle.registers.specs.declared.Comparison.TheVariants.{Matched, NoOffset, Differs, Malformed}
+use Rattle.registers.specs.declared.Book.TheVariants.{First, Second}
+use Rattle.registers.specs.declared.Mismatch.{Mismatch}
+use Rattle.registers.specs.declared.Mismatch.TheVariants.{Differs, Malformed}
 
 -- ## The numbers of the request
 
@@ -170,21 +172,23 @@ unfoldable pub smallest_offset : List ℕ → List ℕ → ℕ
 smallest_offset first second = leading (λ (k : ℕ). not (fits first second k)) offsets
 
 -- "The reply "no offset" comes only if none exists."
-unfoldable pub offset_answer : List ℕ → List ℕ → Comparison
+unfoldable pub offset_answer : List ℕ → List ℕ → Option ℕ
 offset_answer first second =
-    cond (ltb (smallest_offset first second) offsets) (Matched (smallest_offset first second)) NoOffset
+    cond (ltb (smallest_offset first second) offsets) (Some (smallest_offset first second)) None
 
 -- ## The answer
 
+-- Books that match have an offset or none; those that do not are mismatched by a malformed record or by a difference.
+
 -- of books without a malformed record: the first place where the lists differ, "those sent by the first book examined first"; else the offset
-unfoldable pub match_answer : List ℕ → List ℕ → Comparison
+unfoldable pub match_answer : List ℕ → List ℕ → Result (Option ℕ) Mismatch
 match_answer first second =
-    cond (not (same_list (sent first) (received second))) (Differs the_first (first_difference (sent first) (received second)))
-    (cond (not (same_list (sent second) (received first))) (Differs the_second (first_difference (sent second) (received first)))
-    (offset_answer first second))
+    cond (not (same_list (sent first) (received second))) (Err (Differs First (first_difference (sent first) (received second))))
+    (cond (not (same_list (sent second) (received first))) (Err (Differs Second (first_difference (sent second) (received first))))
+    (Ok (offset_answer first second)))
 
 -- "a malformed record .. with book and index of the first such, first book first"
-unfoldable pub comparison : List ℕ → List ℕ → Comparison
+unfoldable pub comparison : List ℕ → List ℕ → Result (Option ℕ) Mismatch
 comparison first second =
-    cond (some_malformed first) (Malformed the_first (first_malformed first))
-    (cond (some_malformed second) (Malformed the_second (first_malformed second)) (match_answer first second))
+    cond (some_malformed first) (Err (Malformed First (first_malformed first)))
+    (cond (some_malformed second) (Err (Malformed Second (first_malformed second))) (match_answer first second))

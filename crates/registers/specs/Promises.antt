@@ -1,9 +1,10 @@
 -- What the definition promises, in the request's words. Proved in proofs/Promises.antt; EmptyBooks in Examples, SignedOffsets in SignedOffsets.
-use Rattle.std.specs.Prelude.{◌≡◌, true, false, cond, ◌&&◌, ◌||◌, List, [], ℕ, ◌+◌, ◌<◌, ◌≤◌, pos, ◌+ℤ◌}
+use Rattle.std.specs.Prelude.{◌≡◌, true, false, cond, ◌&&◌, ◌||◌, List, [], ℕ, ◌+◌, ◌<◌, ◌≤◌, pos, ◌+ℤ◌, Some, None, Ok, Err}
 use Rattle.std.specs.Int.Signed.{le_z}
-use Rattle.registers.specs.declared.Comparison.TheVariants.{Matched, NoOffset, Malformed}
-use Rattle.registers.specs.declared.Walked.TheVariants.{Same}
-use Rattle.registers.specs.Books.{longest_travel, largest_offset, the_first, the_second, well_at, some_malformed}
+use Rattle.registers.specs.declared.Book.TheVariants.{First, Second}
+use Rattle.registers.specs.declared.Mismatch.TheVariants.{Malformed}
+use Rattle.registers.specs.declared.TravelRange.{TravelRange}
+use Rattle.registers.specs.Books.{longest_travel, largest_offset, well_at, some_malformed}
 use Rattle.registers.specs.Books.{signed_offset, first_clock, second_clock, arrives, fits, smallest_offset, comparison}
 use Rattle.registers.specs.Answers.{malformed_record, refusal_number}
 use Rattle.registers.specs.Walk.{walked_through, lower_end, none_left}
@@ -22,13 +23,13 @@ FirstSuch book i = (well_at book i ≡ false) × ((j : ℕ) → j < i → well_a
 abbrev pub FirstBookFirst : Type 0
 FirstBookFirst =
     (first second : List ℕ) (i : ℕ) →
-    (comparison first second ≡ Malformed the_first i → FirstSuch first i)
-    × (comparison first second ≡ Malformed the_second i → (some_malformed first ≡ false) × FirstSuch second i)
+    (comparison first second ≡ Err (Malformed First i) → FirstSuch first i)
+    × (comparison first second ≡ Err (Malformed Second i) → (some_malformed first ≡ false) × FirstSuch second i)
 
 -- "the smallest clock offset from −120 to 120 seconds .. with which every message arrives 0 to 60 seconds after it was sent"
 abbrev pub SmallestOffset : Type 0
 SmallestOffset =
-    (first second : List ℕ) (k : ℕ) → comparison first second ≡ Matched k →
+    (first second : List ℕ) (k : ℕ) → comparison first second ≡ Ok (Some k) →
     (k ≤ largest_offset + largest_offset) × ((fits first second k ≡ true) × ((j : ℕ) → j < k → fits first second j ≡ false))
 
 -- no offset from −120 to 120 fits
@@ -38,21 +39,20 @@ NoneFits first second = (k : ℕ) → k ≤ largest_offset + largest_offset → 
 -- "The reply "no offset" comes only if none exists."
 abbrev pub OnlyIfNoneExists : Type 0
 OnlyIfNoneExists =
-    (first second : List ℕ) → comparison first second ≡ NoOffset → NoneFits first second
+    (first second : List ℕ) → comparison first second ≡ Ok None → NoneFits first second
 
 -- The walks over the two pairs of lists leave an intersection of intervals. Its lower end is the smallest offset that fits, and it is empty
 -- exactly where none fits.
 abbrev pub Intersection : Type 0
 Intersection =
-    (first second : List ℕ) (least₀ most₀ least₁ most₁ : ℕ) → some_malformed first ≡ false → some_malformed second ≡ false →
-    walked_through first second ≡ Same least₀ most₀ → walked_through second first ≡ Same least₁ most₁ →
-    (none_left least₀ most₀ least₁ most₁ ≡ false → smallest_offset first second ≡ lower_end least₀ most₁)
-    × ((none_left least₀ most₀ least₁ most₁ ≡ true → NoneFits first second)
-    × (NoneFits first second → none_left least₀ most₀ least₁ most₁ ≡ true))
+    (first second : List ℕ) (one other : TravelRange) → some_malformed first ≡ false → some_malformed second ≡ false →
+    walked_through first second ≡ Ok one → walked_through second first ≡ Ok other →
+    (none_left one other ≡ false → smallest_offset first second ≡ lower_end one other)
+    × ((none_left one other ≡ true → NoneFits first second) × (NoneFits first second → none_left one other ≡ true))
 
 -- "Two empty books match with offset −120."
 abbrev pub EmptyBooks : Type 0
-EmptyBooks = comparison [] [] ≡ Matched 0
+EmptyBooks = comparison [] [] ≡ Ok (Some 0)
 
 -- The clocks say what a signed offset says: of a message that the first book sent at second x and the second received at y,
 -- x ≤ y + offset ≤ x + 60; of one that the second book sent at x and the first received at y, x + offset ≤ y ≤ x + 60 + offset.

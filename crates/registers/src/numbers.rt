@@ -1,59 +1,51 @@
-// The paper's number and the values of each answer.
+// The paper's number and the values of an answer, as they are told over C.
 ghost use Rattle.std.specs.Prelude.{◌≡◌};
 ghost use Rattle.registers.specs.Answers.{refusal_number, finding, which, place};
 
-use crate::Comparison;
+use crate::{Comparison, Mismatch};
 
 pub const MALFORMED_RECORD: u8 = 24;
 
-// The refusal, 0 for none.
-#[tactic(auto, unfolding(crate::specs::Answers::refusal_number))]
-pub fn refusal_number(answer: Comparison) -> u8
-    ensures { result ≡ refusal_number answer }
-{
-    match answer {
-        Comparison::Matched { offset: _ } => 0,
-        Comparison::NoOffset => 0,
-        Comparison::Differs { pair: _, index: _ } => 0,
-        Comparison::Malformed { book: _, index: _ } => MALFORMED_RECORD,
-    }
+// The refusal, 0 for none; what is found where nothing is refused, 0 an offset, 1 no offset, 2 a difference; the offset, with 120 added, the pair or
+// the book; the index of a difference or of a malformed record.
+#[derive(Clone, Copy, Debug, PartialEq, Eq)]
+pub struct Numbers {
+    pub refusal: u8,
+    pub finding: u8,
+    pub which: u8,
+    pub place: usize,
 }
 
-// What is found where nothing is refused: 0 an offset, 1 no offset, 2 a difference.
-#[tactic(auto, unfolding(crate::specs::Answers::finding))]
-pub fn finding_of(answer: Comparison) -> u8
-    ensures { result ≡ finding answer }
-{
-    match answer {
-        Comparison::Matched { offset: _ } => 0,
-        Comparison::NoOffset => 1,
-        Comparison::Differs { pair: _, index: _ } => 2,
-        Comparison::Malformed { book: _, index: _ } => 0,
-    }
-}
+impl From<Comparison> for Numbers {
+    ghost from_gives = { λ answer n. (n.refusal ≡ refusal_number answer) × (n.finding ≡ finding answer) × (n.which ≡ which answer) × (n.place ≡ place answer) };
 
-// The offset, with 120 added, the pair or the book.
-#[tactic(auto, unfolding(crate::specs::Answers::which))]
-pub fn which_of(answer: Comparison) -> u8
-    ensures { result ≡ which answer }
-{
-    match answer {
-        Comparison::Matched { offset } => offset,
-        Comparison::NoOffset => 0,
-        Comparison::Differs { pair, index: _ } => pair,
-        Comparison::Malformed { book, index: _ } => book,
-    }
-}
-
-// The index of a difference or of a malformed record.
-#[tactic(auto, unfolding(crate::specs::Answers::place))]
-pub fn place_of(answer: Comparison) -> usize
-    ensures { result ≡ place answer }
-{
-    match answer {
-        Comparison::Matched { offset: _ } => 0,
-        Comparison::NoOffset => 0,
-        Comparison::Differs { pair: _, index } => index,
-        Comparison::Malformed { book: _, index } => index,
+    #[tactic(auto, unfolding(crate::specs::Answers::refusal_number, crate::specs::Answers::finding, crate::specs::Answers::which, crate::specs::Answers::place))]
+    fn from(answer: Comparison) -> Numbers {
+        match answer {
+            Ok(Some(offset)) => Numbers {
+                refusal: 0,
+                finding: 0,
+                which: offset,
+                place: 0,
+            },
+            Ok(None) => Numbers {
+                refusal: 0,
+                finding: 1,
+                which: 0,
+                place: 0,
+            },
+            Err(Mismatch::Differs { sent_by, index }) => Numbers {
+                refusal: 0,
+                finding: 2,
+                which: sent_by as u8,
+                place: index,
+            },
+            Err(Mismatch::Malformed { book, index }) => Numbers {
+                refusal: MALFORMED_RECORD,
+                finding: 0,
+                which: book as u8,
+                place: index,
+            },
+        }
     }
 }

@@ -1,90 +1,100 @@
 // An answer in words: one line, at a buffer's front.
 ghost use Rattle.std.specs.Prelude.{◌≡◌, ◌+◌, ◌≤◌, length};
+ghost use Rattle.text.specs.Put.{HasRoom, put};
 ghost use Rattle.text.specs.Text.{written};
 ghost use Rattle.registers.specs.Words.{line, offset_line, difference_line, malformed_line, answer_line, answer_room};
 
-use crate::{Comparison, FIRST};
+use crate::{Book, Comparison, Mismatch};
+use text::Text;
 
 // Room for the longest line.
 pub const ANSWER_ROOM: usize = 64;
 
 const ZERO_OFFSET: u8 = 120;
 
-// Writes a phrase, a number and the end of the line, and returns their length.
-#[tactic(auto, using(crate::proofs::words::Laws::room_for_end, crate::proofs::words::Laws::line_put))]
-fn put_line(buffer: &mut [u8], phrase: &[u8], x: usize) -> usize
-    requires { length phrase.now + 6 ≤ length buffer.old }
-    ensures value { result ≡ length (line phrase.now x) }
-    ensures buffer_after { buffer.new ≡ written buffer.old 0 (line phrase.now x) }
+// Puts a phrase, a number and the end of the line.
+#[tactic(auto, using(text::proofs::Put::texts), unfolding(crate::specs::Words::line))]
+fn put_line(text: &mut Text, phrase: &[u8], x: usize)
+    requires { HasRoom text.old (length phrase.now + 6) }
+    ensures { text.new ≡ put text.old (line phrase.now x) }
 {
-    let number = text::put_text(buffer, 0, phrase);
-    let end = text::put_decimal(buffer, number, x);
-    text::put_byte(buffer, end, b'\n')
+    text.put_text(phrase);
+    text.put_decimal(x);
+    text.put_byte(b'\n');
 }
 
 #[tactic(auto, unfolding(crate::specs::Words::offset_line))]
-fn put_offset(buffer: &mut [u8], offset: u8) -> usize
-    requires { answer_room ≤ length buffer.old }
-    ensures value { result ≡ length (offset_line offset) }
-    ensures buffer_after { buffer.new ≡ written buffer.old 0 (offset_line offset) }
+fn put_offset(text: &mut Text, offset: u8)
+    requires { HasRoom text.old answer_room }
+    ensures { text.new ≡ put text.old (offset_line offset) }
 {
     if offset < ZERO_OFFSET {
-        return put_line(
-            buffer,
+        put_line(
+            text,
             b"the books match, offset -",
             (ZERO_OFFSET - offset) as usize,
         );
-    }
-    put_line(
-        buffer,
-        b"the books match, offset ",
-        (offset - ZERO_OFFSET) as usize,
-    )
-}
-
-#[tactic(auto, unfolding(crate::specs::Words::difference_line))]
-fn put_difference(buffer: &mut [u8], pair: u8, index: usize) -> usize
-    requires { answer_room ≤ length buffer.old }
-    ensures value { result ≡ length (difference_line pair index) }
-    ensures buffer_after { buffer.new ≡ written buffer.old 0 (difference_line pair index) }
-{
-    if pair == FIRST {
-        return put_line(
-            buffer,
-            b"the lists differ, sent by the first book, index ",
-            index,
+    } else {
+        put_line(
+            text,
+            b"the books match, offset ",
+            (offset - ZERO_OFFSET) as usize,
         );
     }
-    put_line(
-        buffer,
-        b"the lists differ, sent by the second book, index ",
-        index,
-    )
 }
 
-#[tactic(auto, using(crate::proofs::words::Laws::refused_first, crate::proofs::words::Laws::refused_second))]
-fn put_malformed(buffer: &mut [u8], book: u8, index: usize) -> usize
-    requires { answer_room ≤ length buffer.old }
-    ensures value { result ≡ length (malformed_line book index) }
-    ensures buffer_after { buffer.new ≡ written buffer.old 0 (malformed_line book index) }
+// Not one function with `put_malformed`, which is no plainer: a common one would be handed both phrases, and each has its own definition.
+#[tactic(auto, unfolding(crate::specs::Words::difference_line))]
+fn put_difference(text: &mut Text, sent_by: Book, index: usize)
+    requires { HasRoom text.old answer_room }
+    ensures { text.new ≡ put text.old (difference_line sent_by index) }
 {
-    if book == FIRST {
-        return put_line(buffer, b"refused 24, first book, index ", index);
+    match sent_by {
+        Book::First => put_line(
+            text,
+            b"the lists differ, sent by the first book, index ",
+            index,
+        ),
+        Book::Second => put_line(
+            text,
+            b"the lists differ, sent by the second book, index ",
+            index,
+        ),
     }
-    put_line(buffer, b"refused 24, second book, index ", index)
+}
+
+fn put_malformed(text: &mut Text, book: Book, index: usize)
+    requires { HasRoom text.old answer_room }
+    ensures { text.new ≡ put text.old (malformed_line book index) }
+{
+    match book {
+        Book::First => put_line(text, b"refused 24, first book, index ", index),
+        Book::Second => put_line(text, b"refused 24, second book, index ", index),
+    }
+}
+
+// Puts the line of an answer.
+#[tactic(auto, unfolding(crate::specs::Words::answer_line))]
+fn put_words(text: &mut Text, answer: Comparison)
+    requires { HasRoom text.old answer_room }
+    ensures { text.new ≡ put text.old (answer_line answer) }
+{
+    match answer {
+        Ok(Some(offset)) => put_offset(text, offset),
+        Ok(None) => text.put_text(b"the books match, no offset\n"),
+        Err(Mismatch::Differs { sent_by, index }) => put_difference(text, sent_by, index),
+        Err(Mismatch::Malformed { book, index }) => put_malformed(text, book, index),
+    }
 }
 
 // Writes the line of an answer at the buffer's front, and returns its length.
-#[tactic(auto, unfolding(crate::specs::Words::answer_line))]
+#[tactic(auto, unfolding(text::specs::Put::put))]
 pub fn put_answer(buffer: &mut [u8], answer: Comparison) -> usize
     requires { answer_room ≤ length buffer.old }
     ensures value { result ≡ length (answer_line answer) }
     ensures buffer_after { buffer.new ≡ written buffer.old 0 (answer_line answer) }
 {
-    match answer {
-        Comparison::Matched { offset } => put_offset(buffer, offset),
-        Comparison::NoOffset => text::put_text(buffer, 0, b"the books match, no offset\n"),
-        Comparison::Differs { pair, index } => put_difference(buffer, pair, index),
-        Comparison::Malformed { book, index } => put_malformed(buffer, book, index),
-    }
+    let mut text = Text::new(buffer);
+    put_words(&mut text, answer);
+    text.length()
 }

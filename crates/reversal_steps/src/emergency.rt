@@ -1,67 +1,43 @@
 // The steps for a device that fails: release, for fault 1, and key, for fault 2.
+
+#![tactic(auto, using(rules::proofs::Parts::commands_not_last), unfolding(site::specs::Ruling::ruling_of, rules::specs::Table::checks, rules::specs::Table::effect, rules::specs::Site::occupancy_at, rules::specs::Site::last_entered))]
+
 ghost use Rattle.std.specs.Prelude.{false, [], ◌≡◌};
 ghost use Rattle.section.specs.declared.Step.TheVariants.{Release, Key};
 ghost use Rattle.site.specs.InItsRanges.{InItsRanges};
-ghost use Rattle.site.specs.OnTheLine.{OnTheLine};
 ghost use Rattle.site.specs.Ruling.{ruling_at};
 
 use crate::walk::setting;
 use occupancy::part::watched_occupied;
 use occupancy::trains::train_ahead;
-use rules::{Line, Site};
-use section::{Act, MOST_SEALS, Trains};
-use site::conditions::{fault1_confirmed, is_turn, measures_suffice, release_in_turn};
-use site::ends::commands;
+use section::{Act, MOST_SEALS, Refusal, Trains, check};
+use site::conditions::{is_turn, measures_suffice};
+use site::place::Place;
 use site::ruling::{Ruling, keeping};
 
-#[tactic(auto, using(section::proofs::Told::told_true, rules::proofs::Parts::commands_not_last, site::proofs::Row::none, site::proofs::Row::accepted, site::proofs::Row::unless, site::proofs::Row::unless_equal, site::proofs::Row::when), unfolding(site::specs::Ruling::ruling_of, rules::specs::Table::checks, rules::specs::Site::occupancy_at, rules::specs::Site::last_entered, rules::specs::Table::effect))]
-pub fn release(c: Line, e: Site, number: u16, trains: &Trains, last: &Trains) -> Ruling
-    requires { OnTheLine c e }
-    ensures { result ≡ ruling_at c false (Release e.post number) e trains.now last.now }
+pub fn release(place: Place, number: u16, trains: &Trains, last: &Trains) -> Ruling
+    ensures { result ≡ ruling_at place.line false (Release place.site.post number) place.site trains.now last.now }
 {
-    if !release_in_turn(c, e) {
-        return Ruling::Refused(15);
-    }
-    if !commands(c, e) {
-        return Ruling::Refused(12);
-    }
-    if !e.own.faults.one {
-        return Ruling::Refused(21);
-    }
-    if watched_occupied(c, e, trains) {
-        return Ruling::Refused(13);
-    }
-    if train_ahead(c, e, last) != number {
-        return Ruling::Refused(17);
-    }
-    let own = e.own;
-    Ruling::Accepted(keeping(e, own.marked(true)))
+    check(place.release_in_turn(), Refusal::NotItsTurn)?;
+    check(place.commands(), Refusal::NoSuchPart)?;
+    check(place.site.own.faults.one, Refusal::AlreadySo)?;
+    check(!watched_occupied(place, trains), Refusal::Occupied)?;
+    check(train_ahead(place, last) == number, Refusal::WrongTrain)?;
+    Ok(keeping(place.site, place.site.own.marked(true)))
 }
 
-#[tactic(auto, using(site::proofs::Row::none, site::proofs::Row::accepted, site::proofs::Row::unless, site::proofs::Row::when), unfolding(site::specs::Ruling::ruling_of, rules::specs::Table::checks, rules::specs::Site::occupancy_at, rules::specs::Table::effect))]
-pub fn key(c: Line, e: Site, trains: &Trains) -> Ruling
-    requires { InItsRanges c e }
-    ensures { result ≡ ruling_at c false (Key e.post) e trains.now [] }
+pub fn key(place: Place, trains: &Trains) -> Ruling
+    requires { InItsRanges place.line place.site }
+    ensures { result ≡ ruling_at place.line false (Key place.site.post) place.site trains.now [] }
 {
-    let walk = e.walk;
-    if !is_turn(walk, e.post, Act::Set) {
-        return Ruling::Refused(15);
-    }
-    if !e.own.faults.two {
-        return Ruling::Refused(21);
-    }
-    if watched_occupied(c, e, trains) {
-        return Ruling::Refused(13);
-    }
-    if !fault1_confirmed(c, e) {
-        return Ruling::Refused(18);
-    }
-    if !measures_suffice(e) {
-        return Ruling::Refused(16);
-    }
-    if e.own.seals == MOST_SEALS {
-        return Ruling::Refused(20);
-    }
-    let own = e.own;
-    Ruling::Accepted(setting(c, e, own.sealed()))
+    check(
+        is_turn(place.site.walk, place.site.post, Act::Set),
+        Refusal::NotItsTurn,
+    )?;
+    check(place.site.own.faults.two, Refusal::AlreadySo)?;
+    check(!watched_occupied(place, trains), Refusal::Occupied)?;
+    check(place.fault1_confirmed(), Refusal::FaultWithoutMark)?;
+    check(measures_suffice(place.site), Refusal::MeasuresNeeded)?;
+    check(place.site.own.seals != MOST_SEALS, Refusal::SealsUsedUp)?;
+    Ok(setting(place, place.site.own.sealed()))
 }

@@ -3,55 +3,57 @@ ghost use Rattle.std.specs.Prelude.{cond, ◌≡◌};
 ghost use Rattle.section.specs.declared.Said.TheVariants.{Cvt, Cvtz, Vns, Vnsz};
 ghost use Rattle.rules.specs.Site.{next_post};
 ghost use Rattle.rules.specs.Table.{setting};
-ghost use Rattle.site.specs.OnTheLine.{OnTheLine, HasAhead};
+ghost use Rattle.site.specs.OnTheLine.{HasAhead};
 ghost use Rattle.reversal_steps.specs.Walking.{walking};
 
-use rules::{Effect, Line, Movement, Site};
-use section::{Act, Post, Said, Walk, positions};
-use site::place;
+use rules::{Effect, Site};
+use section::{Act, Post, Said, Walk};
+use site::place::Place;
+use site::ruling::keeping;
 
 // A step of a reversal before its last set.
 pub fn walking(e: Site, own: Post, walk: Walk, said: Said) -> Effect
     ensures { result ≡ walking e own walk said }
 {
     Effect {
-        own: own,
-        walk: walk,
-        cvt: e.cvt,
-        train: Movement::Stays,
-        said: said,
+        walk,
+        said,
+        ..keeping(e, own)
     }
 }
 
 // Set, and key after its seal: the last one changes the running direction and gives permission.
-pub fn setting(c: Line, e: Site, own: Post) -> Effect
-    requires { OnTheLine c e }
-    ensures { result ≡ setting c e own }
+pub fn setting(place: Place, own: Post) -> Effect
+    ensures { result ≡ setting place.line place.site own }
 {
-    let cvt = e.cvt;
-    let turned = own.turned(!cvt).marked(false).cautioned(0);
-    if place::at_receiving_end(c, e) {
-        return Effect {
-            own: turned.permitted(true),
+    let site = place.site;
+    let turned = own.turned(!site.cvt).marked(false).cautioned(0);
+    if place.at_receiving_end() {
+        Effect {
             walk: Walk::Settled,
-            cvt: !cvt,
-            train: Movement::Stays,
-            said: Said::Nothing,
-        };
+            cvt: !site.cvt,
+            ..keeping(site, turned.permitted(true))
+        }
+    } else {
+        walking(
+            site,
+            turned,
+            Walk::Turn(site.post, Act::Announce),
+            Said::Nothing,
+        )
     }
-    walking(e, turned, Walk::Turn(e.post, Act::Announce), Said::Nothing)
 }
 
 // The post at which the walk goes on after an announcement.
 #[tactic(auto, using(crate::proofs::Ahead::above_zero, crate::proofs::Ahead::next_is))]
-pub fn next_post(c: Line, e: Site) -> u8
-    requires { (OnTheLine c e) × (HasAhead c e) }
-    ensures { result ≡ next_post c e }
+pub fn next_post(place: Place) -> u8
+    requires { HasAhead place.line place.site }
+    ensures { result ≡ next_post place.line place.site }
 {
-    if positions::is_upward(e.track, e.cvt) {
-        e.post + 1
+    if place.is_upward() {
+        place.site.post + 1
     } else {
-        e.post - 1
+        place.site.post - 1
     }
 }
 
@@ -59,17 +61,11 @@ pub fn next_post(c: Line, e: Site) -> u8
 pub fn announcement(cvt: bool) -> Said
     ensures { result ≡ cond cvt Vns Cvt }
 {
-    if cvt {
-        return Said::Vns;
-    }
-    Said::Cvt
+    if cvt { Said::Vns } else { Said::Cvt }
 }
 
 pub fn acknowledgement(cvt: bool) -> Said
     ensures { result ≡ cond cvt Vnsz Cvtz }
 {
-    if cvt {
-        return Said::Vnsz;
-    }
-    Said::Cvtz
+    if cvt { Said::Vnsz } else { Said::Cvtz }
 }

@@ -4,13 +4,14 @@ use Prim.Native.Nat.{ℕ}
 use mathlib.Core.Bool.{Bool, true, false}
 use mathlib.Core.Path.{◌≡◌, refl, sym, ap, ◌∙◌}
 use mathlib.Core.List.{List, [], ◌∷◌}
+use Rattle.std.specs.Prelude.{Ok, Err, Some, None, Option}
+use Rattle.section.specs.declared.TrackStep.{TrackStep}
+use Rattle.section.specs.declared.Refusal.{Refusal}
+use Rattle.section.specs.declared.Refusal.TheVariants.{Malformed}
 use Rattle.section.specs.declared.Settings.{Settings}
 use Rattle.section.specs.declared.Track.{Track}
 use Rattle.section.specs.declared.Section.{Section}
-use Rattle.section.specs.declared.Decoded.{Decoded}
-use Rattle.section.specs.declared.Decoded.TheVariants.{Well, Malformed}
 use Rattle.section.specs.declared.Said.{Said}
-use Rattle.section.specs.declared.Verdict.TheVariants.{Accepted, Refused}
 use Rattle.section.specs.Range.{in_range}
 use Rattle.section.specs.Step.{decoded, number_of}
 use Rattle.section.specs.Store.{track_of, with_track}
@@ -28,14 +29,14 @@ abbrev pub AllHold : List Check → Type 0
 AllHold [] = Unit {0}
 AllHold (k ∷ ks) = (k.holds ≡ true) × AllHold ks
 
-pub all_accepted_lem : (ks : List Check) (w : Said) → AllHold ks → verdict_of ks w ≡ Accepted w
+pub all_accepted_lem : (ks : List Check) (w : Said) → AllHold ks → verdict_of ks w ≡ Ok w
 unfolding verdict_of
 all_accepted_lem [] w h = refl
 all_accepted_lem (k ∷ ks) w h = rw h.0 (all_accepted_lem ks w h.1)
 
 pub data Ruled (ks : List Check) (w : Said) : Type 0 where
   passed : AllHold ks → Ruled ks w
-  failed : (k : ℕ) → verdict_of ks w ≡ Refused k → Ruled ks w
+  failed : (r : Refusal) → verdict_of ks w ≡ Err r → Ruled ks w
 
 pub ruled : (ks : List Check) (w : Said) → Ruled ks w
 unfolding verdict_of
@@ -106,14 +107,14 @@ module _ (c : Settings) where
     section_is (on false p k) = rw (e, post_flat p k) refl
 
     -- a step whose checks all pass
-    step_accepted : (x : Seen) → AcceptedIn s x → judge_step s (as_step x) ≡ record { verdict = Accepted (said_in s x); section = section_after_step s x }
+    step_accepted : (x : Seen) → AcceptedIn s x → judge_step s (as_step x) ≡ record { verdict = Ok (said_in s x); section = section_after_step s x }
     unfolding judge_step answer_of
     step_accepted x h =
         rw (verdict_is x, all_accepted_lem (checks_of s x) (said_in s x) (all_held s x h))
-        (ap (λ n. record { verdict = Accepted (said_in s x); section = n }) (section_is x))
+        (ap (λ n. record { verdict = Ok (said_in s x); section = n }) (section_is x))
 
-    pub step_refused : (x : Seen) (k : ℕ) → verdict_of (checks_of s x) (said_in s x) ≡ Refused k → judge_step s (as_step x) ≡ record {
-      verdict = Refused k;
+    pub step_refused : (x : Seen) (k : Refusal) → verdict_of (checks_of s x) (said_in s x) ≡ Err k → judge_step s (as_step x) ≡ record {
+      verdict = Err k;
       section = s;
     }
     unfolding judge_step answer_of
@@ -121,35 +122,35 @@ module _ (c : Settings) where
 
     -- bytes offered to a section in range
     module _ (r : in_range s ≡ true) where
-      pub judge_well : (bytes : List ℕ) (x : Seen) → decoded c.posts bytes ≡ Well (as_step x) → judge s bytes ≡ judge_step s (as_step x)
+      pub judge_well : (bytes : List ℕ) (x : Seen) → decoded c.posts bytes ≡ Some (as_step x) → judge s bytes ≡ judge_step s (as_step x)
       unfolding judge judge_in_range judge_decoded
       judge_well bytes x q = rw (r, e, q) refl
 
-      pub accepted_judge : (bytes : List ℕ) (x : Seen) → decoded c.posts bytes ≡ Well (as_step x) → AcceptedIn s x
-          → judge s bytes ≡ record { verdict = Accepted (said_in s x); section = section_after_step s x }
+      pub accepted_judge : (bytes : List ℕ) (x : Seen) → decoded c.posts bytes ≡ Some (as_step x) → AcceptedIn s x
+          → judge s bytes ≡ record { verdict = Ok (said_in s x); section = section_after_step s x }
       accepted_judge bytes x q h = judge_well bytes x q ∙ step_accepted x h
 
-      pub judge_malformed : (bytes : List ℕ) → decoded c.posts bytes ≡ Malformed → judge s bytes ≡ record { verdict = Refused 4; section = s }
+      pub judge_malformed : (bytes : List ℕ) → decoded c.posts bytes ≡ None → judge s bytes ≡ record { verdict = Err Malformed; section = s }
       unfolding judge judge_in_range judge_decoded
       judge_malformed bytes q = rw (r, e, q) refl
 
       -- they are refused, and nothing changes, or they say a step whose checks all pass
       pub data Judged (bytes : List ℕ) : Type 0 where
-        refused : (k : ℕ) → judge s bytes ≡ record { verdict = Refused k; section = s } → Judged bytes
-        accepted : (x : Seen) → decoded c.posts bytes ≡ Well (as_step x) → AcceptedIn s x
-            → judge s bytes ≡ record { verdict = Accepted (said_in s x); section = section_after_step s x } → Judged bytes
+        refused : (k : Refusal) → judge s bytes ≡ record { verdict = Err k; section = s } → Judged bytes
+        accepted : (x : Seen) → decoded c.posts bytes ≡ Some (as_step x) → AcceptedIn s x
+            → judge s bytes ≡ record { verdict = Ok (said_in s x); section = section_after_step s x } → Judged bytes
 
       unfoldable pub judged : (bytes : List ℕ) → Judged bytes
       unfolding ruled held_accepted
       judged bytes = by_said (decoded c.posts bytes) refl
         where
-          by_rule : (x : Seen) → decoded c.posts bytes ≡ Well (as_step x) → SeenFits c.posts x → Ruled (checks_of s x) (said_in s x)
+          by_rule : (x : Seen) → decoded c.posts bytes ≡ Some (as_step x) → SeenFits c.posts x → Ruled (checks_of s x) (said_in s x)
               → Judged bytes
           by_rule x q f (passed h) = let ok : AcceptedIn s x = held_accepted s x f h in accepted x q ok (accepted_judge bytes x q ok)
           by_rule x q f (failed k z) = refused k (judge_well bytes x q ∙ step_refused x k z)
 
-          by_said : (d : Decoded) → decoded c.posts bytes ≡ d → Judged bytes
-          by_said (Well y) q =
-              by_rule (seen y) (q ∙ ap Well (sym (as_step_seen y))) (decoded_says c.posts bytes y q).fits
+          by_said : (d : Option TrackStep) → decoded c.posts bytes ≡ d → Judged bytes
+          by_said (Some y) q =
+              by_rule (seen y) (q ∙ ap Some (sym (as_step_seen y))) (decoded_says c.posts bytes y q).fits
               (ruled (checks_of s (seen y)) (said_in s (seen y)))
-          by_said Malformed q = refused 4 (judge_malformed bytes q)
+          by_said None q = refused Malformed (judge_malformed bytes q)

@@ -7,9 +7,10 @@ use mathlib.Core.List.{List}
 use native.Mathlib.Omega.{arith}
 use lib.ListN.{get_or, set}
 use lib.Seq.{get_or-set_other}
+use Rattle.std.specs.Prelude.{Err}
+use Rattle.section.specs.declared.Refusal.TheVariants.{OutOfRange}
 use Rattle.section.specs.declared.Track.{Track}
 use Rattle.section.specs.declared.Section.{Section}
-use Rattle.section.specs.declared.Verdict.TheVariants.{Refused}
 use Rattle.section.specs.Geometry.{upward}
 use Rattle.section.specs.Post.{blank}
 use Rattle.section.specs.Range.{in_range}
@@ -110,7 +111,7 @@ module _ (s : Section) where
         (rw (there_after s.settings s b p k) (same_past n (track_of s (not b))));
   }
 
-out_of_range : (s : Section) (bytes : List ℕ) → in_range s ≡ false → judge s bytes ≡ record { verdict = Refused 6; section = s }
+out_of_range : (s : Section) (bytes : List ℕ) → in_range s ≡ false → judge s bytes ≡ record { verdict = Err OutOfRange; section = s }
 unfolding judge
 out_of_range s bytes r = rw r refl
 

@@ -9,17 +9,16 @@ use native.Mathlib.Omega.{arith}
 use lib.ListN.{get_or, length, length-set}
 use lib.Dec.{eqb, ltb, leb}
 use borrow.Author.Tests.{ltb-true}
+use Rattle.std.specs.Prelude.{Ok, Err, Some, None, Option}
+use Rattle.section.specs.declared.Refusal.TheVariants.{OutOfRange}
 use Rattle.section.specs.declared.Answer.{Answer}
-use Rattle.section.specs.declared.Decoded.{Decoded}
-use Rattle.section.specs.declared.Decoded.TheVariants.{Well, Malformed}
 use Rattle.section.specs.declared.Post.{Post}
 use Rattle.section.specs.declared.Section.{Section}
 use Rattle.section.specs.declared.Settings.{Settings}
 use Rattle.section.specs.declared.Step.{Step}
 use Rattle.section.specs.declared.Track.{Track}
 use Rattle.section.specs.declared.TrackStep.{TrackStep}
-use Rattle.section.specs.declared.Verdict.{Verdict}
-use Rattle.section.specs.declared.Verdict.TheVariants.{Accepted, Refused}
+use Rattle.section.specs.Refusal.{Verdict}
 use Rattle.section.proofs.Codec.{decoded_post_below}
 use Rattle.section.specs.Numbers.{largest_train}
 use Rattle.section.specs.Post.{blank}
@@ -211,8 +210,8 @@ module _ (s u : Section) (a : AgreeBelow s u) where
 
   answer_alike : (v : Verdict) (s₁ u₁ : Section) → AgreeBelow s₁ u₁ → AnsweredAlike (answer_of v s s₁) (answer_of v u u₁)
   unfolding answer_of
-  answer_alike (Accepted said) s₁ u₁ h = record { verdict = refl; section = h }
-  answer_alike (Refused k) s₁ u₁ h = record { verdict = refl; section = a }
+  answer_alike (Ok said) s₁ u₁ h = record { verdict = refl; section = h }
+  answer_alike (Err k) s₁ u₁ h = record { verdict = refl; section = a }
 
   module _ (x : TrackStep) (below : post_of x.step < s.settings.posts) where
     sites : site_of s x ≡ site_of u x
@@ -264,21 +263,21 @@ module _ (s u : Section) (a : AgreeBelow s u) where
 
   -- ## Judging
 
-  decoded_alike : (d : Decoded) → ((x : TrackStep) → d ≡ Well x → post_of x.step < s.settings.posts)
+  decoded_alike : (d : Option TrackStep) → ((x : TrackStep) → d ≡ Some x → post_of x.step < s.settings.posts)
       → AnsweredAlike (judge_decoded s d) (judge_decoded u d)
   unfolding judge_decoded
-  decoded_alike (Well x) h = step_alike x (h x refl)
-  decoded_alike Malformed h = record { verdict = refl; section = a }
+  decoded_alike (Some x) h = step_alike x (h x refl)
+  decoded_alike None h = record { verdict = refl; section = a }
 
   judge_alike : (bytes : List ℕ) → AnsweredAlike (judge s bytes) (judge u bytes)
   unfolding judge judge_in_range
   judge_alike bytes = rw (range_alike, ap (λ (c : Settings). decoded c.posts bytes) a.settings) (go (in_range u))
     where
-      said : Decoded
+      said : Option TrackStep
       said = decoded u.settings.posts bytes
 
-      go : (r : Bool) → AnsweredAlike (cond r (judge_decoded s said) (record { verdict = Refused 6; section = s }))
-          (cond r (judge_decoded u said) (record { verdict = Refused 6; section = u }))
+      go : (r : Bool) → AnsweredAlike (cond r (judge_decoded s said) (record { verdict = Err OutOfRange; section = s }))
+          (cond r (judge_decoded u said) (record { verdict = Err OutOfRange; section = u }))
       go true = decoded_alike said (λ x d. rw a.settings (decoded_post_below u.settings.posts bytes x d))
       go false = record { verdict = refl; section = a }
 

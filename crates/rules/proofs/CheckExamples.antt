@@ -7,6 +7,7 @@ use mathlib.Core.Bool.{Bool, true, cond, not}
 use mathlib.Core.Path.{refl}
 use mathlib.Core.List.{List, [], ◌∷◌, ◌++◌}
 use lib.ListN.{replicate}
+use Rattle.std.specs.Prelude.{Ok}
 use Rattle.section.specs.declared.Settings.{Settings}
 use Rattle.section.specs.declared.Section.{Section}
 use Rattle.section.specs.declared.Post.{Post}
@@ -18,8 +19,7 @@ use Rattle.section.specs.declared.Walk.TheVariants.{Settled, Turn}
 use Rattle.section.specs.declared.Fault.{Fault}
 use Rattle.section.specs.declared.Fault.TheVariants.{One, Two, Three, Four}
 use Rattle.section.specs.declared.Said.TheVariants.{Cvt, Cvtz, Vns, Vnsz}
-use Rattle.section.specs.declared.Verdict.{Verdict}
-use Rattle.section.specs.declared.Verdict.TheVariants.{Accepted}
+use Rattle.section.specs.Refusal.{Verdict}
 use Rattle.section.specs.declared.Step.TheVariants.{Order, Set, Announce, Acknowledge, Start, Pass, Leave, MeasuresOn, MeasuresOff}
 use Rattle.section.specs.declared.Step.TheVariants.{FaultOn, FaultOff, Release, Key, Caution}
 use Rattle.section.specs.Post.{blank, turned, permitted, measured, faulty, marked, cautioned}
@@ -220,10 +220,10 @@ module _ (form : Form) (w : Way) where
 
   abbrev announcements : Post → List (Row Verdict)
   announcements own =
-      (announced (turn 0 act.Announce) own 0 Announce gives vns_else w (Accepted Cvt) (Accepted Vns))
-      ∷ (announced (turn 1 act.Announce) own 1 Announce gives vns_else w (Accepted Cvt) (Accepted Vns))
-      ∷ (announced (turn 1 act.Acknowledge) own 1 Acknowledge gives vns_else w (Accepted Cvtz) (Accepted Vnsz))
-      ∷ (announced (turn 3 act.Acknowledge) own 3 Acknowledge gives vns_else w (Accepted Cvtz) (Accepted Vnsz))
+      (announced (turn 0 act.Announce) own 0 Announce gives vns_else w (Ok Cvt) (Ok Vns))
+      ∷ (announced (turn 1 act.Announce) own 1 Announce gives vns_else w (Ok Cvt) (Ok Vns))
+      ∷ (announced (turn 1 act.Acknowledge) own 1 Acknowledge gives vns_else w (Ok Cvtz) (Ok Vnsz))
+      ∷ (announced (turn 3 act.Acknowledge) own 3 Acknowledge gives vns_else w (Ok Cvtz) (Ok Vnsz))
       ∷ []
 
   -- ## Kind 12, release: "15; 12 the last post; 21; 13; 17"

@@ -6,6 +6,7 @@ use mathlib.Core.List.{List, [], ◌∷◌, map}
 use Rattle.section.specs.declared.Step.{Step}
 use Rattle.section.specs.declared.Step.TheVariants.{Order, Set, Announce, Acknowledge, Start, Pass, Leave, MeasuresOn, MeasuresOff, FaultOn}
 use Rattle.section.specs.declared.Step.TheVariants.{FaultOff, Release, Key, Caution}
+use Rattle.section.specs.Refusal.{figure}
 use Rattle.rules.specs.declared.Line.{Line}
 use Rattle.rules.specs.declared.Site.{Site}
 use Rattle.rules.specs.Site.{Occupancy}
@@ -27,8 +28,8 @@ figures (Release p number) = 15 ∷ 12 ∷ 21 ∷ 13 ∷ 17 ∷ []
 figures (Key p) = 15 ∷ 21 ∷ 13 ∷ 18 ∷ 16 ∷ 20 ∷ []
 figures (Caution p number) = 12 ∷ []
 
-pub figures_in_order : (c : Line) (x : Step) (e : Site) (g : Occupancy) → map (λ (k : Check). k.refusal) (checks c x e g) ≡ figures x
-unfolding checks
+pub figures_in_order : (c : Line) (x : Step) (e : Site) (g : Occupancy) → map (λ (k : Check). figure k.refusal) (checks c x e g) ≡ figures x
+unfolding checks figure
 figures_in_order c (Order p) e g = refl
 figures_in_order c (Set p) e g = refl
 figures_in_order c (Announce p) e g = refl

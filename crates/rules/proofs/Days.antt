@@ -5,6 +5,7 @@ use mathlib.Core.Bool.{Bool, true, false, cond}
 use mathlib.Core.List.{List, [], ◌∷◌, ◌++◌, map}
 use mathlib.Core.Option.{Option, none, some}
 use lib.ListN.{length, replicate}
+use Rattle.std.specs.Prelude.{Ok, Err}
 use Rattle.section.specs.declared.Settings.{Settings}
 use Rattle.section.specs.declared.Post.{Post}
 use Rattle.section.specs.declared.Walk.{Walk}
@@ -13,8 +14,7 @@ use Rattle.section.specs.declared.Section.{Section}
 use Rattle.section.specs.declared.Step.{Step}
 use Rattle.section.specs.declared.Step.TheVariants.{Order, Set, Announce, Acknowledge, MeasuresOn}
 use Rattle.section.specs.declared.TrackStep.{TrackStep}
-use Rattle.section.specs.declared.Verdict.{Verdict}
-use Rattle.section.specs.declared.Verdict.TheVariants.{Accepted, Refused}
+use Rattle.section.specs.Refusal.{Verdict}
 use Rattle.section.specs.Bytes.{le16, within, truth_number}
 use Rattle.section.specs.Crossings.{no_crossings, crossings_in_range}
 use Rattle.section.specs.Fresh.{fresh_track, fresh_section}
@@ -26,6 +26,7 @@ use Rattle.section.specs.Settings.{is_signalled, none_from, settings_in_range}
 use Rattle.section.specs.Step.{fault_well_formed, number_well_formed, track_well_formed, place_well_formed, fields_well_formed, well_formed, fault_of, step_of}
 use Rattle.section.specs.Step.{step_said, decoded, kind_of, post_of, fault_number, number_of, bytes_of, encoded}
 use Rattle.section.specs.Store.{track_of, with_track, post_on, with_post}
+use Rattle.section.specs.Refusal.{figure}
 use Rattle.section.specs.Words.{refusal_of}
 use Rattle.rules.specs.Line.{is_materialised, is_open}
 use Rattle.rules.specs.Site.{reach, first_from, any_of, open_at, next_post, stretch_ends, lies_ahead, crossing_ahead, zones_lack_ahead, part_ends, commands}
@@ -135,7 +136,7 @@ offered_as steps = map encoded steps
 
 -- the answers to a day, 0 or the refusal; unfolded, judging computes
 unfoldable pub refusals : Section → List (List ℕ) → List ℕ
-unfolding judge judge_in_range judge_decoded judge_step section_after track_after_on verdict_on answer_of verdict_of refusal_of
+unfolding judge judge_in_range judge_decoded judge_step section_after track_after_on verdict_on answer_of verdict_of refusal_of figure
     checks effect cells_after track_after reach first_from any_of is_open open_at next_post stretch_ends lies_ahead crossing_ahead zones_lack_ahead
     part_ends commands watched_occupied train_before last_entered occupancy_at
     in_range track_in_range walk_in_range act_in_range numbers_in_range posts_in_range post_in_range settings_in_range crossings_in_range none_from is_signalled
@@ -146,8 +147,8 @@ refusals s [] = []
 refusals s (bytes ∷ offered) = refusal_of (judge s bytes).verdict ∷ refusals (judge s bytes).section offered
 
 abbrev pub is_accepted : Verdict → Bool
-is_accepted (Accepted said) = true
-is_accepted (Refused k) = false
+is_accepted (Ok said) = true
+is_accepted (Err k) = false
 
 -- the section after steps that the table accepts one after another; none where it refuses one of them
 unfoldable pub after : Section → List TrackStep → Option Section

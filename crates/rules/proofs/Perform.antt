@@ -5,9 +5,9 @@ use mathlib.Core.Bool.{Bool, true, false, not, false≢true}
 use mathlib.Core.Path.{◌≡◌, refl, sym, ap, ◌∙◌, subst}
 use mathlib.Core.List.{List, [], ◌∷◌, ◌++◌}
 use borrow.Author.Tests.{not-true}
+use Rattle.std.specs.Prelude.{Ok}
 use Rattle.section.specs.declared.Settings.{Settings}
 use Rattle.section.specs.declared.Answer.{Answer}
-use Rattle.section.specs.declared.Verdict.TheVariants.{Accepted}
 use Rattle.section.specs.declared.Walk.{Walk}
 use Rattle.section.specs.declared.Walk.TheVariants.{Settled}
 use Rattle.section.specs.declared.Section.{Section}
@@ -83,10 +83,10 @@ module _ (c : Settings) where
   unfolding Performs
   performed_performs right behind r a done = refl
   performed_performs right behind {s = s} {end = end} r a (step {ds = ds} x d says ok said cl rest) =
-      subst (λ (y : Answer). (y.verdict ≡ Accepted d.said) × NoTrainInReversal c (behind ++ d ∷ []) y.section
+      subst (λ (y : Answer). (y.verdict ≡ Ok d.said) × NoTrainInReversal c (behind ++ d ∷ []) y.section
       × Performs c y.section (behind ++ d ∷ []) ds end)
       (sym (accepted_judge c s r.settings (reached_in_range c right s r) d.bytes x says.decodes ok)) (
-        ap Accepted said,
+        ap Ok said,
         record { empty = λ b u. cl b (settled_not b u) },
         performed_performs right (behind ++ d ∷ []) (reached_kept c right s x ok r) after rest,
       )

@@ -6,9 +6,9 @@ use mathlib.Core.Path.{◌≡◌}
 use mathlib.Core.List.{List}
 use lib.Dec.{eqb}
 use borrow.Author.Tests.{leb-true}
+use Rattle.std.specs.Prelude.{Some}
 use Rattle.section.specs.declared.Step.{Step}
 use Rattle.section.specs.declared.TrackStep.{TrackStep}
-use Rattle.section.specs.declared.Decoded.TheVariants.{Well}
 use Rattle.section.specs.Bytes.{byte, le16, within}
 use Rattle.section.specs.Numbers.{largest_train}
 use Rattle.section.specs.Step.{decoded, number_well_formed, kind_of, post_of, number_of}
@@ -58,12 +58,12 @@ pub record HasFields (kind post number : ℕ) (x : Step) : Type 0 where
   pub number_is : number_of x ≡ number
 
 pub record Says (n : ℕ) (bytes : List ℕ) (x : TrackStep) : Type 0 where
-  pub decodes : decoded n bytes ≡ Well x
+  pub decodes : decoded n bytes ≡ Some x
   pub track_is : x.track ≡ eqb (byte bytes 1) 1
   pub fits : SeenFits n (seen x)
   pub fields : HasFields (byte bytes 0) (byte bytes 2) (le16 (byte bytes 4) (byte bytes 5)) x.step
 
-pub decoded_says : (n : ℕ) (bytes : List ℕ) (x : TrackStep) → decoded n bytes ≡ Well x → Says n bytes x
+pub decoded_says : (n : ℕ) (bytes : List ℕ) (x : TrackStep) → decoded n bytes ≡ Some x → Says n bytes x
 decoded_says n bytes x e = record {
   decodes = e;
   track_is = decoded_track n bytes x e;

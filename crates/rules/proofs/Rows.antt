@@ -13,8 +13,8 @@ use Rattle.section.specs.declared.Step.TheVariants.{Order}
 use Rattle.section.specs.declared.TrackStep.{TrackStep}
 use Rattle.section.specs.declared.Said.{Said}
 use Rattle.section.specs.declared.Said.TheVariants.{Nothing}
-use Rattle.section.specs.declared.Verdict.{Verdict}
-use Rattle.section.specs.declared.Verdict.TheVariants.{Accepted, Refused}
+use Rattle.section.specs.Refusal.{figure}
+use Rattle.section.specs.Words.{refusal_of, said_by}
 use Rattle.section.specs.Step.{encoded}
 use Rattle.rules.specs.Line.{line_in}
 use Rattle.rules.specs.Table.{Check, checks}
@@ -37,19 +37,22 @@ Holds {X} rows = map (λ (r : Row X). r.given) rows ≡ map (λ (r : Row X). r.p
 
 -- ## Rows of steps
 
--- the answer to a step, and the figures of all its checks that fail, in their order
+-- the answer to a step, 0 or the refusal and what is said, and the figures of all its checks that fail, in their order
 pub record Decided : Type 0 where
-  pub verdict : Verdict
+  pub refusal : ℕ
+  pub said : Said
   pub failing : List ℕ
 
 unfoldable pub failing_of : List Check → List ℕ
+unfolding figure
 failing_of [] = []
-failing_of (k ∷ ks) = cond k.holds (failing_of ks) (k.refusal ∷ failing_of ks)
+failing_of (k ∷ ks) = cond k.holds (failing_of ks) (figure k.refusal ∷ failing_of ks)
 
 unfoldable pub judged_step : TrackStep → Section → Decided
-unfolding refusals offered_as failing_of
+unfolding refusals offered_as failing_of refusal_of said_by
 judged_step x s = record {
-  verdict = (judge s (encoded x)).verdict;
+  refusal = refusal_of (judge s (encoded x)).verdict;
+  said = said_by (judge s (encoded x)).verdict;
   failing = failing_of (checks (line_in s) x.step (site_of s x) (occupancy_of s x));
 }
 
@@ -67,19 +70,19 @@ judged c day = judged_from (fresh c) day
 
 -- no check fails, and this is said
 abbrev pub says : Said → Option Decided
-says said = some (record { verdict = Accepted said; failing = [] })
+says said = some (record { refusal = 0; said = said; failing = [] })
 
 abbrev pub accepted : Option Decided
 accepted = says Nothing
 
 -- this check fails, and no other
 abbrev pub refused : ℕ → Option Decided
-refused k = some (record { verdict = Refused k; failing = k ∷ [] })
+refused k = some (record { refusal = k; said = Nothing; failing = k ∷ [] })
 
 -- these checks fail, and the first of them refuses
 infix 25 ◌before◌
 abbrev pub ◌before◌ : ℕ → List ℕ → Option Decided
-k before later = some (record { verdict = Refused k; failing = k ∷ later })
+k before later = some (record { refusal = k; said = Nothing; failing = k ∷ later })
 
 -- ## Rows of what a section keeps and shows
 

@@ -4,11 +4,12 @@ use Prim.Native.Nat.{ℕ, ◌<◌}
 use mathlib.Core.Bool.{Bool, true, false, not}
 use mathlib.Core.Path.{◌≡◌, refl, sym, ap, ◌∙◌, subst}
 use native.Mathlib.Omega.{arith}
+use Rattle.std.specs.Prelude.{Ok, Err}
 use Rattle.section.specs.Numbers.{start_kind}
 use Rattle.section.specs.declared.Settings.{Settings}
 use Rattle.section.specs.declared.Said.{Said}
-use Rattle.section.specs.declared.Verdict.{Verdict}
-use Rattle.section.specs.declared.Verdict.TheVariants.{Accepted, Refused}
+use Rattle.section.specs.declared.Refusal.{Refusal}
+use Rattle.section.specs.Refusal.{Verdict}
 use Rattle.section.specs.declared.Walk.{Walk}
 use Rattle.section.specs.declared.Walk.TheVariants.{Settled, Turn}
 use Rattle.section.specs.declared.Track.{Track}
@@ -58,7 +59,7 @@ module _ (c : Settings) where
   abbrev Sends : Section → Bool → ℕ → Type 0
   Sends s b p = (p < c.posts) × ((rank c.posts (upward b (track_of s b).cvt) p ≡ 0) × (is_settled (track_of s b).walk ≡ true))
 
-  not_refused : (v : Verdict) (w : Said) (k : ℕ) → v ≡ Accepted w → v ≡ Refused k → ⊥
+  not_refused : (v : Verdict) (w : Said) (k : Refusal) → v ≡ Ok w → v ≡ Err k → ⊥
   not_refused v w k e f = let z : ◌≡◌ {A = ℕ} 0 1 = cc in omega arith
 
   start_sends : (s : Section) (d : AcceptedStep) (x : Seen) → kind d ≡ start_kind → Says c.posts d.bytes (as_step x) → AcceptedIn c s x

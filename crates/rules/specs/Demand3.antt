@@ -2,11 +2,11 @@
 -- well-formed settings c and all lists of offered byte strings.
 use Rattle.std.specs.Prelude.{ℕ, zero, suc, ◌-◌, ◌<◌, Bool, true, false, cond, not, ◌&&◌, ◌||◌, ◌≡◌, ◌⊎◌, List, [], ◌∷◌, ◌++◌, get_or, length, eqb}
 use Rattle.std.proofs.Math.Option.{Option, none, some}
+use Rattle.std.specs.Prelude.{Ok, Err}
 use Rattle.section.specs.declared.Settings.{Settings}
 use Rattle.section.specs.declared.Said.{Said}
 use Rattle.section.specs.declared.Said.TheVariants.{Nothing, Cvt, Cvtz, Vns, Vnsz}
-use Rattle.section.specs.declared.Verdict.{Verdict}
-use Rattle.section.specs.declared.Verdict.TheVariants.{Accepted, Refused}
+use Rattle.section.specs.Refusal.{Verdict}
 use Rattle.section.specs.declared.Track.{Track}
 use Rattle.section.specs.declared.Section.{Section}
 use Rattle.section.specs.Bytes.{byte, le16}
@@ -32,8 +32,8 @@ pub record AcceptedStep : Type 0 where
 
 -- by the answer alone
 abbrev pub accepted_of : List ℕ → Verdict → List AcceptedStep
-accepted_of bytes (Accepted said) = record { bytes = bytes; said = said } ∷ []
-accepted_of bytes (Refused k) = []
+accepted_of bytes (Ok said) = record { bytes = bytes; said = said } ∷ []
+accepted_of bytes (Err refusal) = []
 
 unfoldable pub accepted_steps : Section → List (List ℕ) → List AcceptedStep
 accepted_steps s [] = []
@@ -225,7 +225,7 @@ module _ (c : Settings) where
   -- "if it has start permission, or if a start with some number, offered there next, would be accepted"
   pub data MayStart (s : Section) (b : Bool) (p : ℕ) : Type 0 where
     permission : p < c.posts → (post_on (track_of s b) p).permission ≡ true → MayStart s b p
-    start : (d : AcceptedStep) → kind d ≡ start_kind → track d ≡ b → post d ≡ p → (judge s d.bytes).verdict ≡ Accepted d.said → MayStart s b p
+    start : (d : AcceptedStep) → kind d ≡ start_kind → track d ≡ b → post d ≡ p → (judge s d.bytes).verdict ≡ Ok d.said → MayStart s b p
 
   -- ## The claim for one track
 
@@ -250,7 +250,7 @@ module _ (c : Settings) where
   unfoldable pub Performs : Section → List AcceptedStep → List AcceptedStep → Section → Type 0
   Performs s done [] end = s ≡ end
   Performs s done (d ∷ ds) end =
-      ((judge s d.bytes).verdict ≡ Accepted d.said)
+      ((judge s d.bytes).verdict ≡ Ok d.said)
       × NoTrainInReversal (done ++ (d ∷ [])) (judge s d.bytes).section
       × Performs (judge s d.bytes).section (done ++ (d ∷ [])) ds end
 

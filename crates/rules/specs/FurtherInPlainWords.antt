@@ -1,14 +1,14 @@
 -- The further theorems of docs/SAFETY.md in plain words: "Voie occupée", telephone lines, ranges, cells past the last post and block section.
 -- proofs/FurtherInPlainWords.antt draws each from the statement of its theorem alone, and every field of that statement is used by one of them.
 use Rattle.std.specs.Prelude.{ℕ, suc, ◌≤◌, ◌<◌, Bool, true, false, ◌≡◌, List, [], ◌∷◌, get_or, set}
+use Rattle.std.specs.Prelude.{Err, Some, None}
+use Rattle.section.specs.declared.Refusal.TheVariants.{Malformed}
 use Rattle.section.specs.declared.Act.TheVariants.{Announce, Acknowledge}
-use Rattle.section.specs.declared.Decoded.TheVariants.{Well, Malformed}
 use Rattle.section.specs.declared.Post.{Post}
 use Rattle.section.specs.declared.Section.{Section}
 use Rattle.section.specs.declared.Track.{Track}
 use Rattle.section.specs.declared.TrackStep.{TrackStep}
-use Rattle.section.specs.declared.Verdict.{Verdict}
-use Rattle.section.specs.declared.Verdict.TheVariants.{Refused}
+use Rattle.section.specs.Refusal.{Verdict}
 use Rattle.section.specs.declared.Walk.TheVariants.{Turn}
 use Rattle.section.specs.Geometry.{upward, rank, block}
 use Rattle.section.specs.Range.{in_range}
@@ -82,9 +82,9 @@ InRangeAlong = (s : Section) → in_range s ≡ true → (offered : List (List �
 
 -- "a reached state never gives 6": malformed bytes get 4, a step is judged by the table
 pub record NextIsJudged (end : Section) : Type 0 where
-  pub malformed : (bytes : List ℕ) → decoded end.settings.posts bytes ≡ Malformed
-      → judge end bytes ≡ record { verdict = Refused 4; section = end }
-  pub by_the_table : (bytes : List ℕ) (x : TrackStep) → decoded end.settings.posts bytes ≡ Well x → judge end bytes ≡ judge_step end x
+  pub malformed : (bytes : List ℕ) → decoded end.settings.posts bytes ≡ None
+      → judge end bytes ≡ record { verdict = Err Malformed; section = end }
+  pub by_the_table : (bytes : List ℕ) (x : TrackStep) → decoded end.settings.posts bytes ≡ Some x → judge end bytes ≡ judge_step end x
 
 -- ## Cells past post n−1 or block section n−2
 

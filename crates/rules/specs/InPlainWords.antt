@@ -4,13 +4,13 @@
 use Rattle.std.specs.Prelude.{ℕ, suc, ◌+◌, ◌-◌, ◌*◌, ◌<◌, Bool, true, false, cond, ◌&&◌, ◌≡◌, ◌⊎◌, ◌≢◌, get_or, length, take, eqb, leb}
 use mathlib.Core.List.{List, [], ◌∷◌, ◌++◌, map, Memᴰ}
 use Rattle.std.proofs.Math.Option.{none, some}
+use Rattle.std.specs.Prelude.{Ok}
 use Rattle.section.specs.declared.Act.{Act}
 use Rattle.section.specs.declared.Said.{Said}
 use Rattle.section.specs.declared.Said.TheVariants.{Nothing, Cvt, Cvtz, Vns, Vnsz}
 use Rattle.section.specs.declared.Section.{Section}
 use Rattle.section.specs.declared.Settings.{Settings}
 use Rattle.section.specs.declared.Track.{Track}
-use Rattle.section.specs.declared.Verdict.TheVariants.{Accepted}
 use Rattle.section.specs.declared.Walk.TheVariants.{Settled, Turn}
 use Rattle.section.specs.Bytes.{byte}
 use Rattle.section.specs.Fresh.{fresh_section}
@@ -153,7 +153,7 @@ module _ (c : Settings) (offered : List (List ℕ)) where
     pub a_start : byte bytes 0 ≡ 5
     pub on_track : byte bytes 1 ≡ track_byte b
     pub at_post : byte bytes 2 ≡ p
-    pub is_accepted : (judge end bytes).verdict ≡ Accepted said
+    pub is_accepted : (judge end bytes).verdict ≡ Ok said
 
   -- "At most one post of a track has permission, or could start a train next. It is the sending end; in a reversal there is none."
   pub record OneMayStart : Type 0 where

@@ -1,14 +1,13 @@
 -- Judging an offered step: 6, then 4, then the table.
 use Rattle.std.specs.Prelude.{ℕ, Bool, true, false, cond, not, List, [], ◌∷◌}
+use Rattle.std.specs.Prelude.{Ok, Err, Some, None, Option}
+use Rattle.section.specs.declared.Refusal.TheVariants.{Malformed, OutOfRange}
 use Rattle.section.specs.declared.Said.{Said}
-use Rattle.section.specs.declared.Verdict.{Verdict}
-use Rattle.section.specs.declared.Verdict.TheVariants.{Accepted, Refused}
+use Rattle.section.specs.Refusal.{Verdict}
 use Rattle.section.specs.declared.Section.{Section}
 use Rattle.section.specs.declared.Track.{Track}
 use Rattle.section.specs.declared.Answer.{Answer}
 use Rattle.section.specs.declared.TrackStep.{TrackStep}
-use Rattle.section.specs.declared.Decoded.{Decoded}
-use Rattle.section.specs.declared.Decoded.TheVariants.{Well, Malformed}
 use Rattle.section.specs.Range.{in_range}
 use Rattle.section.specs.Step.{decoded, stands_on, kind_of, post_of, number_of}
 use Rattle.section.specs.Store.{track_of}
@@ -19,13 +18,13 @@ use Rattle.rules.specs.Table.{Check, checks, effect, track_after}
 
 -- "Figures are the refusals below. Every step not refused is accepted.": the first check that fails gives the refusal
 unfoldable pub verdict_of : List Check → Said → Verdict
-verdict_of [] said = Accepted said
-verdict_of (k ∷ ks) said = cond k.holds (verdict_of ks said) (Refused k.refusal)
+verdict_of [] said = Ok said
+verdict_of (k ∷ ks) said = cond k.holds (verdict_of ks said) (Err k.refusal)
 
 -- an accepted step leaves the new section, a refused one the old
 unfoldable pub answer_of : Verdict → Section → Section → Answer
-answer_of (Accepted said) old new = record { verdict = Accepted said; section = new }
-answer_of (Refused k) old new = record { verdict = Refused k; section = old }
+answer_of (Ok said) old new = record { verdict = Ok said; section = new }
+answer_of (Err r) old new = record { verdict = Err r; section = old }
 
 abbrev pub site_of : Section → TrackStep → Site
 site_of s x = site_on x.track (post_of x.step) (track_of s x.track)
@@ -57,9 +56,9 @@ unfoldable pub judge_step : Section → TrackStep → Answer
 judge_step s x = answer_of (verdict_on s x) s (section_after s x)
 
 -- 4: "A single step offered to the engine is tested alike."
-unfoldable pub judge_decoded : Section → Decoded → Answer
-judge_decoded s (Well x) = judge_step s x
-judge_decoded s Malformed = record { verdict = Refused 4; section = s }
+unfoldable pub judge_decoded : Section → Option TrackStep → Answer
+judge_decoded s (Some x) = judge_step s x
+judge_decoded s None = record { verdict = Err Malformed; section = s }
 
 -- bytes offered to a section whose ranges hold
 unfoldable pub judge_in_range : Section → List ℕ → Answer
@@ -67,4 +66,4 @@ judge_in_range s bytes = judge_decoded s (decoded s.settings.posts bytes)
 
 -- 6: "engine only, before 4: the state handed in has settings or a field outside its range"
 unfoldable pub judge : Section → List ℕ → Answer
-judge s bytes = cond (in_range s) (judge_in_range s bytes) (record { verdict = Refused 6; section = s })
+judge s bytes = cond (in_range s) (judge_in_range s bytes) (record { verdict = Err OutOfRange; section = s })

@@ -11,6 +11,9 @@ use Rattle.section.specs.declared.Step.{Step}
 use Rattle.section.specs.declared.Step.TheVariants.{Order, Set, Announce, Acknowledge, Start, Pass, Leave, MeasuresOn, MeasuresOff, FaultOn}
 use Rattle.section.specs.declared.Step.TheVariants.{FaultOff, Release, Key, Caution}
 use Rattle.section.specs.declared.Said.TheVariants.{Nothing, Cvt, Cvtz, Vns, Vnsz}
+use Rattle.section.specs.declared.Refusal.{Refusal}
+use Rattle.section.specs.declared.Refusal.TheVariants.{ReversalUnderWay, NoSuchPart, Occupied, OtherNotOnVns, NotItsTurn, MeasuresNeeded, WrongTrain}
+use Rattle.section.specs.declared.Refusal.TheVariants.{FaultWithoutMark, DeviceLocked, SealsUsedUp, AlreadySo, CautionFormNeeded}
 use Rattle.section.specs.Numbers.{most_seals}
 use Rattle.section.specs.Post.{turned, permitted, measured, faulty, marked, sealed, cautioned, has_fault}
 use Rattle.rules.specs.declared.Line.{Line}
@@ -25,11 +28,11 @@ use Rattle.rules.specs.Site.{crossing_ahead, zones_lack_ahead, commands}
 -- a check: what must hold, and the refusal where it does not
 pub record Check : Type 0 where
   pub holds : Bool
-  pub refusal : ℕ
+  pub refusal : Refusal
 
 infix 20 ◌else◌
-abbrev pub ◌else◌ : Bool → ℕ → Check
-b else k = record { holds = b; refusal = k }
+abbrev pub ◌else◌ : Bool → Refusal → Check
+b else r = record { holds = b; refusal = r }
 
 -- a step that changes only its post's record
 abbrev pub keeping : Site → Post → Effect
@@ -83,33 +86,47 @@ module _ (c : Line) where
   -- ## Checks
 
   unfoldable pub checks : Step → Site → Occupancy → List Check
+  -- "11; 12 not the sending end; 14; 13"
   checks (Order p) e g =
-      (is_settled e.walk else 11) ∷ (at_sending_end c e else 12) ∷ (order_allowed e g.other.on_vns else 14) ∷ (not (order_occupied g) else 13) ∷ []
+      (is_settled e.walk else ReversalUnderWay) ∷ (at_sending_end c e else NoSuchPart) ∷ (order_allowed e g.other.on_vns else OtherNotOnVns)
+      ∷ (not (order_occupied g) else Occupied) ∷ []
+  -- "15; 13; 18; 16; 19"
   checks (Set p) e g =
-      (is_turn e.walk e.post act.Set else 15) ∷ (not g.watched else 13) ∷ (fault1_confirmed e else 18) ∷ (measures_suffice e else 16)
-      ∷ (not e.own.faults.two else 19) ∷ []
-  checks (Announce p) e g = (is_turn e.walk e.post act.Announce else 15) ∷ []
-  checks (Acknowledge p) e g = (is_turn e.walk e.post act.Acknowledge else 15) ∷ []
+      (is_turn e.walk e.post act.Set else NotItsTurn) ∷ (not g.watched else Occupied) ∷ (fault1_confirmed e else FaultWithoutMark)
+      ∷ (measures_suffice e else MeasuresNeeded) ∷ (not e.own.faults.two else DeviceLocked) ∷ []
+  -- "15"
+  checks (Announce p) e g = (is_turn e.walk e.post act.Announce else NotItsTurn) ∷ []
+  -- "15"
+  checks (Acknowledge p) e g = (is_turn e.walk e.post act.Acknowledge else NotItsTurn) ∷ []
+  -- "11; 12 not the sending end; 17; 13; 18", and 22 last
   checks (Start p number) e g =
-      (is_settled e.walk else 11) ∷ (at_sending_end c e else 12) ∷ (not g.number_on_track else 17) ∷ (not g.stretch_occupied else 13)
-      ∷ (fault1_confirmed e else 18) ∷ (caution_held number e else 22) ∷ []
+      (is_settled e.walk else ReversalUnderWay) ∷ (at_sending_end c e else NoSuchPart) ∷ (not g.number_on_track else WrongTrain)
+      ∷ (not g.stretch_occupied else Occupied) ∷ (fault1_confirmed e else FaultWithoutMark) ∷ (caution_held number e else CautionFormNeeded) ∷ []
+  -- "12 an end post; 17; 13", and 22 last
   checks (Pass p number) e g =
-      (not (at_sending_end c e || at_receiving_end c e) else 12)
-      ∷ (eqb g.train_before number else 17) ∷ (not (pass_occupied e g) else 13) ∷ (caution_held number e else 22) ∷ []
-  checks (Leave p number) e g = (at_receiving_end c e else 12) ∷ (eqb g.train_before number else 17) ∷ []
-  checks (MeasuresOn p) e g = (not e.own.measures else 21) ∷ []
-  checks (MeasuresOff p) e g = (e.own.measures else 21) ∷ (not e.own.device else 16) ∷ []
-  checks (FaultOn p f) e g = (not (has_fault f e.own) else 21) ∷ []
-  checks (FaultOff p f) e g = (has_fault f e.own else 21) ∷ []
-  -- a post that commands no part "is given 12 by release"
+      (not (at_sending_end c e || at_receiving_end c e) else NoSuchPart)
+      ∷ (eqb g.train_before number else WrongTrain) ∷ (not (pass_occupied e g) else Occupied) ∷ (caution_held number e else CautionFormNeeded) ∷ []
+  -- "12 not the receiving end; 17"
+  checks (Leave p number) e g = (at_receiving_end c e else NoSuchPart) ∷ (eqb g.train_before number else WrongTrain) ∷ []
+  -- "21"
+  checks (MeasuresOn p) e g = (not e.own.measures else AlreadySo) ∷ []
+  -- "21; 16"
+  checks (MeasuresOff p) e g = (e.own.measures else AlreadySo) ∷ (not e.own.device else MeasuresNeeded) ∷ []
+  -- "21"
+  checks (FaultOn p f) e g = (not (has_fault f e.own) else AlreadySo) ∷ []
+  -- "21"
+  checks (FaultOff p f) e g = (has_fault f e.own else AlreadySo) ∷ []
+  -- "15; 12 the last post; 21; 13; 17"; a post that commands no part "is given 12 by release"
   checks (Release p number) e g =
-      (release_in_turn e else 15) ∷ (commands c e else 12) ∷ (e.own.faults.one else 21) ∷ (not g.watched else 13)
-      ∷ (eqb g.last_ahead number else 17) ∷ []
+      (release_in_turn e else NotItsTurn) ∷ (commands c e else NoSuchPart) ∷ (e.own.faults.one else AlreadySo) ∷ (not g.watched else Occupied)
+      ∷ (eqb g.last_ahead number else WrongTrain) ∷ []
+  -- "15; 21; 13; 18; 16; 20"
   checks (Key p) e g =
-      (is_turn e.walk e.post act.Set else 15) ∷ (e.own.faults.two else 21) ∷ (not g.watched else 13) ∷ (fault1_confirmed e else 18)
-      ∷ (measures_suffice e else 16) ∷ (not (eqb e.own.seals most_seals) else 20) ∷ []
+      (is_turn e.walk e.post act.Set else NotItsTurn) ∷ (e.own.faults.two else AlreadySo) ∷ (not g.watched else Occupied)
+      ∷ (fault1_confirmed e else FaultWithoutMark) ∷ (measures_suffice e else MeasuresNeeded) ∷ (not (eqb e.own.seals most_seals) else SealsUsedUp)
+      ∷ []
   -- "given 12 where no crossing lies in the block section ahead"
-  checks (Caution p number) e g = (crossing_ahead c e else 12) ∷ []
+  checks (Caution p number) e g = (crossing_ahead c e else NoSuchPart) ∷ []
 
   -- ## Effects
 

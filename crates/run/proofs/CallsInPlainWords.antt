@@ -1,14 +1,12 @@
 -- The plain words on calls, from the statements alone: three calls are two, of which the first is two; a call in two parts; and of the claim along
 -- calls that two posts that may start trains are the same.
-use Prim.Native.Nat.{ℕ, ◌+◌, ◌*◌, ◌≤◌}
-use mathlib.Core.List.{List, ◌++◌}
-use mathlib.Core.Path.{◌≡◌, sym, ◌∙◌, ap}
+use Prim.Native.Nat.{◌+◌, ◌*◌}
+use mathlib.Core.List.{◌++◌}
+use mathlib.Core.Path.{◌≡◌, ◌∙◌, ap}
 use native.Mathlib.Omega.{arith}
-use Rattle.section.specs.declared.Outcome.{Outcome}
-use Rattle.section.specs.declared.Outcome.TheVariants.{Done}
+use Rattle.std.specs.Prelude.{Ok}
 use Rattle.section.specs.declared.Section.{Section}
 use Rattle.rules.specs.Demand3.{permission}
-use Rattle.layout.specs.Layout.{most_steps}
 use Rattle.notes.specs.Note.{answer_length}
 use Rattle.run.specs.Run.{outcome_of, run_of}
 use Rattle.run.specs.Calls.{TwoCallsAreOne, OneCallIsTwo, Demand3OfCalls}
@@ -21,7 +19,7 @@ module _ (two-are-one : TwoCallsAreOne) (one-is-two : OneCallIsTwo) (claimed : D
     three_calls_are_one = λ s one two three room rest more whole k m n done-one done-two done-three few fits.
         let first = two-are-one s one two room rest (answer_length * (k + m)) k m done-one done-two (omega (arith, few)) (omega arith) in
         let left = first.1.0 in
-        let third : outcome_of (run_of s (one ++ two) (answer_length * (k + m))).section three more ≡ Done n =
+        let third : outcome_of (run_of s (one ++ two) (answer_length * (k + m))).section three more ≡ Ok n =
         ap (λ (u : Section). outcome_of u three more) left ∙ done-three in
         let all = two-are-one s (one ++ two) three (answer_length * (k + m)) more whole (k + m) n first.0 third few fits in
         (all.0, all.1.0 ∙ ap (λ (u : Section). (run_of u three more).section) left);

@@ -18,9 +18,8 @@ use Rattle.file_tests.specs.Tests.{well_at, leading, first_malformed, some_malfo
 use Rattle.file_tests.proofs.Laws.{leading_is, all_pass}
 use Rattle.text.specs.Text.{first_texts}
 use Rattle.text.proofs.Laws.{same_texts}
-use Rattle.judging_in_place.specs.declared.Entries.{Entries}
 use Rattle.judging_in_place.specs.Offered.{section_before, answer_to}
-use Rattle.judging_in_place.specs.Entries.{entry_of, entry_on, entries_of}
+use Rattle.judging_in_place.specs.Entries.{Entry, entry_of, entry_on, entries_of}
 
 -- ## Well-formed steps
 
@@ -117,23 +116,23 @@ module _ (one other : List ℕ) (k : ℕ) (whole : length one ≡ step_length * 
         ∙ ap₂ (λ (t : Section) (bytes : List ℕ). (judge t bytes).section) (section_in_other j) (step_of_other j)
 
     -- what is kept of both
-    module _ (entries : Entries) where
+    module _ (kept : Entry) where
       abbrev entry : Section → List ℕ → List ℕ
-      entry t bytes = entry_of entries (judge t bytes)
+      entry t bytes = entry_of kept (judge t bytes)
 
-      entry_of_one : (i : ℕ) → i < k → entry_on entries s (one ++ other) i ≡ entry_on entries s one i
+      entry_of_one : (i : ℕ) → i < k → entry_on kept s (one ++ other) i ≡ entry_on kept s one i
       unfolding entry_on answer_to
       entry_of_one i h = ap₂ entry (section_in_one i (omega arith)) (step_of_one i h)
 
-      entry_of_other : (j : ℕ) → entry_on entries s (one ++ other) (k + j) ≡ entry_on entries (section_before s one k) other j
+      entry_of_other : (j : ℕ) → entry_on kept s (one ++ other) (k + j) ≡ entry_on kept (section_before s one k) other j
       unfolding entry_on answer_to
       entry_of_other j = ap₂ entry (section_in_other j) (step_of_other j)
 
       pub kept_of_both :
-          (m : ℕ) → entries_of entries s (one ++ other) (k + m) ≡ entries_of entries s one k ++ entries_of entries (section_before s one k) other m
+          (m : ℕ) → entries_of kept s (one ++ other) (k + m) ≡ entries_of kept s one k ++ entries_of kept (section_before s one k) other m
       unfolding entries_of
       kept_of_both m =
-          texts_parted (entry_on entries s (one ++ other)) k m
+          texts_parted (entry_on kept s (one ++ other)) k m
           ∙ ap₂ (λ (x y : List ℕ). x ++ y)
-          (same_texts (entry_on entries s (one ++ other)) (entry_on entries s one) k entry_of_one)
-          (same_texts (λ (j : ℕ). entry_on entries s (one ++ other) (k + j)) (entry_on entries (section_before s one k) other) m (λ j h. entry_of_other j))
+          (same_texts (entry_on kept s (one ++ other)) (entry_on kept s one) k entry_of_one)
+          (same_texts (λ (j : ℕ). entry_on kept s (one ++ other) (k + j)) (entry_on kept (section_before s one k) other) m (λ j h. entry_of_other j))

@@ -6,8 +6,7 @@ use mathlib.Core.List.{List, [], ◌∷◌, ◌++◌}
 use lib.ListN.{replicate}
 use Rattle.section.specs.declared.Section.{Section}
 use Rattle.section.specs.Outcome.{refusal_number, refusal_index, if_done}
-use Rattle.section.specs.Words.{refusal_of, said_by, said_number, track_letter, letter}
-use Rattle.rules.specs.Judge.{judge}
+use Rattle.section.specs.Words.{said_by, said_number, track_letter, letter}
 use Rattle.rules.proofs.Days.{telephone, fresh, refusals}
 use Rattle.rules.proofs.Rows.{◌gives◌, Holds}
 use Rattle.layout.specs.Layout.{step_at, step_count}
@@ -15,12 +14,13 @@ use Rattle.file_tests.specs.Tests.{well_at, leading, first_malformed, some_malfo
 use Rattle.text.specs.Text.{written, first_texts}
 use Rattle.notes.specs.Note.{answer_bytes}
 use Rattle.judging_in_place.specs.Offered.{section_before, answer_to}
-use Rattle.judging_in_place.specs.Entries.{entry_with, entry_of, entry_on, entries_of}
+use Rattle.judging_in_place.specs.Entries.{entry_of, entry_on, entries_of}
+use Rattle.section.specs.Refusal.{call_figure, index_of}
 use Rattle.run.specs.Run.{too_much, outcome_of, answers_after}
 
 -- the refusal of the call, its index, and the buffer afterwards, every byte of which was 255
 unfoldable pub ran : Section → List ℕ → ℕ → List ℕ
-unfolding refusals too_much outcome_of refusal_number refusal_index if_done answers_after section_before answer_to entry_with entry_of
+unfolding refusals too_much outcome_of refusal_number call_figure refusal_index index_of if_done answers_after section_before answer_to entry_of
     entry_on entries_of answer_bytes
     said_by said_number track_letter letter step_at step_count well_at leading first_malformed some_malformed written first_texts
 ran s steps room =

@@ -1,20 +1,19 @@
 -- Calls one after another, each on the section that the one before left: what two calls give that one would, and demand 3 along them. The proofs
 -- are in proofs/Calls.antt.
 use Rattle.std.specs.Prelude.{ℕ, ◌+◌, ◌*◌, ◌≤◌, true, List, [], ◌∷◌, ◌++◌, ◌≡◌, length}
-use Rattle.section.specs.declared.Outcome.{Outcome}
-use Rattle.section.specs.declared.Outcome.TheVariants.{Done}
+use Rattle.std.specs.Prelude.{Ok}
+use Rattle.section.specs.Refusal.{Outcome}
 use Rattle.section.specs.declared.Section.{Section}
 use Rattle.section.specs.declared.Settings.{Settings}
 use Rattle.section.specs.Fresh.{fresh_section}
 use Rattle.section.specs.Numbers.{step_length}
 use Rattle.section.specs.Outcome.{if_done}
 use Rattle.section.specs.Settings.{settings_in_range}
-use Rattle.rules.specs.Demand3.{state_after, accepted_steps, Claim}
+use Rattle.rules.specs.Demand3.{accepted_steps, Claim}
 use Rattle.layout.specs.Layout.{most_steps, step_count}
 use Rattle.notes.specs.Note.{answer_length}
-use Rattle.judging_in_place.specs.declared.Entries.TheVariants.{Answers}
 use Rattle.judging_in_place.specs.Offered.{offered_of}
-use Rattle.judging_in_place.specs.Entries.{entries_of}
+use Rattle.judging_in_place.specs.Entries.{answers, entries_of}
 use Rattle.run.specs.Run.{outcome_of, run_of}
 
 -- ## Two calls are one
@@ -23,18 +22,18 @@ use Rattle.run.specs.Run.{outcome_of, run_of}
 -- enough: as many steps, the same section, and the answers one after another.
 abbrev pub TwoCallsAreOne : Type 0
 TwoCallsAreOne =
-    (s : Section) (one other : List ℕ) (room rest whole k m : ℕ) → outcome_of s one room ≡ Done k →
-    outcome_of (run_of s one room).section other rest ≡ Done m → k + m ≤ most_steps → answer_length * (k + m) ≤ whole →
-    (outcome_of s (one ++ other) whole ≡ Done (k + m))
+    (s : Section) (one other : List ℕ) (room rest whole k m : ℕ) → outcome_of s one room ≡ Ok k →
+    outcome_of (run_of s one room).section other rest ≡ Ok m → k + m ≤ most_steps → answer_length * (k + m) ≤ whole →
+    (outcome_of s (one ++ other) whole ≡ Ok (k + m))
     × (((run_of s (one ++ other) whole).section ≡ (run_of (run_of s one room).section other rest).section)
-    × (entries_of Answers s (one ++ other) (k + m) ≡ entries_of Answers s one k ++ entries_of Answers (run_of s one room).section other m))
+    × (entries_of answers s (one ++ other) (k + m) ≡ entries_of answers s one k ++ entries_of answers (run_of s one room).section other m))
 
 -- A call that is done can be made in two, at any step, with room for the answers of each: both are done.
 abbrev pub OneCallIsTwo : Type 0
 OneCallIsTwo =
-    (s : Section) (one other : List ℕ) (room rest whole k m : ℕ) → outcome_of s (one ++ other) whole ≡ Done (k + m) →
+    (s : Section) (one other : List ℕ) (room rest whole k m : ℕ) → outcome_of s (one ++ other) whole ≡ Ok (k + m) →
     length one ≡ step_length * k → answer_length * k ≤ room → answer_length * m ≤ rest →
-    (outcome_of s one room ≡ Done k) × (outcome_of (run_of s one room).section other rest ≡ Done m)
+    (outcome_of s one room ≡ Ok k) × (outcome_of (run_of s one room).section other rest ≡ Ok m)
 
 -- ## Demand 3 along calls
 

@@ -1,7 +1,8 @@
 -- A run of steps in one call (document 02, request 4).
 use Rattle.std.specs.Prelude.{ℕ, ◌*◌, Bool, not, ◌||◌, cond, List, ◌≡◌, ltb, length}
-use Rattle.section.specs.declared.Outcome.{Outcome}
-use Rattle.section.specs.declared.Outcome.TheVariants.{Done, Malformed, Refused}
+use Rattle.std.specs.Prelude.{Ok, Err}
+use Rattle.section.specs.declared.CallRefusal.TheVariants.{MalformedStep, NoRoom, StateOutOfRange}
+use Rattle.section.specs.Refusal.{Outcome}
 use Rattle.section.specs.declared.Section.{Section}
 use Rattle.section.specs.Outcome.{refusal_number, refusal_index, if_done}
 use Rattle.section.specs.Range.{in_range}
@@ -9,9 +10,8 @@ use Rattle.layout.specs.Layout.{most_steps, step_count}
 use Rattle.file_tests.specs.Tests.{first_malformed, some_malformed}
 use Rattle.text.specs.Text.{written}
 use Rattle.notes.specs.Note.{answer_length}
-use Rattle.judging_in_place.specs.declared.Entries.TheVariants.{Answers}
 use Rattle.judging_in_place.specs.Offered.{section_before}
-use Rattle.judging_in_place.specs.Entries.{entries_of}
+use Rattle.judging_in_place.specs.Entries.{answers, entries_of}
 use Rattle.run.specs.declared.RunAnswer.{RunAnswer}
 
 -- ## The outcome
@@ -24,10 +24,10 @@ too_much count room = ltb most_steps count || ltb room (answer_length * count)
 -- steps 5." Else how many steps are taken.
 unfoldable pub outcome_of : Section → List ℕ → ℕ → Outcome
 outcome_of s steps room =
-    cond (not (in_range s)) (Refused 6)
-    (cond (some_malformed s.settings.posts steps) (Malformed (first_malformed s.settings.posts steps))
-    (cond (too_much (step_count steps) room) (Refused 5)
-    (Done (step_count steps))))
+    cond (not (in_range s)) (Err StateOutOfRange)
+    (cond (some_malformed s.settings.posts steps) (Err (MalformedStep (first_malformed s.settings.posts steps)))
+    (cond (too_much (step_count steps) room) (Err NoRoom)
+    (Ok (step_count steps))))
 
 -- 4 is not given without the index of the first malformed step
 abbrev pub IndexOfTheFirst : Type 0
@@ -48,4 +48,4 @@ run_of s steps room = record {
 -- the answers at the buffer's front: "bytes past them stay". A refused call leaves the buffer as it came.
 unfoldable pub answers_after : Section → List ℕ → List ℕ → List ℕ
 answers_after s steps buffer =
-    if_done (outcome_of s steps (length buffer)) (written buffer 0 (entries_of Answers s steps (step_count steps))) buffer
+    if_done (outcome_of s steps (length buffer)) (written buffer 0 (entries_of answers s steps (step_count steps))) buffer

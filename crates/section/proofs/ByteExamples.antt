@@ -4,21 +4,21 @@ use Prim.Native.Nat.{ℕ}
 use mathlib.Core.Bool.{Bool, true, false}
 use mathlib.Core.Path.{◌≡◌, refl}
 use mathlib.Core.List.{List, [], ◌∷◌, map}
+use Rattle.std.specs.Prelude.{Ok, Err, Some, Option}
+use Rattle.section.specs.declared.Refusal.TheVariants.{CautionFormNeeded, Malformed}
 use Rattle.section.specs.declared.Act.TheVariants as act
-use Rattle.section.specs.declared.Decoded.{Decoded}
-use Rattle.section.specs.declared.Decoded.TheVariants.{Well}
 use Rattle.section.specs.declared.Fault.TheVariants.{One, Two, Three, Four}
 use Rattle.section.specs.declared.Said.TheVariants.{Nothing, Cvt, Cvtz, Vns, Vnsz}
 use Rattle.section.specs.declared.Step.{Step}
 use Rattle.section.specs.declared.Step.TheVariants.{Order, Set, Announce, Acknowledge, Start, Pass, Leave}
 use Rattle.section.specs.declared.Step.TheVariants.{MeasuresOn, MeasuresOff, FaultOn, FaultOff, Release, Key, Caution}
 use Rattle.section.specs.declared.TrackStep.{TrackStep}
-use Rattle.section.specs.declared.Verdict.TheVariants.{Accepted, Refused}
 use Rattle.section.specs.declared.Walk.TheVariants.{Settled, Turn}
 use Rattle.section.specs.Bytes.{le16, within}
 use Rattle.section.specs.Crossings.{no_crossings, is_used, crossing_block, lacks_zones, lies_in, has_crossings}
 use Rattle.section.specs.Step.{fault_well_formed, number_well_formed, track_well_formed, place_well_formed, fields_well_formed, well_formed}
 use Rattle.section.specs.Step.{fault_of, step_of, step_said, decoded, fault_number, bytes_of, encoded, is_train_kind}
+use Rattle.section.specs.Refusal.{figure}
 use Rattle.section.specs.Words.{refusal_of, said_by, said_number, said_numbered, letter}
 use Rattle.section.proofs.Rows.{◌gives◌, Holds}
 
@@ -65,11 +65,11 @@ kinds =
     ∷ []
 
 -- what the bytes of a step say on a line of six posts, by computation
-unfoldable pub read : List ℕ → Decoded
+unfoldable pub read : List ℕ → Option TrackStep
 unfolding decoded well_formed fields_well_formed place_well_formed track_well_formed number_well_formed fault_well_formed step_said step_of fault_of le16 within
 read bytes = decoded 6 bytes
 
-pub kinds_read : map (λ (r : StepBytes). read r.bytes) kinds ≡ map (λ (r : StepBytes). Well r.step) kinds
+pub kinds_read : map (λ (r : StepBytes). read r.bytes) kinds ≡ map (λ (r : StepBytes). Some r.step) kinds
 unfolding read
 kinds_read = refl
 
@@ -199,16 +199,16 @@ numbers_said = refl
 
 pub answers :
     Holds
-    ((refusal_of (Accepted Nothing) gives 0)
-    ∷ (refusal_of (Accepted Vnsz) gives 0)
-    ∷ (refusal_of (Refused 4) gives 4)
-    ∷ (refusal_of (Refused 22) gives 22)
-    ∷ (said_number (said_by (Accepted Nothing)) gives 0)
-    ∷ (said_number (said_by (Accepted Cvt)) gives 1)
-    ∷ (said_number (said_by (Accepted Vnsz)) gives 4)
-    ∷ (said_number (said_by (Refused 22)) gives 0)
+    ((refusal_of (Ok Nothing) gives 0)
+    ∷ (refusal_of (Ok Vnsz) gives 0)
+    ∷ (refusal_of (Err Malformed) gives 4)
+    ∷ (refusal_of (Err CautionFormNeeded) gives 22)
+    ∷ (said_number (said_by (Ok Nothing)) gives 0)
+    ∷ (said_number (said_by (Ok Cvt)) gives 1)
+    ∷ (said_number (said_by (Ok Vnsz)) gives 4)
+    ∷ (said_number (said_by (Err CautionFormNeeded)) gives 0)
     ∷ [])
-unfolding refusal_of said_by said_number
+unfolding refusal_of said_by said_number figure
 answers = refl
 
 -- "V or C settled; c or v, reversing to CVT or VNS": the codes of V, C, c, v

@@ -1,6 +1,6 @@
 -- Decoding and encoding a step are inverse to each other. A step's fields pass the tests that its bytes are put to, and give the step back; the
 -- step that bytes say has the fields of these bytes, which are in their ranges.
-use Prim.Native.Nat.{ℕ, ◌<◌, ◌/◌, ◌%◌}
+use Prim.Native.Nat.{ℕ, ◌<◌}
 use mathlib.Core.Path.{◌≡◌, refl, sym, ◌∙◌, ap}
 use mathlib.Core.Bool.{Bool, true, false, ◌&&◌}
 use mathlib.Core.List.{List}
@@ -9,8 +9,8 @@ use lib.ListN.{length}
 use lib.Seq.{ext_get_or}
 use lib.Dec.{eqb, ltb}
 use borrow.Author.Tests.{lt-ltb, ltb-true}
+use Rattle.std.specs.Prelude.{Some, None}
 use Rattle.section.specs.declared.TrackStep.{TrackStep}
-use Rattle.section.specs.declared.Decoded.TheVariants.{Well, Malformed}
 use Rattle.section.specs.Bytes.{byte, le16, AllBytes, truth_number}
 use Rattle.section.specs.Numbers.{step_length}
 use Rattle.section.specs.RoundTrip.{DecodesWhatIsEncoded, EncodesInEightBytes, EncodesWhatIsDecoded, DecodesOnlyWhatFits}
@@ -58,7 +58,7 @@ unfolding well_formed encoded bytes_of
 encoded_well n x h = rw (le16_back (fields_of x.step).number, le16_zero) (own_fit n x h)
 
 pub decodes_what_is_encoded : DecodesWhatIsEncoded
-decodes_what_is_encoded n x h = well_said n (encoded x) (encoded_well n x h) ∙ ap Well (same_step x)
+decodes_what_is_encoded n x h = well_said n (encoded x) (encoded_well n x h) ∙ ap Some (same_step x)
 
 pub encodes_in_eight_bytes : EncodesInEightBytes
 unfolding encoded bytes_of
@@ -76,13 +76,13 @@ encodes_in_eight_bytes n x m h =
 
 -- ## From bytes to their step and back
 
-module _ (n : ℕ) (s : List ℕ) (x : TrackStep) (d : decoded n s ≡ Well x) where
+module _ (n : ℕ) (s : List ℕ) (x : TrackStep) (d : decoded n s ≡ Some x) where
   well : well_formed n s ≡ true
   well = go (well_formed n s) refl
     where
       go : (b : Bool) → well_formed n s ≡ b → b ≡ true
       go true e = refl
-      go false e = let said : Malformed ≡ Well x = sym (malformed n s e) ∙ d in let z : ◌≡◌ {A = ℕ} 0 1 = cc in absurd (omega arith)
+      go false e = let said : None ≡ Some x = sym (malformed n s e) ∙ d in let z : ◌≡◌ {A = ℕ} 0 1 = cc in absurd (omega arith)
 
   is_said : x ≡ step_said s
   is_said = cc (d, well_said n s well)

@@ -1,44 +1,14 @@
--- Items one after another. A loop fills an array of n places with them: `Filled` is its invariant. Every item stands at its place.
-use Prim.Native.Nat.{ℕ, zero, suc, ◌+◌, ◌<◌, ◌≤◌}
+-- Items one after another: every item stands at its place.
+use Prim.Native.Nat.{ℕ, zero, suc, ◌<◌, ◌≤◌}
 use mathlib.Core.List.{List, [], ◌∷◌, ◌++◌}
-use mathlib.Core.Path.{◌≡◌, refl, sym, ◌∙◌}
+use mathlib.Core.Path.{◌≡◌, refl, ◌∙◌}
 use native.Mathlib.Decide.{dec_lt}
 use native.Mathlib.Nat.{not-suc-le-zero}
 use native.Mathlib.Numerals.{add-one}
 use native.Mathlib.Omega.{arith}
-use lib.ListN.{length, take, set, get_or, length-append, length-set, get_or-append}
-use lib.Seq.{take-suc, take-suc-set, take_all, get_or_at}
+use lib.ListN.{length, take, get_or, length-append, get_or-append}
+use lib.Seq.{take-suc, get_or_at}
 use Rattle.section.specs.Items.{items}
-
-module _ {A : Type 0} (item : ℕ → A) where
-  -- an array whose first i elements are items, item i put there
-  pub filled_more :
-      (l : List A) (i : ℕ) (x : A) → i < length l → take i l ≡ items item i → x ≡ item i → take (i + 1) (set l i x) ≡ items item (i + 1)
-  unfolding items
-  filled_more l i x h e ex = rw (add-one i, take-suc-set l i x h, e, ex)
-
--- the first i of the n places
-pub record Filled {A : Type 0} (item : ℕ → A) (n : ℕ) (l : List A) (i : ℕ) : Type 0 where
-  pub few : i ≤ n
-  pub long : length l ≡ n
-  pub so_far : take i l ≡ items item i
-
-module _ {A : Type 0} {item : ℕ → A} {n : ℕ} where
-  pub none_filled : {l : List A} → length l ≡ n → Filled item n l 0
-  unfolding items
-  none_filled e = record { few = omega arith; long = e; so_far = refl }
-
-  pub one_more : {l : List A} {i : ℕ} {x : A} → Filled item n l i → i < n → x ≡ item i → Filled item n (set l i x) (i + 1)
-  one_more {l} {i} {x} f h e = record {
-    few = omega arith;
-    long = length-set l i x ∙ f.long;
-    so_far = filled_more item l i x (omega arith) f.so_far e;
-  }
-
-  pub all_filled : {l : List A} {i : ℕ} → Filled item n l i → n ≤ i → l ≡ items item n
-  all_filled {l} {i} f h =
-      let e : i ≡ n = omega arith in
-      sym (take_all n l (omega arith)) ∙ (rw e at f.so_far)
 
 module _ {A : Type 0} (item : ℕ → A) where
   pub same_items : (other : ℕ → A) (m : ℕ) → ((i : ℕ) → i < m → item i ≡ other i) → items item m ≡ items other m

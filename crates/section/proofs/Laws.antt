@@ -3,7 +3,7 @@
 use Prim.Native.Nat.{ℕ, zero, suc, ◌-◌, ◌≤◌, ◌<◌}
 use mathlib.Core.Bool.{Bool, true, false, cond, ◌&&◌, and-eq-true_iff}
 use mathlib.Core.List.{List, [], ◌∷◌}
-use mathlib.Core.Path.{◌≡◌, refl, sym, ap, ◌∙◌}
+use mathlib.Core.Path.{◌≡◌, refl, sym, ◌∙◌}
 use native.Mathlib.Nat.{not-suc-le-zero}
 use native.Mathlib.Numerals.{add-one}
 use native.Mathlib.Omega.{arith}
@@ -26,7 +26,6 @@ use Rattle.section.specs.Post.{blank, permitted}
 use Rattle.section.specs.Range.{post_in_range, posts_in_range, numbers_in_range, act_in_range, walk_in_range, track_in_range, in_range}
 use Rattle.section.specs.Settings.{settings_in_range}
 use Rattle.section.specs.Store.{track_of}
-use Rattle.section.proofs.Tests.{stops, goes_on}
 
 -- ## Ranks and block sections
 
@@ -101,17 +100,6 @@ module _ (l : List Post) where
   unfolding posts_in_range post_test
   posts_all m h = all post_test (λ (j : ℕ). posts_in_range j l) refl (λ j. refl) m h
 
-  pub posts_stop : (m p : ℕ) → p < m → post_in_range (get_or l p blank) ≡ false → posts_in_range m l ≡ false
-  posts_stop m p hp over = go (posts_in_range m l) refl
-    where
-      go : (b : Bool) → posts_in_range m l ≡ b → b ≡ false
-      go true e = let z : true ≡ false = sym (posts_each m e p hp) ∙ over in let y : ◌≡◌ {A = ℕ} 0 1 = cc in absurd (omega arith)
-      go false e = refl
-
-  pub posts_go_on : (i : ℕ) → 0 < i → post_in_range (get_or l (i - 1) blank) ≡ true → posts_in_range i l ≡ posts_in_range (i - 1) l
-  unfolding posts_in_range post_test
-  posts_go_on i h k = goes_on post_test (λ (j : ℕ). posts_in_range j l) (λ j. refl) i h k
-
 -- what the range of a post's record says, both ways
 module _ (o : Post) where
   pub seals_right : post_in_range o ≡ true → o.seals ≤ most_seals
@@ -140,12 +128,6 @@ module _ (l : List ℕ) where
 
 -- ## The cells of a track
 
-swap_middle : (a b c d : Bool) → ((a && b) && (c && d)) ≡ ((a && c) && (b && d))
-swap_middle true true c d = refl
-swap_middle true false true d = refl
-swap_middle true false false d = refl
-swap_middle false b c d = refl
-
 module _ (t : Track) where
   -- post i and the block section beside it
   abbrev pub cell_test : ℕ → Bool
@@ -153,21 +135,6 @@ module _ (t : Track) where
 
   abbrev pub cells : ℕ → Bool
   cells m = posts_in_range m t.posts && (numbers_in_range m t.trains && numbers_in_range m t.last)
-
-  cells_more : (m : ℕ) → cells (suc m) ≡ (cell_test m && cells m)
-  unfolding posts_in_range numbers_in_range
-  cells_more m =
-      let post = post_in_range (get_or t.posts m blank) in
-      let train = leb (get_or t.trains m 0) largest_train in
-      let last = leb (get_or t.last m 0) largest_train in
-      ap (λ (x : Bool). (post && posts_in_range m t.posts) && x) (swap_middle train (numbers_in_range m t.trains) last (numbers_in_range m t.last))
-      ∙ swap_middle post (posts_in_range m t.posts) (train && last) (numbers_in_range m t.trains && numbers_in_range m t.last)
-
-  pub cells_stop : (i : ℕ) → 0 < i → cell_test (i - 1) ≡ false → cells i ≡ false
-  cells_stop = stops cell_test cells cells_more
-
-  pub cells_go_on : (i : ℕ) → 0 < i → cell_test (i - 1) ≡ true → cells i ≡ cells (i - 1)
-  cells_go_on = goes_on cell_test cells cells_more
 
 -- ## What the ranges say
 

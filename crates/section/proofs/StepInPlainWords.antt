@@ -6,8 +6,7 @@ use mathlib.Core.Bool.{Bool, true, false, ◌&&◌}
 use native.Mathlib.Omega.{arith}
 use lib.Dec.{ltb, leb}
 use borrow.Author.Tests.{ltb-true, leb-true}
-use Rattle.section.specs.declared.Decoded.{Decoded}
-use Rattle.section.specs.declared.Decoded.TheVariants.{Well, Malformed}
+use Rattle.std.specs.Prelude.{Some, None, Option}
 use Rattle.section.specs.declared.Fault.TheVariants.{Four}
 use Rattle.section.specs.declared.Step.{Step}
 use Rattle.section.specs.declared.Step.TheVariants.{Order, Start, FaultOn, Release, Caution}
@@ -20,10 +19,10 @@ use Rattle.section.specs.StepInPlainWords.{StepInPlainWords}
 use Rattle.section.proofs.Laws.{and_left, and_right}
 use Rattle.section.proofs.Codec.{decodes_what_is_encoded, encodes_in_eight_bytes, encodes_what_is_decoded, decodes_only_what_fits}
 
-same_well : (x y : TrackStep) → Well x ≡ Well y → x ≡ y
+same_well : (x y : TrackStep) → Some x ≡ Some y → x ≡ y
 same_well x y e = cc
 
-not_both : (o : Decoded) (x : TrackStep) → o ≡ Well x → o ≡ Malformed → ⊥
+not_both : (o : Option TrackStep) (x : TrackStep) → o ≡ Some x → o ≡ None → ⊥
 not_both o x e f = let z : ◌≡◌ {A = ℕ} 0 1 = cc in omega arith
 
 -- a step in its ranges: its post, and the number of a start

@@ -8,12 +8,12 @@ use native.Mathlib.Omega.{arith}
 use lib.ListN.{length}
 use lib.Dec.{eqb, ltb, leb}
 use borrow.Author.Tests.{eqb-true, ltb-true, leb-true}
+use Rattle.std.specs.Prelude.{Some, None}
 use Rattle.section.specs.declared.Fault.{Fault}
 use Rattle.section.specs.declared.Fault.TheVariants.{One, Two, Three, Four}
 use Rattle.section.specs.declared.Step.{Step}
 use Rattle.section.specs.declared.Step.TheVariants.{Order, Set, Announce, Acknowledge, Start, Pass, Leave}
 use Rattle.section.specs.declared.Step.TheVariants.{MeasuresOn, MeasuresOff, FaultOn, FaultOff, Release, Key, Caution}
-use Rattle.section.specs.declared.Decoded.TheVariants.{Well, Malformed}
 use Rattle.section.specs.Bytes.{byte, le16, within, AllBytes, truth_number}
 use Rattle.section.specs.Numbers.{largest_train, step_length, last_fault, last_kind, release_kind, caution_kind}
 use Rattle.section.specs.Step.{is_kind, is_train_kind, is_fault_kind, is_fault, is_train_number, track_well_formed}
@@ -21,13 +21,13 @@ use Rattle.section.specs.Step.{Fields, fields, fields_in, fault_well_formed, num
 use Rattle.section.specs.Step.{fault_of, step_of, step_said, decoded, fault_number, fields_of}
 use Rattle.section.proofs.Laws.{and_left, and_right}
 
--- ## Well-formed bytes
+-- ## Some-formed bytes
 
-pub malformed : (n : ℕ) (s : List ℕ) → well_formed n s ≡ false → decoded n s ≡ Malformed
+pub malformed : (n : ℕ) (s : List ℕ) → well_formed n s ≡ false → decoded n s ≡ None
 unfolding decoded
 malformed n s e = rw e
 
-pub well_said : (n : ℕ) (s : List ℕ) → well_formed n s ≡ true → decoded n s ≡ Well (step_said s)
+pub well_said : (n : ℕ) (s : List ℕ) → well_formed n s ≡ true → decoded n s ≡ Some (step_said s)
 unfolding decoded
 well_said n s e = rw e
 
@@ -162,7 +162,7 @@ pub truth_same : (b : Bool) → eqb (truth_number b) 1 ≡ b
 truth_same true = refl
 truth_same false = refl
 
--- ## Well-formed fields are small
+-- ## Some-formed fields are small
 
 -- a well-formed number is none or a train's
 pub number_small : (kind number : ℕ) → number_well_formed kind number ≡ true → number ≤ largest_train

@@ -1,5 +1,5 @@
 -- A step in its eight bytes (document 01, "The day file"; document 02, request 1).
-use Rattle.std.specs.Prelude.{ℕ, ◌/◌, ◌%◌, Bool, cond, ◌&&◌, ◌||◌, List, [], ◌∷◌, length, eqb, ltb, leb}
+use Rattle.std.specs.Prelude.{ℕ, ◌/◌, ◌%◌, Bool, cond, ◌&&◌, ◌||◌, List, [], ◌∷◌, length, eqb, ltb, leb, Option, Some, None}
 use Rattle.std.specs.Bool.{beq}
 use Rattle.section.specs.declared.Fault.{Fault}
 use Rattle.section.specs.declared.Fault.TheVariants.{One, Two, Three, Four}
@@ -7,8 +7,6 @@ use Rattle.section.specs.declared.Step.{Step}
 use Rattle.section.specs.declared.Step.TheVariants.{Order, Set, Announce, Acknowledge, Start, Pass, Leave}
 use Rattle.section.specs.declared.Step.TheVariants.{MeasuresOn, MeasuresOff, FaultOn, FaultOff, Release, Key, Caution}
 use Rattle.section.specs.declared.TrackStep.{TrackStep}
-use Rattle.section.specs.declared.Decoded.{Decoded}
-use Rattle.section.specs.declared.Decoded.TheVariants.{Well, Malformed}
 use Rattle.section.specs.Bytes.{byte, le16, within, truth_number}
 use Rattle.section.specs.Numbers.{largest_train, step_length, last_fault, last_kind}
 use Rattle.section.specs.Numbers.{order_kind, set_kind, announce_kind, acknowledge_kind, start_kind, pass_kind, leave_kind}
@@ -109,9 +107,9 @@ step_of f =
 unfoldable pub step_said : List ℕ → TrackStep
 step_said s = record { track = eqb (byte s 1) 1; step = step_of (fields_in s) }
 
--- what the bytes s say on a line of n posts
-unfoldable pub decoded : ℕ → List ℕ → Decoded
-decoded n s = cond (well_formed n s) (Well (step_said s)) Malformed
+-- what the bytes s say on a line of n posts; none where they are malformed
+unfoldable pub decoded : ℕ → List ℕ → Option TrackStep
+decoded n s = cond (well_formed n s) (Some (step_said s)) None
 
 -- ## The fields of a step, and its bytes
 

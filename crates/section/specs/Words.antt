@@ -1,23 +1,22 @@
 -- A number for each case of an answer: the paper's refusal, and for what is said the number that notes and C functions give. A letter for
 -- what a track does.
-use Rattle.std.specs.Prelude.{ℕ, Bool, cond, eqb}
+use Rattle.std.specs.Prelude.{ℕ, Bool, cond, eqb, Ok, Err}
 use Prim.Native.Char.{code}
 use Rattle.section.specs.declared.Said.{Said}
 use Rattle.section.specs.declared.Said.TheVariants.{Nothing, Cvt, Cvtz, Vns, Vnsz}
 use Rattle.section.specs.declared.Track.{Track}
-use Rattle.section.specs.declared.Verdict.{Verdict}
-use Rattle.section.specs.declared.Verdict.TheVariants.{Accepted, Refused}
 use Rattle.section.specs.declared.Walk.{Walk}
 use Rattle.section.specs.declared.Walk.TheVariants.{Settled, Turn}
+use Rattle.section.specs.Refusal.{Verdict, figure}
 
 -- 0, or the refusal
 unfoldable pub refusal_of : Verdict → ℕ
-refusal_of (Accepted w) = 0
-refusal_of (Refused k) = k
+refusal_of (Ok w) = 0
+refusal_of (Err refusal) = figure refusal
 
 unfoldable pub said_by : Verdict → Said
-said_by (Accepted w) = w
-said_by (Refused k) = Nothing
+said_by (Ok w) = w
+said_by (Err refusal) = Nothing
 
 -- 0 nothing, 1 CVT, 2 CVTz, 3 VNS, 4 VNSz
 unfoldable pub said_number : Said → ℕ

@@ -8,13 +8,7 @@ use crate::{MOST_BLOCKS, MOST_POSTS, Section, Settings, Track, Walk, blank};
 fn fresh_start(n: u8, track: bool) -> u8
     ensures { result ≡ cond track (n - 1) 0 }
 {
-    if !track {
-        return 0;
-    }
-    if n == 0 {
-        return 0;
-    }
-    n - 1
+    if track { n.saturating_sub(1) } else { 0 }
 }
 
 fn fresh_track(n: u8, track: bool) -> Track
@@ -27,7 +21,7 @@ fn fresh_track(n: u8, track: bool) -> Track
         posts[i] = blank().permitted(true);
     }
     Track {
-        posts: posts,
+        posts,
         trains: [0; MOST_BLOCKS],
         last: [0; MOST_BLOCKS],
         cvt: false,

@@ -1,4 +1,4 @@
-// The kinds of steps, as byte 0 holds them: numbered from 1 on.
+// The kinds of steps, as byte 0 holds them: numbered from 1 on. Numbers, since they are bytes of a file; `Step` is the enum of what they say.
 
 pub const ORDER: u8 = 1;
 

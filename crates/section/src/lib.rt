@@ -7,11 +7,13 @@ pub mod kinds;
 mod little_endian;
 pub mod positions;
 mod post_record;
+mod refusals;
 pub mod words;
 
 pub use fresh_section::fresh;
 pub use little_endian::{le16_of, truth_number};
 pub use post_record::blank;
+pub use refusals::check;
 
 pub const LEAST_POSTS: u8 = 2;
 
@@ -44,6 +46,7 @@ pub const NO_ZONES: u8 = 128;
 pub type Crossings = [u8; MOST_CROSSINGS];
 
 // What a line is: n posts, the form (0 telephone, 1 materialised), the mask of signalled posts, the line number, the level crossings.
+// The form is a number, since settings out of their ranges are values too, which refusals 3 and 6 are for.
 #[derive(Clone, Copy)]
 pub struct Settings {
     pub posts: u8,
@@ -55,7 +58,7 @@ pub struct Settings {
 
 // One: the section control reads occupied. Two: the device stays locked. Three: the CIRCULATION lamp is dark. Four: the announcing zones of
 // the crossings ahead did not adapt.
-#[derive(Clone, Copy)]
+#[derive(Clone, Copy, PartialEq, Eq)]
 pub enum Fault {
     One,
     Two,
@@ -89,15 +92,8 @@ pub struct TrackStep {
     pub step: Step,
 }
 
-// What eight bytes say.
-#[derive(Clone, Copy)]
-pub enum Decoded {
-    Well(TrackStep),
-    Malformed,
-}
-
 // Which faults stand at a post.
-#[derive(Clone, Copy)]
+#[derive(Clone, Copy, Default)]
 pub struct Faults {
     pub one: bool,
     pub two: bool,
@@ -106,7 +102,7 @@ pub struct Faults {
 }
 
 // What a post keeps on one track. `device`: its device stands at CVT. `caution`: the train for which a caution form lies there, 0 for none.
-#[derive(Clone, Copy)]
+#[derive(Clone, Copy, Default)]
 pub struct Post {
     pub device: bool,
     pub permission: bool,
@@ -118,15 +114,15 @@ pub struct Post {
 }
 
 // What the turn's post is to do next.
-#[derive(Clone, Copy)]
+#[derive(Clone, Copy, PartialEq, Eq)]
 pub enum Act {
     Set,
     Announce,
     Acknowledge,
 }
 
-// No reversal is under way, or it is a post's turn for its act.
-#[derive(Clone, Copy)]
+// No reversal is under way, or it is a post's turn for its act. Not an Option: `Settled` is the paper's word, and a None would say that something lacks.
+#[derive(Clone, Copy, PartialEq, Eq)]
 pub enum Walk {
     Settled,
     Turn(u8, Act),
@@ -156,7 +152,7 @@ pub struct Section {
 }
 
 // What a step says.
-#[derive(Clone, Copy)]
+#[derive(Clone, Copy, PartialEq, Eq)]
 pub enum Said {
     Nothing,
     Cvt,
@@ -165,19 +161,41 @@ pub enum Said {
     Vnsz,
 }
 
-#[derive(Clone, Copy)]
-pub enum Verdict {
-    Accepted(Said),
-    Refused(u8),
+// Why a step is refused, in the order of the paper's figures: 4, 6, 11 to 22.
+#[derive(Clone, Copy, PartialEq, Eq)]
+pub enum Refusal {
+    Malformed,
+    OutOfRange,
+    ReversalUnderWay,
+    NoSuchPart,
+    Occupied,
+    OtherNotOnVns,
+    NotItsTurn,
+    MeasuresNeeded,
+    WrongTrain,
+    FaultWithoutMark,
+    DeviceLocked,
+    SealsUsedUp,
+    AlreadySo,
+    CautionFormNeeded,
 }
 
-// The outcome of a call: done, with how much (steps read or taken, bytes written or copied); the index of the first malformed step; another refusal.
-#[derive(Clone, Copy)]
-pub enum Outcome {
-    Done(usize),
-    Malformed(usize),
-    Refused(u8),
+// What an accepted step says, or why it is refused.
+pub type Verdict = Result<Said, Refusal>;
+
+// Why a call over a file, a buffer or a run of steps is refused, in the order of the paper's figures: 1 to 6. A malformed step comes with its index.
+#[derive(Clone, Copy, PartialEq, Eq)]
+pub enum CallRefusal {
+    WrongLength,
+    WrongTrailer,
+    WrongSettings,
+    MalformedStep(usize),
+    NoRoom,
+    StateOutOfRange,
 }
+
+// How much is done (steps read or taken, bytes written or copied), or why the call is refused.
+pub type Outcome = Result<usize, CallRefusal>;
 
 // What the engine answers, and the section after the step.
 #[derive(Clone, Copy)]
@@ -186,7 +204,7 @@ pub struct Answer {
     pub section: Section,
 }
 
-// What a post shows on a track, in the paper's numbers.
+// What a post shows on a track, in the paper's numbers: the lamp table, the panel and the C calls give these numbers and no words.
 #[derive(Clone, Copy)]
 pub struct Indications {
     pub circulation: u8,

@@ -1,4 +1,5 @@
-// Positions on a track, and which posts are signalled.
+// Positions on a track, and which posts are signalled. n, the way and the post are parameters and no struct: the definitions take them one by one, so
+// that a struct would be no plainer.
 ghost use Rattle.std.specs.Prelude.{◌≡◌, ◌+◌, ◌<◌};
 ghost use Rattle.section.specs.Numbers.{most_posts};
 ghost use Rattle.section.specs.Geometry.{upward, rank, block, is_first, is_last};

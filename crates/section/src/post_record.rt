@@ -7,101 +7,87 @@ use crate::{Fault, Faults, Post};
 
 impl Faults {
     // The fault stands, or else is gone.
-    fn with_fault(mut self, f: Fault, x: bool) -> Faults
+    fn with_fault(self, f: Fault, x: bool) -> Faults
         ensures { result ≡ with_fault f x self }
     {
         match f {
-            Fault::One => {
-                self.one = x;
-            }
-            Fault::Two => {
-                self.two = x;
-            }
-            Fault::Three => {
-                self.three = x;
-            }
-            Fault::Four => {
-                self.four = x;
-            }
+            Fault::One => Faults { one: x, ..self },
+            Fault::Two => Faults { two: x, ..self },
+            Fault::Three => Faults { three: x, ..self },
+            Fault::Four => Faults { four: x, ..self },
         }
-        self
     }
 }
 
 pub fn blank() -> Post
     ensures { result ≡ blank }
 {
-    let faults = Faults {
-        one: false,
-        two: false,
-        three: false,
-        four: false,
-    };
-    Post {
-        device: false,
-        permission: false,
-        measures: false,
-        faults: faults,
-        mark: false,
-        seals: 0,
-        caution: 0,
-    }
+    Post::default()
 }
 
 impl Post {
     // The device turned to CVT, or else to VNS.
-    pub fn turned(mut self, cvt: bool) -> Post
+    pub fn turned(self, cvt: bool) -> Post
         ensures { result ≡ turned cvt self }
     {
-        self.device = cvt;
-        self
+        Post {
+            device: cvt,
+            ..self
+        }
     }
 
-    pub fn permitted(mut self, x: bool) -> Post
+    pub fn permitted(self, x: bool) -> Post
         ensures { result ≡ permitted x self }
     {
-        self.permission = x;
-        self
+        Post {
+            permission: x,
+            ..self
+        }
     }
 
-    pub fn measured(mut self, x: bool) -> Post
+    pub fn measured(self, x: bool) -> Post
         ensures { result ≡ measured x self }
     {
-        self.measures = x;
-        self
+        Post {
+            measures: x,
+            ..self
+        }
     }
 
-    pub fn faulty(mut self, f: Fault, x: bool) -> Post
+    pub fn faulty(self, f: Fault, x: bool) -> Post
         ensures { result ≡ faulty f x self }
     {
-        let before = self.faults;
-        let faults = before.with_fault(f, x);
-        self.faults = faults;
-        self
+        Post {
+            faults: self.faults.with_fault(f, x),
+            ..self
+        }
     }
 
-    pub fn marked(mut self, x: bool) -> Post
+    pub fn marked(self, x: bool) -> Post
         ensures { result ≡ marked x self }
     {
-        self.mark = x;
-        self
+        Post { mark: x, ..self }
     }
 
     // One seal more. The callers have tested that the count is not the largest.
-    pub fn sealed(mut self) -> Post
+    pub fn sealed(self) -> Post
         requires { self.seals < most_seals }
         ensures { result ≡ sealed self }
     {
-        self.seals = self.seals + 1;
-        self
+        Post {
+            seals: self.seals + 1,
+            ..self
+        }
     }
 
     // The caution form for that train, instead of any other; 0: none.
-    pub fn cautioned(mut self, number: u16) -> Post
+    pub fn cautioned(self, number: u16) -> Post
         ensures { result ≡ cautioned number self }
     {
-        self.caution = number;
-        self
+        Post {
+            caution: number,
+            ..self
+        }
     }
 
     pub fn has_fault(self, f: Fault) -> bool

@@ -1,8 +1,24 @@
-// The numbers and letters of an answer, as notes, lines and C functions give them.
+// The numbers and letters of an answer, as notes, lines and C functions give them, and the fault of a step's byte.
 ghost use Rattle.std.specs.Prelude.{◌≡◌};
+ghost use Rattle.section.specs.Step.{fault_of};
 ghost use Rattle.section.specs.Words.{refusal_of, said_by, said_number, said_numbered, letter};
 
-use crate::{Said, Verdict, Walk};
+use crate::{Fault, Said, Verdict, Walk};
+
+// The fault that a step's byte names: 1 to 4.
+impl From<u8> for Fault {
+    ghost from_gives = { λ number fault. fault ≡ fault_of number };
+
+    #[tactic(auto, unfolding(crate::specs::Step::fault_of))]
+    fn from(number: u8) -> Fault {
+        match number {
+            1 => Fault::One,
+            2 => Fault::Two,
+            3 => Fault::Three,
+            _ => Fault::Four,
+        }
+    }
+}
 
 // 0, or the refusal.
 #[tactic(auto, unfolding(crate::specs::Words::refusal_of))]
@@ -10,8 +26,8 @@ pub fn refusal_of(verdict: Verdict) -> u8
     ensures { result ≡ refusal_of verdict }
 {
     match verdict {
-        Verdict::Accepted(_) => 0,
-        Verdict::Refused(number) => number,
+        Ok(_) => 0,
+        Err(refusal) => u8::from(refusal),
     }
 }
 
@@ -20,35 +36,39 @@ pub fn said_by(verdict: Verdict) -> Said
     ensures { result ≡ said_by verdict }
 {
     match verdict {
-        Verdict::Accepted(said) => said,
-        Verdict::Refused(_) => Said::Nothing,
+        Ok(said) => said,
+        Err(_) => Said::Nothing,
     }
 }
 
-#[tactic(auto, unfolding(crate::specs::Words::said_number))]
-pub fn said_number(said: Said) -> u8
-    ensures { result ≡ said_number said }
-{
-    match said {
-        Said::Nothing => 0,
-        Said::Cvt => 1,
-        Said::Cvtz => 2,
-        Said::Vns => 3,
-        Said::Vnsz => 4,
+impl From<Said> for u8 {
+    ghost from_gives = { λ said number. number ≡ said_number said };
+
+    #[tactic(auto, unfolding(crate::specs::Words::said_number))]
+    fn from(said: Said) -> u8 {
+        match said {
+            Said::Nothing => 0,
+            Said::Cvt => 1,
+            Said::Cvtz => 2,
+            Said::Vns => 3,
+            Said::Vnsz => 4,
+        }
     }
 }
 
 // What a number stands for.
-#[tactic(auto, unfolding(crate::specs::Words::said_numbered))]
-pub fn said_numbered(number: u8) -> Said
-    ensures { result ≡ said_numbered number }
-{
-    match number {
-        1 => Said::Cvt,
-        2 => Said::Cvtz,
-        3 => Said::Vns,
-        4 => Said::Vnsz,
-        _ => Said::Nothing,
+impl From<u8> for Said {
+    ghost from_gives = { λ number said. said ≡ said_numbered number };
+
+    #[tactic(auto, unfolding(crate::specs::Words::said_numbered))]
+    fn from(number: u8) -> Said {
+        match number {
+            1 => Said::Cvt,
+            2 => Said::Cvtz,
+            3 => Said::Vns,
+            4 => Said::Vnsz,
+            _ => Said::Nothing,
+        }
     }
 }
 

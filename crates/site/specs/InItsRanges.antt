@@ -1,4 +1,5 @@
--- A site of a track in its ranges: what the code that looks at it may assume.
+-- A site of a track in its ranges: what the code that looks at it may assume. A clause, and no part of `site::place::Place`: there it would ask
+-- more of the callers of the functions that need only OnTheLine.
 use Rattle.std.specs.Prelude.{◌≤◌, true, ◌≡◌}
 use Rattle.rules.specs.declared.Line.{Line}
 use Rattle.section.specs.Numbers.{most_seals}

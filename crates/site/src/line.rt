@@ -5,6 +5,7 @@ ghost use Rattle.rules.specs.Line.{line_of, is_materialised};
 use rules::Line;
 use section::Settings;
 
+// No `From`: both types are of other crates, and `rules`, where it could stand, has no code.
 pub fn line_of(c: Settings) -> Line
     ensures { result ≡ line_of c }
 {
@@ -13,7 +14,7 @@ pub fn line_of(c: Settings) -> Line
         posts: c.posts,
         form: c.form,
         mask: c.mask,
-        crossings: crossings,
+        crossings,
     }
 }
 

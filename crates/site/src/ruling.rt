@@ -3,22 +3,18 @@ ghost use Rattle.std.specs.Prelude.{◌≡◌};
 ghost use Rattle.rules.specs.Table.{keeping};
 
 use rules::{Effect, Movement, Site};
-use section::{Post, Said};
+use section::{Post, Refusal, Said};
 
-#[derive(Clone, Copy)]
-pub enum Ruling {
-    Refused(u8),
-    Accepted(Effect),
-}
+// What the step does, or its refusal.
+pub type Ruling = Result<Effect, Refusal>;
 
 // A step that changes only its post's record.
 pub fn keeping(e: Site, own: Post) -> Effect
     ensures { result ≡ keeping e own }
 {
-    let walk = e.walk;
     Effect {
-        own: own,
-        walk: walk,
+        own,
+        walk: e.walk,
         cvt: e.cvt,
         train: Movement::Stays,
         said: Said::Nothing,

@@ -3,6 +3,7 @@ ghost use Rattle.std.specs.Prelude.{◌≡◌};
 ghost use Rattle.section.specs.Step.{post_of};
 ghost use Rattle.site.specs.Running.{running_of, on_vns, site_with};
 
+use crate::conditions::is_settled;
 use rules::Site;
 use section::{Post, Step, Track, TrackStep, Walk};
 
@@ -13,13 +14,13 @@ pub struct Running {
     pub walk: Walk,
 }
 
-pub fn running_of(t: Track) -> Running
-    ensures { result ≡ running_of t }
+// No `From`: it is no plainer, since `from_gives` and a clause would say the one equation of this contract twice.
+pub fn running_of(t: &Track) -> Running
+    ensures { result ≡ running_of t.now }
 {
-    let walk = t.walk;
     Running {
         cvt: t.cvt,
-        walk: walk,
+        walk: t.walk,
     }
 }
 
@@ -28,20 +29,20 @@ pub fn post_of(x: Step) -> u8
     ensures { result ≡ post_of x }
 {
     match x {
-        Step::Order { post } => post,
-        Step::Set { post } => post,
-        Step::Announce { post } => post,
-        Step::Acknowledge { post } => post,
-        Step::Start { post, number: _ } => post,
-        Step::Pass { post, number: _ } => post,
-        Step::Leave { post, number: _ } => post,
-        Step::MeasuresOn { post } => post,
-        Step::MeasuresOff { post } => post,
-        Step::FaultOn { post, fault: _ } => post,
-        Step::FaultOff { post, fault: _ } => post,
-        Step::Release { post, number: _ } => post,
-        Step::Key { post } => post,
-        Step::Caution { post, number: _ } => post,
+        Step::Order { post }
+        | Step::Set { post }
+        | Step::Announce { post }
+        | Step::Acknowledge { post }
+        | Step::Start { post, .. }
+        | Step::Pass { post, .. }
+        | Step::Leave { post, .. }
+        | Step::MeasuresOn { post }
+        | Step::MeasuresOff { post }
+        | Step::FaultOn { post, .. }
+        | Step::FaultOff { post, .. }
+        | Step::Release { post, .. }
+        | Step::Key { post }
+        | Step::Caution { post, .. } => post,
     }
 }
 
@@ -49,32 +50,25 @@ pub fn post_of(x: Step) -> u8
 pub fn place_of(x: TrackStep) -> usize
     ensures { result ≡ post_of x.step }
 {
-    let step = x.step;
-    post_of(step) as usize
+    post_of(x.step) as usize
 }
 
 // A track with that running direction and walk is settled on VNS.
 pub fn settled_on_vns(running: Running) -> bool
     ensures { result ≡ on_vns running }
 {
-    let cvt = running.cvt;
-    let walk = running.walk;
-    match walk {
-        Walk::Settled => !cvt,
-        Walk::Turn(_, _) => false,
-    }
+    is_settled(running.walk) && !running.cvt
 }
 
 // The site of a step at a post with that record, on a track that runs so.
 pub fn site(track: bool, post: u8, own: Post, running: Running) -> Site
     ensures { result ≡ site_with track post own running }
 {
-    let walk = running.walk;
     Site {
-        track: track,
-        post: post,
+        track,
+        post,
         cvt: running.cvt,
-        walk: walk,
-        own: own,
+        walk: running.walk,
+        own,
     }
 }

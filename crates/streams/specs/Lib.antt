@@ -1,1 +1,1 @@
-pub mod LiesIn
+pub mod Program

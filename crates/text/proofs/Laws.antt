@@ -1,14 +1,14 @@
 -- A text written at a place, and another after it: what is put after a text continues it (`then`), so texts put one after another are one text.
 -- A number is its digits but the last, then the last.
 use mathlib.Core.Path.{◌≡◌, refl, sym, ◌∙◌, ap}
-use mathlib.Core.List.{List, [], ◌∷◌, ◌++◌, append_assoc, append-nil}
+use mathlib.Core.List.{List, [], ◌∷◌, ◌++◌, append_assoc}
 use Prim.Native.Nat.{ℕ, zero, suc, ◌+◌, ◌-◌, ◌*◌, ◌/◌, ◌%◌, ◌≤◌, ◌<◌}
 use mathlib.Core.Bool.{Bool, true, false, cond}
 use native.Mathlib.Omega.{arith}
-use native.Mathlib.Nat.{zero-add, add_assoc, add-zero, mul-suc, add-sub_cancel_left, mod-eq_of_lt}
+use native.Mathlib.Nat.{zero-add, add_assoc, add-zero, mul-suc, add-sub_cancel_left}
 use native.Mathlib.Numerals.{add-one}
 use lib.ListN.{length, take, drop, set, take-append-drop, length-append, length-drop}
-use lib.Seq.{length-take-le, take-length, drop-length, take_at, drop-drop, set_split, drop-append-add}
+use lib.Seq.{length-take-le, take_at, drop-drop, set_split, drop-append-add}
 use lib.Dec.{ltb}
 use borrow.Author.Tests.{lt-ltb, le-ltb}
 use Rattle.text.specs.Text.{digit, decimal_digits, most_digits, decimal, written, first_texts}
@@ -24,27 +24,6 @@ unfolding written
 one_byte l at b h =
     let e : suc at ≡ at + 1 = omega arith in
     set_split l at b h ∙ ap (λ (k : ℕ). take at l ++ (b ∷ drop k l)) e
-
--- a text of the part's length fills the part
-filled : (s d : List ℕ) → length d ≡ length s → take (length s) s ++ drop (length s) d ≡ s
-filled s d e =
-    ap (λ (k : ℕ). take (length s) s ++ drop k d) (sym e)
-    ∙ ap (λ (l : List ℕ). take (length s) s ++ l) (drop-length d)
-    ∙ append-nil (take (length s) s)
-    ∙ take-length s
-
--- a text copied into a part of the buffer
-pub part_copied :
-    (l s part : List ℕ) (at : ℕ) → at + length s ≤ length l
-    → part ≡ take (length s) s ++ drop (length s) (take (at + length s - at) (drop at l))
-    → take at l ++ (part ++ drop (at + length s - at) (drop at l)) ≡ written l at s
-unfolding written
-part_copied l s part at h e =
-    let k : at + length s - at ≡ length s = add-sub_cancel_left at (length s) in
-    let n : length (take (at + length s - at) (drop at l)) ≡ length s =
-    rw k (length-take-le (length s) (drop at l) (simp length-drop (omega arith))) in
-    let p : part ≡ s = e ∙ filled s (take (at + length s - at) (drop at l)) n in
-    rw (p, k, drop-drop)
 
 -- a text that fills a part of the buffer
 pub part_filled :
@@ -161,34 +140,3 @@ digits_length (suc most) x = go (ltb x 10) (digits_length most (x / 10))
 pub decimal_length : (x : ℕ) → length (decimal x) ≤ most_digits
 unfolding decimal
 decimal_length x = digits_length most_digits x
-
--- a number written, by how many digits may be left
-
-pub put_nothing : (l : List ℕ) (at most x : ℕ) → most ≡ 0 → Putting l at (decimal_digits most x) at l
-unfolding decimal_digits
-put_nothing l at most x e = rw e (nothing_put l at)
-
-pub put_small :
-    (l : List ℕ) (at most x r : ℕ) (m : List ℕ) → 0 < most → x < 10 → r ≡ at + 1 → m ≡ written l at ((48 + x % 10) ∷ [])
-    → Putting l at (decimal_digits most x) r m
-put_small l at most x r m p h e w =
-    let k : x % 10 ≡ x = mod-eq_of_lt h in
-    rw (small most x p h) (e, w ∙ ap (λ (j : ℕ). written l at ((48 + j) ∷ [])) k)
-
-pub put_large :
-    (l : List ℕ) (at most x next r : ℕ) (m₁ m : List ℕ) → 0 < most → 10 ≤ x → at + most ≤ length l
-    → next ≡ at + length (decimal_digits (most - 1) (x / 10)) → m₁ ≡ written l at (decimal_digits (most - 1) (x / 10))
-    → r ≡ next + 1 → m ≡ written m₁ next ((48 + x % 10) ∷ []) → Putting l at (decimal_digits most x) r m
-put_large l at most x next r m₁ m p h room e₁ w₁ e w =
-    let n = digits_length (most - 1) (x / 10) in
-    rw (large most x p h)
-    (then l m₁ m at next r (decimal_digits (most - 1) (x / 10)) ((48 + x % 10) ∷ []) (omega arith) (e₁, w₁) (e, w))
-
--- there is room for the last digit
-pub room_for_digit :
-    (l m₁ : List ℕ) (at most x next : ℕ) → 0 < most → at + most ≤ length l → next ≡ at + length (decimal_digits (most - 1) (x / 10))
-    → m₁ ≡ written l at (decimal_digits (most - 1) (x / 10)) → next < length m₁
-room_for_digit l m₁ at most x next p room e w =
-    let n = digits_length (most - 1) (x / 10) in
-    let q : length m₁ ≡ length l = ap length w ∙ written_length l at (decimal_digits (most - 1) (x / 10)) (omega arith) in
-    omega arith

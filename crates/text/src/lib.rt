@@ -1,72 +1,89 @@
-// Text written into a lent buffer, from a place on.
+// Text written into a lent buffer.
 
 #![tactic(auto)]
 
-ghost use Rattle.std.specs.Prelude.{◌≡◌, [], ◌∷◌, ◌+◌, ◌<◌, ◌≤◌, length};
+ghost use Rattle.std.specs.Prelude.{◌≡◌, [], ◌∷◌, ◌+◌, ◌≤◌, length};
 ghost use Rattle.text.specs.Text.{decimal_digits, decimal, written};
+ghost use Rattle.text.specs.Put.{HasRoom, put};
 ghost use Rattle.text.specs.Copied.{copied, copied_out};
 
-use section::Outcome;
+use section::{CallRefusal, Outcome, check};
 
-// Writes a byte, and returns the next place.
-#[tactic(auto, using(crate::proofs::Laws::one_byte))]
-pub fn put_byte(buffer: &mut [u8], at: usize, byte: u8) -> usize
-    requires { at < length buffer.old }
-    ensures value { result ≡ at + 1 }
-    ensures buffer_after { buffer.new ≡ written buffer.old at (byte ∷ []) }
-{
-    buffer[at] = byte;
-    at + 1
+// A text in a lent buffer, from its front on. What is put makes it longer, and the bytes of the buffer behind it stay as they were.
+#[derive(Drop)]
+pub struct Text<'a> {
+    buffer: &'a mut [u8],
+    length: usize,
 }
 
-// Writes a text, and returns the next place.
-#[tactic(auto, using(crate::proofs::Laws::part_filled))]
-pub fn put_text(buffer: &mut [u8], at: usize, text: &[u8]) -> usize
-    requires { at + length text.now ≤ length buffer.old }
-    ensures value { result ≡ at + length text.now }
-    ensures buffer_after { buffer.new ≡ written buffer.old at text.now }
-{
-    let end = at + text.len();
-    buffer[at..end].copy_from_slice(text);
-    end
-}
-
-// Writes a number of at most so many digits, and returns the next place.
-#[tactic(auto, using(crate::proofs::Laws::room_for_digit))]
-fn put_digits(buffer: &mut [u8], at: usize, most: usize, x: usize) -> usize
-    requires { at + most ≤ length buffer.old }
-    ensures value { result ≡ at + length (decimal_digits most x) }
-    ensures buffer_after { buffer.new ≡ written buffer.old at (decimal_digits most x) }
-{
-    if most == 0 {
-        return at;
+impl<'a> Text<'a> {
+    // No text yet.
+    pub fn new(buffer: &'a mut [u8]) -> Text<'a>
+        ensures { result ≡ record { buffer = buffer.entry; length = 0 } }
+    {
+        Text { buffer, length: 0 }
     }
-    if x < 10 {
-        return put_byte(buffer, at, 48 + (x % 10) as u8);
-    }
-    let next = put_digits(buffer, at, most - 1, x / 10);
-    put_byte(buffer, next, 48 + (x % 10) as u8)
-}
 
-// Writes a number in decimal, and returns the next place.
-#[tactic(auto, unfolding(crate::specs::Text::decimal))]
-pub fn put_decimal(buffer: &mut [u8], at: usize, x: usize) -> usize
-    requires { at + 5 ≤ length buffer.old }
-    ensures value { result ≡ at + length (decimal x) }
-    ensures buffer_after { buffer.new ≡ written buffer.old at (decimal x) }
-{
-    put_digits(buffer, at, 5, x)
+    pub fn length(&self) -> usize
+        ensures { result ≡ self.now.length }
+    {
+        self.length
+    }
+
+    #[tactic(auto, using(crate::proofs::Laws::one_byte), unfolding(crate::specs::Put::put))]
+    pub fn put_byte(&mut self, byte: u8)
+        requires { HasRoom self.old 1 }
+        ensures { self.new ≡ put self.old (byte ∷ []) }
+    {
+        self.buffer[self.length] = byte;
+        self.length += 1;
+    }
+
+    #[tactic(auto, using(crate::proofs::Laws::part_filled), unfolding(crate::specs::Put::put))]
+    pub fn put_text(&mut self, text: &[u8])
+        requires { HasRoom self.old (length text.now) }
+        ensures { self.new ≡ put self.old text.now }
+    {
+        let end = self.length + text.len();
+        self.buffer[self.length..end].copy_from_slice(text);
+        self.length = end;
+    }
+
+    // Puts a number of at most so many digits.
+    #[tactic(auto, using(crate::proofs::Put::put_no_digits, crate::proofs::Put::put_twice, crate::proofs::Put::put_length, crate::proofs::Put::same_buffer, crate::proofs::Laws::small, crate::proofs::Laws::large, crate::proofs::Laws::digits_length))]
+    fn put_digits(&mut self, most: usize, x: usize)
+        requires { HasRoom self.old most }
+        ensures { self.new ≡ put self.old (decimal_digits most x) }
+    {
+        if most == 0 {
+            return;
+        }
+        if x < 10 {
+            self.put_byte(b'0' + x as u8);
+            return;
+        }
+        self.put_digits(most - 1, x / 10);
+        self.put_byte(b'0' + (x % 10) as u8);
+    }
+
+    // Puts a number in decimal, or the last five digits of a longer one, where std's `Display` and `itoa` write all of them.
+    #[tactic(auto, unfolding(crate::specs::Text::decimal))]
+    pub fn put_decimal(&mut self, x: usize)
+        requires { HasRoom self.old 5 }
+        ensures { self.new ≡ put self.old (decimal x) }
+    {
+        self.put_digits(5, x);
+    }
 }
 
 // Copies a text to the front of the buffer, if it is long enough: how many bytes it has, or 5.
-#[tactic(auto, using(crate::proofs::Laws::at_front), unfolding(crate::specs::Copied::copied, crate::specs::Copied::copied_out, section::specs::Outcome::if_done))]
+#[tactic(auto, using(crate::proofs::Laws::at_front), unfolding(crate::specs::Put::put, crate::specs::Copied::copied, crate::specs::Copied::copied_out, section::specs::Outcome::if_done))]
 pub fn copy_out(text: &[u8], buffer: &mut [u8]) -> Outcome
     ensures value { result ≡ copied text.now buffer.old }
     ensures buffer_after { buffer.new ≡ copied_out text.now buffer.old }
 {
-    if buffer.len() < text.len() {
-        return Outcome::Refused(5);
-    }
-    put_text(buffer, 0, text);
-    Outcome::Done(text.len())
+    check(text.len() <= buffer.len(), CallRefusal::NoRoom)?;
+    let mut copy = Text::new(buffer);
+    copy.put_text(text);
+    Ok(copy.length())
 }

@@ -11,4 +11,4 @@ pub returns-in_default : goal.returns-in_default
 returns-in_default c =
     let room-is = ap length c.panel_room-buffer.ensures ∙ length-replicate {A = ℕ} (room Panel most_steps) 0 in
     let fits = fits_the_panels_room c.args.sheet c.args.file.now in
-    absurd (never_refused _ _ _ c.print-copied.ensures.value (omega (arith, room-is, fits)) c.in_default.not-Done)
+    absurd (never_refused _ _ _ c.print-copied.ensures.value (omega (arith, room-is, fits)) c.in_default.not-Ok)

@@ -1,18 +1,16 @@
-use Rattle.std.proofs.Common.{arith}
+-- Arrays of three bytes, one for each post, are the lamps of the track.
+use Rattle.std.proofs.Common.{[], rules, ◌∙◌, ap}
 use Rattle.rules.specs.Indications.{dark}
-use Rattle.text.proofs.Laws.{one_more_put}
+use Rattle.image.proofs.Made.{mapped}
+use Rattle.text.specs.Put.{put}
 use Rattle.capi_preview.specs.Preview.{lamp_bytes}
-use Rattle.capi_preview.proofs.Lamps.{lamps_length_lem}
+use Rattle.capi_preview.proofs.Lamps.{track_flat}
 use Rattle.capi_preview.proofs.put_track.Goals as goal
 
-pub loop-p-preserved : goal.loop-p-preserved
-unfolding lamp_bytes dark
-loop-p-preserved c =
-    let put = c.put_text-next in
-    let n = lamps_length_lem c.args.shown c.loop-p.p in (
-      omega arith,
-      (
-        omega (arith, c.loop-p.invariant.1.0, put.auto),
-        one_more_put _ _ _ _ _ c.loop-p.p _ _ (omega (arith, n)) c.loop-p.invariant.1.1 (put.ensures.value, put.ensures.buffer_after),
-      ),
-    )
+pub returns : goal.returns
+returns c =
+    c.put_text.ensures
+    ∙ ap (put c.args.text.now)
+    (track_flat c.args.shown
+    (mapped _ (λ _. Unit {0}) lamp_bytes dark [] (λ p q x y k h. (search rules, tt)) c.args.shown c.map-lamps.result 16 _ tt c.map-lamps.ensures.items)
+    c.as_flattened.ensures.value)

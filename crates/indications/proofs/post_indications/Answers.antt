@@ -1,8 +1,14 @@
 use Rattle.site.proofs.running.Laws.{in_its_ranges}
 use Rattle.indications.proofs.post_indications.Goals as goal
 
+pub invariant_of-place : goal.invariant_of-place
+invariant_of-place c =
+    let a = c.args in
+    let there = in_its_ranges a.c a.track a.t a.post c.requires.0 c.requires.1 c.requires.2 in
+    record { on_the_line = rw (c.line_of.ensures, c.site.ensures, c.running_of.ensures) there.on_the_line }
+
 pub read_at-requires : goal.read_at-requires
 read_at-requires c =
     let a = c.args in
     let there = in_its_ranges a.c a.track a.t a.post c.requires.0 c.requires.1 c.requires.2 in
-    (c.table-table.ensures, rw (c.line_of.ensures, c.site-e.ensures, c.running_of.ensures) there)
+    (c.table.ensures, rw (c.line_of.ensures, c.site.ensures, c.running_of.ensures) there)

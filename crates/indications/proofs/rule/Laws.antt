@@ -1,23 +1,10 @@
--- TRONÇON by its tests, and an entry put together.
+-- An entry put together.
 use Prim.Native.Nat.{ℕ, ◌+◌, ◌*◌}
-use mathlib.Core.Bool.{Bool, true, false, not, cond, ◌&&◌, ◌||◌}
+use mathlib.Core.Bool.{Bool, cond, ◌&&◌, ◌||◌}
 use mathlib.Core.Path.{◌≡◌, refl}
-use borrow.Author.Tests.{not-true, not-false}
 use Rattle.section.specs.Bytes.{truth_number}
 use Rattle.rules.specs.Indications.{circulation, troncon}
 use Rattle.rules.specs.LampTable.{has_bit, lamps_of, entry_of, lamp_entry}
-
-pub no_part : (x f o : Bool) → not x ≡ true → ◌≡◌ {A = ℕ} 0 (cond x (cond (f || o) 2 1) 0)
-no_part x f o h = rw (not-true x h)
-
-pub red_by_fault : (x f o : Bool) → not x ≡ false → f ≡ true → ◌≡◌ {A = ℕ} 2 (cond x (cond (f || o) 2 1) 0)
-red_by_fault x f o h e = rw (not-false x h, e)
-
-pub red_by_train : (x f o : Bool) → not x ≡ false → f ≡ false → o ≡ true → ◌≡◌ {A = ℕ} 2 (cond x (cond (f || o) 2 1) 0)
-red_by_train x f o h e k = rw (not-false x h, e, k)
-
-pub white : (x f o : Bool) → not x ≡ false → f ≡ false → o ≡ false → ◌≡◌ {A = ℕ} 1 (cond x (cond (f || o) 2 1) 0)
-white x f o h e k = rw (not-false x h, e, k)
 
 -- the parts of an entry, computed from the bits of its index
 pub entry_parts :

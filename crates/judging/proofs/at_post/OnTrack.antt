@@ -4,12 +4,12 @@ use mathlib.Core.Bool.{Bool, true, false}
 use mathlib.Core.List.{List, [], ◌∷◌}
 use mathlib.Core.Path.{◌≡◌, refl, sym, ap}
 use lib.Seq.{set-get_or}
+use Rattle.std.specs.Prelude.{Some, None, Option}
+use Rattle.section.specs.declared.Refusal.TheVariants.{Malformed as malformed_step}
+use Rattle.section.specs.declared.Refusal.{Refusal}
 use Rattle.section.specs.declared.Track.{Track}
 use Rattle.section.specs.declared.Section.{Section}
-use Rattle.section.specs.declared.Verdict.TheVariants as verdict
 use Rattle.section.specs.declared.TrackStep.{TrackStep}
-use Rattle.section.specs.declared.Decoded.{Decoded}
-use Rattle.section.specs.declared.Decoded.TheVariants.{Well, Malformed}
 use Rattle.section.specs.Post.{blank}
 use Rattle.section.specs.Range.{in_range}
 use Rattle.section.specs.Step.{decoded, post_of}
@@ -22,7 +22,7 @@ use Rattle.rules.specs.Line.{line_in}
 use Rattle.rules.specs.Table.{Check, ◌else◌, effect, track_after}
 use Rattle.rules.specs.Judge.{verdict_of, answer_of, site_of, verdict_on, section_after, judge_step, judge_decoded, judge_in_range}
 use Rattle.rules.proofs.SectionAfter.{one_track_after}
-use Rattle.site.specs.declared.ruling.Ruling.TheVariants.{Refused, Accepted}
+use Rattle.std.specs.Prelude.{Ok, Err}
 use Rattle.site.specs.Ruling.{row_at, ruling_of}
 use Rattle.site.specs.declared.running.Running.{Running}
 use Rattle.site.specs.Running.{running_of, site_with}
@@ -44,10 +44,10 @@ same_track s false = refl
 
 -- the ruling, and the table's verdict with it
 data Ruled (ks : List Check) (f : Effect) : Type 0 where
-  accepts : ruling_of ks f ≡ Accepted f → verdict_of ks f.said ≡ verdict.Accepted f.said → Ruled ks f
-  refuses : (k : ℕ) → ruling_of ks f ≡ Refused k → verdict_of ks f.said ≡ verdict.Refused k → Ruled ks f
+  accepts : ruling_of ks f ≡ Ok f → verdict_of ks f.said ≡ Ok f.said → Ruled ks f
+  refuses : (k : Refusal) → ruling_of ks f ≡ Err k → verdict_of ks f.said ≡ Err k → Ruled ks f
 
-ruled_next : (b : Bool) (k : ℕ) (ks : List Check) (f : Effect) → Ruled ks f → Ruled ((b else k) ∷ ks) f
+ruled_next : (b : Bool) (k : Refusal) (ks : List Check) (f : Effect) → Ruled ks f → Ruled ((b else k) ∷ ks) f
 unfolding ruling_of verdict_of
 ruled_next true k ks f (accepts r v) = accepts r v
 ruled_next true k ks f (refuses n r v) = refuses n r v
@@ -75,10 +75,10 @@ module _ (s : Section) (x : TrackStep) where
   unfolding verdict_on answer_of track_at judged_at_post trains_at last_at judged_of track_after
   by_ruling (accepts r v) =
       rw (r, v)
-      (ap (λ (t : Section). record { verdict = verdict.Accepted (effect (line_in s) x.step (site_of s x)).said; section = t })
+      (ap (λ (t : Section). record { verdict = Ok (effect (line_in s) x.step (site_of s x)).said; section = t })
       (sym (one_track_after s x)))
   by_ruling (refuses k r v) =
-      rw (r, v, set-get_or own.posts (post_of x.step) blank) (ap (λ (t : Section). record { verdict = verdict.Refused k; section = t }) (same_track s x.track))
+      rw (r, v, set-get_or own.posts (post_of x.step) blank) (ap (λ (t : Section). record { verdict = Err k; section = t }) (same_track s x.track))
 
   pub step_judged : record { verdict = judged_here.verdict; section = after } ≡ judge_step s x
   unfolding judge_step
@@ -87,15 +87,15 @@ module _ (s : Section) (x : TrackStep) where
 -- ## From bytes
 
 module _ (s : Section) (bytes : List ℕ) where
-  decodes : {d : Decoded} → decoded s.settings.posts bytes ≡ d → judge_decoded s d ≡ judge_in_range s bytes
+  decodes : {d : Option TrackStep} → decoded s.settings.posts bytes ≡ d → judge_decoded s d ≡ judge_in_range s bytes
   unfolding judge_in_range
   decodes k = rw k
 
-  pub malformed : decoded s.settings.posts bytes ≡ Malformed → record { verdict = verdict.Refused 4; section = s } ≡ judge_in_range s bytes
+  pub malformed : decoded s.settings.posts bytes ≡ None → record { verdict = Err malformed_step; section = s } ≡ judge_in_range s bytes
   unfolding judge_decoded
   malformed k = decodes k
 
-  module _ (x : TrackStep) (well : decoded s.settings.posts bytes ≡ Well x) where
+  module _ (x : TrackStep) (well : decoded s.settings.posts bytes ≡ Some x) where
     pub in_ranges : in_range s ≡ true → InItsRanges (line_in s) (site_of s x)
     in_ranges h =
         in_its_ranges

@@ -4,11 +4,11 @@ use mathlib.Core.Bool.{Bool, not}
 use mathlib.Core.List.{List}
 use mathlib.Core.Path.{◌≡◌, sym, ◌∙◌}
 use lib.ListN.{set}
+use Rattle.std.specs.Prelude.{Some}
 use Rattle.rules.specs.declared.Line.{Line}
 use Rattle.section.specs.declared.Track.{Track}
 use Rattle.section.specs.declared.Section.{Section}
 use Rattle.section.specs.declared.TrackStep.{TrackStep}
-use Rattle.section.specs.declared.Decoded.TheVariants.{Well}
 use Rattle.section.specs.Step.{decoded, post_of}
 use Rattle.section.specs.Store.{track_of, with_track, post_on}
 use Rattle.rules.specs.Line.{line_in}
@@ -18,8 +18,7 @@ use Rattle.site.specs.Running.{running_of, on_vns, site_with}
 use Rattle.judging.specs.declared.at_post.PostAnswer.{PostAnswer}
 use Rattle.judging.specs.AtPost.{judged_at_post, trains_at, last_at, track_at}
 use Rattle.judging.proofs.at_post.OnTrack as on_track_lem
-use Rattle.judging.specs.declared.on_track.TrackAnswer.{TrackAnswer}
-use Rattle.judging.specs.OnTrack.{judged_on_track}
+use Rattle.judging.specs.OnTrack.{TrackAnswer, judged_on_track}
 
 -- what the step leaves, put in its places
 pub put_back :
@@ -44,7 +43,7 @@ put_back c x t other ep er ej et el = rw (ej, et, el, ep, er)
 
 -- the section with the track that is put back
 pub judged :
-    (s : Section) (bytes : List ℕ) (x : TrackStep) → decoded s.settings.posts bytes ≡ Well x → (k : Bool) → x.track ≡ k
+    (s : Section) (bytes : List ℕ) (x : TrackStep) → decoded s.settings.posts bytes ≡ Some x → (k : Bool) → x.track ≡ k
     → {line : Line} {t : Track} {other : Running} {w : TrackAnswer} → line ≡ line_in s
     → t ≡ track_of s x.track → other ≡ running_of (track_of s (not x.track))
     → w ≡ judged_on_track line x t other → record { verdict = w.verdict; section = with_track s k w.track } ≡ judge_in_range s bytes

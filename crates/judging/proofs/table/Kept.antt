@@ -3,18 +3,19 @@ use Prim.Native.Nat.{ℕ}
 use mathlib.Core.Bool.{Bool, true, false, cond}
 use mathlib.Core.List.{List, [], ◌∷◌}
 use mathlib.Core.Path.{◌≡◌, refl, sym, ◌∙◌, ap}
+use Rattle.section.specs.declared.Step.{Step}
+use Rattle.section.specs.declared.Refusal.{Refusal}
 use Rattle.rules.specs.declared.Effect.{Effect}
 use Rattle.rules.specs.declared.Line.{Line}
 use Rattle.rules.specs.declared.Movement.TheVariants.{Stays}
 use Rattle.rules.specs.declared.Site.{Site}
-use Rattle.rules.specs.Table.{Check, cells_after}
-use Rattle.site.specs.declared.ruling.Ruling.{Ruling}
-use Rattle.site.specs.declared.ruling.Ruling.TheVariants.{Refused}
-use Rattle.site.specs.Ruling.{ruling_of, cells_ruled}
+use Rattle.rules.specs.Table.{Check, effect, cells_after}
+use Rattle.std.specs.Prelude.{Err}
+use Rattle.site.specs.Ruling.{Ruling, row_at, ruling_of, ruling_at, cells_ruled}
 
 module _ (c : Line) (e : Site) where
-  one : (clears holds : Bool) (k : ℕ) (rest : Ruling) (cells : List ℕ) → cells ≡ cells_ruled c clears rest e cells
-      → cells ≡ cells_ruled c clears (cond holds rest (Refused k)) e cells
+  one : (clears holds : Bool) (k : Refusal) (rest : Ruling) (cells : List ℕ) → cells ≡ cells_ruled c clears rest e cells
+      → cells ≡ cells_ruled c clears (cond holds rest (Err k)) e cells
   one clears true k rest cells kept = kept
   one clears false k rest cells kept = refl
 
@@ -38,3 +39,16 @@ module _ (c : Line) (e : Site) where
       → (r ≡ ruling_of ks f) × ((trains ≡ cells_ruled c true r e trains) × (last ≡ cells_ruled c false r e last))
   nothing_moved trains last ks f none told =
       (told, (kept true trains ks f told (stays true f trains none), kept false last ks f told (stays false f last none)))
+
+  -- a step whose row looks neither at the cells nor at the other track, and moves no train
+  pub looks_at_no_cell :
+      (x y : Step) (other_on_vns : Bool) (trains last : List ℕ) {r : Ruling} → x ≡ y → (effect c y e).train ≡ Stays
+      → ruling_at c false y e [] [] ≡ ruling_at c other_on_vns y e trains last → r ≡ ruling_at c false y e [] []
+      → record {
+        value : r ≡ ruling_at c other_on_vns x e trains last;
+        trains_after : trains ≡ cells_ruled c true r e trains;
+        last_after : last ≡ cells_ruled c false r e last;
+      }
+  looks_at_no_cell x y other_on_vns trains last is none same told =
+      let all = nothing_moved trains last (row_at c other_on_vns y e trains last) (effect c y e) none (told ∙ same) in
+      record { value = rw is (told ∙ same); trains_after = all.1.0; last_after = all.1.1 }

@@ -1,21 +1,21 @@
 -- The table has room. What is printed are the entries of the constant: each is the rule's, and they are as many.
-use Prim.Native.Nat.{ℕ, ◌*◌, ◌≤◌}
+use Prim.Native.Nat.{ℕ, ◌≤◌}
 use mathlib.Core.List.{[], ◌∷◌, ◌++◌}
+use native.Mathlib.Omega.{arith}
 use mathlib.Core.Path.{sym, ◌∙◌, ap}
-use lib.ListN.{length, get_or}
+use lib.ListN.{length, get_or, length-append}
 use Rattle.section.proofs.Items.{items_length, item_at}
 use Rattle.text.specs.Text.{decimal, first_texts}
-use Rattle.text.proofs.Laws.{first_texts_length, same_texts}
+use Rattle.text.proofs.Laws.{decimal_length, first_texts_length, same_texts}
 use Rattle.rules.specs.LampTable.{table_length, lamp_entry, lamp_table}
-use Rattle.lines.proofs.Puts.{number_length_lem}
 use Rattle.lines.specs.PrintedTable.{entry_line, line_room, table_room, table_text, PrintsTheConstant}
 
-pub lines_fit : (m : ℕ) → length (first_texts entry_line m) ≤ line_room * m
-lines_fit m = first_texts_length entry_line line_room m (λ index. number_length_lem (lamp_entry index) 10)
+pub entry_short : (index : ℕ) → length (entry_line index) ≤ line_room
+entry_short index = simp length-append (omega (arith, decimal_length (lamp_entry index)))
 
 pub table_fits : length table_text ≤ table_room
 unfolding table_text
-table_fits = lines_fit table_length
+table_fits = first_texts_length entry_line line_room table_length entry_short
 
 pub prints_the_constant : PrintsTheConstant
 unfolding table_text lamp_table

@@ -3,15 +3,13 @@ use Prim.Native.Nat.{ℕ, ◌+◌, ◌-◌, ◌*◌, ◌<◌, ◌≤◌}
 use mathlib.Core.List.{List}
 use mathlib.Core.Path.{◌≡◌, refl, ap}
 use native.Mathlib.Omega.{arith}
-use native.Mathlib.Nat.{mul-suc, mul-le-mul_left, add-sub_cancel_left}
+use native.Mathlib.Nat.{add-sub_cancel_left}
 use lib.ListN.{length, take, drop, length-drop}
 use lib.Seq.{length-take-le}
 use Rattle.section.specs.declared.Answer.{Answer}
 use Rattle.section.specs.Words.{said_by}
 use Rattle.section.proofs.words.Laws.{said_back}
 use Rattle.lines.specs.Lines.{step_line, step_line_room}
-use Rattle.text.specs.Text.{first_texts}
-use Rattle.text.proofs.Laws.{first_texts_length}
 use Rattle.lines.proofs.Puts.{fields_length}
 use Rattle.notes.specs.Note.{answer_bytes, note_length, note_with, note}
 use Rattle.lines.specs.Noted.{noted_line, note_at}
@@ -19,17 +17,9 @@ use Rattle.lines.specs.Noted.{noted_line, note_at}
 abbrev pub line_of : List ℕ → ℕ → List ℕ
 line_of notes i = noted_line i (note_at notes i)
 
-noted_length : (index : ℕ) (note : List ℕ) → length (noted_line index note) ≤ step_line_room
+pub line_short : (notes : List ℕ) (i : ℕ) → length (line_of notes i) ≤ step_line_room
 unfolding noted_line
-noted_length index note = fields_length index _ _ _ _
-
--- a buffer with room for all lines has room for one more
-pub one_more_fits :
-    (notes : List ℕ) (i count at room : ℕ) → i < count → at + step_line_room * count ≤ room
-    → at + length (first_texts (line_of notes) i) + step_line_room ≤ room
-one_more_fits notes i count at room h all =
-    let so_far = first_texts_length (line_of notes) step_line_room i (λ k. noted_length k (note_at notes k)) in
-    omega (arith, so_far, rw (mul-suc step_line_room i) at (mul-le-mul_left step_line_room h))
+line_short notes i = fields_length i _ _ _ _
 
 pub note_part : (notes : List ℕ) (i : ℕ) → take (i * note_length + note_length - i * note_length) (drop (i * note_length) notes) ≡ note_at notes i
 unfolding note_at

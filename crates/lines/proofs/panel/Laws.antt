@@ -66,12 +66,13 @@ pub fields_listed : (s : Section) (track : ℕ) → first_texts (field_at (track
 unfolding post_fields
 fields_listed s track = same_texts _ _ s.settings.posts (λ p h. ap post_field (at_its_place s track p))
 
-pub six_each : (shown : List Indications) (m : ℕ) → length (first_texts (field_at shown) m) ≤ 6 * m
+pub field_short : (shown : List Indications) (p : ℕ) → length (field_at shown p) ≤ 6
 unfolding post_field
-six_each shown m = first_texts_length (field_at shown) 6 m (λ p. omega arith)
+field_short shown p = omega arith
 
 pub post_fields_length : (s : Section) (track : ℕ) → length (post_fields s track) ≤ 6 * s.settings.posts
-post_fields_length s track = rw (← fields_listed s track) (six_each (track_indications s track) s.settings.posts)
+post_fields_length s track =
+    rw (← fields_listed s track) (first_texts_length (field_at (track_indications s track)) 6 s.settings.posts (field_short (track_indications s track)))
 
 -- a section in its ranges has at most sixteen posts
 pub few_posts : (s : Section) → in_range s ≡ true → s.settings.posts ≤ most_posts

@@ -5,7 +5,7 @@ use mathlib.Core.List.{List}
 use native.Mathlib.Omega.{arith}
 use lib.ListN.{length, take, drop, length-append}
 use lib.Seq.{take_at}
-use Rattle.section.specs.declared.Outcome.TheVariants.{Done}
+use Rattle.std.specs.Prelude.{Ok}
 use Rattle.section.specs.Outcome.{if_done}
 use Rattle.text.specs.Text.{written}
 use Rattle.text.proofs.CopiedOut.{copied_whole}
@@ -29,8 +29,8 @@ module _ (l m s : List ℕ) (r : ℕ) (put : (r ≡ length s) × (m ≡ written 
 -- a text put at its front
 pub put_at_once :
     (l m s : List ℕ) (r : ℕ) → (r ≡ length s) × (m ≡ written l 0 s) → length m ≡ length l
-    → (Done r ≡ copied s l) × (m ≡ copied_out s l)
+    → (Ok r ≡ copied s l) × (m ≡ copied_out s l)
 unfolding copied_out if_done
 put_at_once l m s r put e =
     let h : length s ≤ length l = omega (arith, put.0, front_fits l m s r put e) in
-    rw (copied_whole s l h) (ap Done put.0, put.1 ∙ at_front l s)
+    rw (copied_whole s l h) (ap Ok put.0, put.1 ∙ at_front l s)

@@ -4,8 +4,7 @@ use mathlib.Core.Bool.{Bool, true, false, not, ◌&&◌, ◌||◌}
 use mathlib.Core.Path.{◌≡◌, ◌∙◌}
 use native.Mathlib.Numerals.{add-one}
 use native.Mathlib.Omega.{arith}
-use borrow.Author.Tests.{eq-eqb, ne_eqb}
-use Rattle.rules.specs.Site.{is_train, reach}
+use Rattle.rules.specs.Site.{reach}
 
 module _ (ends test : ℕ → Bool) (n j : ℕ) (h : j + 1 < n) where
   reach_step : reach ends test (n - suc j) j ≡ (test j || (not (ends (j + 1)) && reach ends test (n - suc (j + 1)) (j + 1)))
@@ -20,9 +19,3 @@ module _ (ends test : ℕ → Bool) (n j : ℕ) (h : j + 1 < n) where
 
   pub reach_on : test j ≡ false → ends (j + 1) ≡ false → reach ends test (n - suc j) j ≡ reach ends test (n - suc (j + 1)) (j + 1)
   reach_on e k = reach_step ∙ rw (e, k)
-
-pub is_train_lem : (z : ℕ) → (z ≡ 0 → ⊥) → is_train z ≡ true
-is_train_lem z h = rw (ne_eqb z 0 h)
-
-pub no_train : (z : ℕ) → z ≡ 0 → is_train z ≡ false
-no_train z h = rw (eq-eqb z 0 h)

@@ -1,67 +1,42 @@
 -- What a kind does not look at, its row of checks does not name, so the two rows are the same; a row that moves no train leaves the cells.
-use Rattle.std.proofs.Common.{refl, true, false}
+use Rattle.std.proofs.Common.{refl}
 use Rattle.section.specs.Step.{number_of}
 use Rattle.rules.specs.Site.{occupancy_at}
-use Rattle.rules.specs.Table.{checks, effect, cells_after}
-use Rattle.judging.proofs.table.Kept.{kept}
+use Rattle.rules.specs.Table.{checks, effect}
+use Rattle.judging.proofs.table.Kept.{looks_at_no_cell}
 use Rattle.judging.proofs.table.rule.Goals as goal
 
-pub returns-in-Acknowledge-clause-value : goal.returns-in-Acknowledge-clause-value
+pub returns-in-Acknowledge : goal.returns-in-Acknowledge
 unfolding checks occupancy_at number_of effect
-returns-in-Acknowledge-clause-value c = rw c.in-Acknowledge.is (c.acknowledge.ensures c.args.c)
+returns-in-Acknowledge c =
+    let a = c.args in
+    let place = a.place in
+    looks_at_no_cell place.line place.site a.x _ a.other_on_vns a.trains.now a.last.now c.in-Acknowledge.is refl refl (c.acknowledge.ensures place.line)
 
-pub returns-in-Acknowledge-clause-trains_after : goal.returns-in-Acknowledge-clause-trains_after
-unfolding effect cells_after
-returns-in-Acknowledge-clause-trains_after c = kept c.args.c c.args.e true c.args.trains.now _ _ (c.acknowledge.ensures c.args.c) refl
-
-pub returns-in-Acknowledge-clause-last_after : goal.returns-in-Acknowledge-clause-last_after
-unfolding effect cells_after
-returns-in-Acknowledge-clause-last_after c = kept c.args.c c.args.e false c.args.last.now _ _ (c.acknowledge.ensures c.args.c) refl
-
-pub returns-in-MeasuresOn-clause-value : goal.returns-in-MeasuresOn-clause-value
+pub returns-in-MeasuresOn : goal.returns-in-MeasuresOn
 unfolding checks occupancy_at number_of effect
-returns-in-MeasuresOn-clause-value c = rw c.in-MeasuresOn.is (c.measures_on.ensures c.args.c)
+returns-in-MeasuresOn c =
+    let a = c.args in
+    let place = a.place in
+    looks_at_no_cell place.line place.site a.x _ a.other_on_vns a.trains.now a.last.now c.in-MeasuresOn.is refl refl (c.measures_on.ensures place.line)
 
-pub returns-in-MeasuresOn-clause-trains_after : goal.returns-in-MeasuresOn-clause-trains_after
-unfolding effect cells_after
-returns-in-MeasuresOn-clause-trains_after c = kept c.args.c c.args.e true c.args.trains.now _ _ (c.measures_on.ensures c.args.c) refl
-
-pub returns-in-MeasuresOn-clause-last_after : goal.returns-in-MeasuresOn-clause-last_after
-unfolding effect cells_after
-returns-in-MeasuresOn-clause-last_after c = kept c.args.c c.args.e false c.args.last.now _ _ (c.measures_on.ensures c.args.c) refl
-
-pub returns-in-MeasuresOff-clause-value : goal.returns-in-MeasuresOff-clause-value
+pub returns-in-MeasuresOff : goal.returns-in-MeasuresOff
 unfolding checks occupancy_at number_of effect
-returns-in-MeasuresOff-clause-value c = rw c.in-MeasuresOff.is (c.measures_off.ensures c.args.c)
+returns-in-MeasuresOff c =
+    let a = c.args in
+    let place = a.place in
+    looks_at_no_cell place.line place.site a.x _ a.other_on_vns a.trains.now a.last.now c.in-MeasuresOff.is refl refl (c.measures_off.ensures place.line)
 
-pub returns-in-MeasuresOff-clause-trains_after : goal.returns-in-MeasuresOff-clause-trains_after
-unfolding effect cells_after
-returns-in-MeasuresOff-clause-trains_after c = kept c.args.c c.args.e true c.args.trains.now _ _ (c.measures_off.ensures c.args.c) refl
-
-pub returns-in-MeasuresOff-clause-last_after : goal.returns-in-MeasuresOff-clause-last_after
-unfolding effect cells_after
-returns-in-MeasuresOff-clause-last_after c = kept c.args.c c.args.e false c.args.last.now _ _ (c.measures_off.ensures c.args.c) refl
-
-pub returns-in-FaultOn-clause-value : goal.returns-in-FaultOn-clause-value
+pub returns-in-FaultOn : goal.returns-in-FaultOn
 unfolding checks occupancy_at number_of effect
-returns-in-FaultOn-clause-value c = rw c.in-FaultOn.is (c.fault_on.ensures c.args.c)
+returns-in-FaultOn c =
+    let a = c.args in
+    let place = a.place in
+    looks_at_no_cell place.line place.site a.x _ a.other_on_vns a.trains.now a.last.now c.in-FaultOn.is refl refl (c.fault_on.ensures place.line)
 
-pub returns-in-FaultOn-clause-trains_after : goal.returns-in-FaultOn-clause-trains_after
-unfolding effect cells_after
-returns-in-FaultOn-clause-trains_after c = kept c.args.c c.args.e true c.args.trains.now _ _ (c.fault_on.ensures c.args.c) refl
-
-pub returns-in-FaultOn-clause-last_after : goal.returns-in-FaultOn-clause-last_after
-unfolding effect cells_after
-returns-in-FaultOn-clause-last_after c = kept c.args.c c.args.e false c.args.last.now _ _ (c.fault_on.ensures c.args.c) refl
-
-pub returns-in-FaultOff-clause-value : goal.returns-in-FaultOff-clause-value
+pub returns-in-FaultOff : goal.returns-in-FaultOff
 unfolding checks occupancy_at number_of effect
-returns-in-FaultOff-clause-value c = rw c.in-FaultOff.is (c.fault_off.ensures c.args.c)
-
-pub returns-in-FaultOff-clause-trains_after : goal.returns-in-FaultOff-clause-trains_after
-unfolding effect cells_after
-returns-in-FaultOff-clause-trains_after c = kept c.args.c c.args.e true c.args.trains.now _ _ (c.fault_off.ensures c.args.c) refl
-
-pub returns-in-FaultOff-clause-last_after : goal.returns-in-FaultOff-clause-last_after
-unfolding effect cells_after
-returns-in-FaultOff-clause-last_after c = kept c.args.c c.args.e false c.args.last.now _ _ (c.fault_off.ensures c.args.c) refl
+returns-in-FaultOff c =
+    let a = c.args in
+    let place = a.place in
+    looks_at_no_cell place.line place.site a.x _ a.other_on_vns a.trains.now a.last.now c.in-FaultOff.is refl refl (c.fault_off.ensures place.line)

@@ -1,28 +1,21 @@
 use Rattle.std.proofs.Common.{arith, ◌≡◌}
 use Rattle.rules.specs.Indications.{dark}
-use Rattle.text.proofs.Laws.{one_more_put}
-use Rattle.lines.proofs.panel.Laws.{field_at, fields_listed, six_each}
+use Rattle.text.proofs.Put.{room_for_more, one_more}
+use Rattle.lines.proofs.panel.Laws.{field_at, fields_listed, field_short}
 use Rattle.lines.proofs.panel.put_posts.Goals as goal
 
-pub loop-p-preserved : goal.loop-p-preserved
+pub put_post-requires-clause-room : goal.put_post-requires-clause-room
+put_post-requires-clause-room c =
+    room_for_more _ (field_at c.track_indications-shown.result) 6 c.args.s.settings.posts (field_short c.track_indications-shown.result)
+    c.requires.0 c.loop-post.post c.loop-post-test.true c.loop-post.invariant
+
+pub loop-post-preserved : goal.loop-post-preserved
 unfolding dark
-loop-p-preserved c = (
-  omega arith,
-  (
-    omega (arith, c.loop-p.invariant.1.0, c.put_post-next.auto),
-    one_more_put (field_at c.track_indications-shown.result) c.args.buffer.now _ _ c.args.at c.loop-p.p _ _
-        (omega (arith, six_each c.track_indications-shown.result c.loop-p.p))
-        c.loop-p.invariant.1.1
-        (c.put_post-next.ensures.value, c.put_post-next.ensures.buffer_after),
-  ),
-)
+loop-post-preserved c =
+    one_more _ (field_at c.track_indications-shown.result) 6 c.args.s.settings.posts (field_short c.track_indications-shown.result)
+    c.requires.0 c.loop-post.post c.loop-post-test.true c.loop-post.invariant c.put_post.ensures
 
-pub returns-clause-value : goal.returns-clause-value
-returns-clause-value c =
-    let e : c.loop-p.p ≡ c.args.s.settings.posts = omega arith in
-    rw (← fields_listed c.args.s c.args.track, ← c.track_indications-shown.ensures) (rw e at c.loop-p.invariant.1.1.0)
-
-pub returns-clause-buffer_after : goal.returns-clause-buffer_after
-returns-clause-buffer_after c =
-    let e : c.loop-p.p ≡ c.args.s.settings.posts = omega arith in
-    rw (← fields_listed c.args.s c.args.track, ← c.track_indications-shown.ensures) (rw e at c.loop-p.invariant.1.1.1)
+pub returns : goal.returns
+returns c =
+    let all : c.loop-post.post ≡ c.args.s.settings.posts = omega (arith, c.loop-post-test.false, c.loop-post.auto.post-end) in
+    rw (← fields_listed c.args.s c.args.track, ← c.track_indications-shown.ensures) (rw all at c.loop-post.invariant)

@@ -1,14 +1,9 @@
--- After p turns the fields of the posts 0 .. p − 1, as the list has them, stand in the buffer, six bytes each.
-use Rattle.std.proofs.Common.{◌-◌, ◌≡◌, ◌≤◌, length}
+-- After p turns the fields of the posts 0 .. p − 1, as the list has them, are put.
+use Rattle.std.proofs.Common.{◌≡◌}
+use Rattle.text.specs.Put.{put}
 use Rattle.text.specs.Text.{first_texts}
-use Rattle.text.proofs.Laws.{Putting}
 use Rattle.lines.proofs.panel.Laws.{field_at}
 use Rattle.lines.proofs.panel.put_posts.Given as goal
 
-abbrev pub invariant-loop-p : goal.invariant-loop-p
-invariant-loop-p l =
-    (l.p ≤ l.n)
-    × ((length l.buffer ≡ length l.fn.buffer) × Putting l.fn.buffer l.at (first_texts (field_at l.shown) l.p) l.next l.buffer)
-
-abbrev pub decreases-loop-p : goal.decreases-loop-p
-decreases-loop-p l = l.n - l.p
+abbrev pub invariant-loop-post : goal.invariant-loop-post
+invariant-loop-post l = l.text ≡ put l.initial.text (first_texts (field_at l.shown) l.post)

@@ -1,19 +1,9 @@
--- By the book.
-use Rattle.std.proofs.Common.{ne_eqb}
-use Rattle.registers.proofs.words.Laws.{refused_first, refused_second}
+-- A malformed record is told by the number of its refusal, which the phrase has in letters.
+use Rattle.registers.proofs.words.Laws.{first_refused, second_refused}
 use Rattle.registers.proofs.words.put_malformed.Goals as goal
 
-pub returns-then-book-eq-FIRST-clause-value : goal.returns-then-book-eq-FIRST-clause-value
-returns-then-book-eq-FIRST-clause-value c = rw (c.if-book-eq-FIRST.true, ← refused_first) c.put_line.ensures.value
+pub returns-in-First : goal.returns-in-First
+returns-in-First c = rw (c.in-First.is, first_refused) c.put_line.ensures
 
-pub returns-then-book-eq-FIRST-clause-buffer_after : goal.returns-then-book-eq-FIRST-clause-buffer_after
-returns-then-book-eq-FIRST-clause-buffer_after c =
-    rw (c.if-book-eq-FIRST.true, ← refused_first) c.put_line.ensures.buffer_after
-
-pub returns-clause-value : goal.returns-clause-value
-returns-clause-value c =
-    rw (← refused_second _ _ (ne_eqb _ _ c.if-book-eq-FIRST.false)) c.put_line-2.ensures.value
-
-pub returns-clause-buffer_after : goal.returns-clause-buffer_after
-returns-clause-buffer_after c =
-    rw (← refused_second _ _ (ne_eqb _ _ c.if-book-eq-FIRST.false)) c.put_line-2.ensures.buffer_after
+pub returns-in-Second : goal.returns-in-Second
+returns-in-Second c = rw (c.in-Second.is, second_refused) c.put_line-in-Second.ensures

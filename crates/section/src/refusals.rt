@@ -1,0 +1,65 @@
+// A check with its refusal, and the paper's figures of refusals.
+ghost use Rattle.std.specs.Prelude.{true, false, ◌≡◌, MatchResult};
+ghost use Rattle.section.specs.Refusal.{figure, call_figure, index_of};
+
+use crate::{CallRefusal, Refusal};
+
+// A check of a row, or of a call: what must hold, and the refusal where it does not.
+pub fn check<E: Drop>(holds: bool, refusal: E) -> Result<(), E>
+    ensures { MatchResult result (λ _. holds ≡ true) (λ e. (e ≡ refusal) × (holds ≡ false)) }
+{
+    if holds { Ok(()) } else { Err(refusal) }
+}
+
+impl From<Refusal> for u8 {
+    ghost from_gives = { λ refusal number. number ≡ figure refusal };
+
+    #[tactic(auto, unfolding(crate::specs::Refusal::figure))]
+    fn from(refusal: Refusal) -> u8 {
+        match refusal {
+            Refusal::Malformed => 4,
+            Refusal::OutOfRange => 6,
+            Refusal::ReversalUnderWay => 11,
+            Refusal::NoSuchPart => 12,
+            Refusal::Occupied => 13,
+            Refusal::OtherNotOnVns => 14,
+            Refusal::NotItsTurn => 15,
+            Refusal::MeasuresNeeded => 16,
+            Refusal::WrongTrain => 17,
+            Refusal::FaultWithoutMark => 18,
+            Refusal::DeviceLocked => 19,
+            Refusal::SealsUsedUp => 20,
+            Refusal::AlreadySo => 21,
+            Refusal::CautionFormNeeded => 22,
+        }
+    }
+}
+
+impl From<CallRefusal> for u8 {
+    ghost from_gives = { λ refusal number. number ≡ call_figure refusal };
+
+    #[tactic(auto, unfolding(crate::specs::Refusal::call_figure))]
+    fn from(refusal: CallRefusal) -> u8 {
+        match refusal {
+            CallRefusal::WrongLength => 1,
+            CallRefusal::WrongTrailer => 2,
+            CallRefusal::WrongSettings => 3,
+            CallRefusal::MalformedStep(_) => 4,
+            CallRefusal::NoRoom => 5,
+            CallRefusal::StateOutOfRange => 6,
+        }
+    }
+}
+
+impl CallRefusal {
+    // The index of the first malformed step, for 4; else 0.
+    #[tactic(auto, unfolding(crate::specs::Refusal::index_of))]
+    pub fn index(self) -> usize
+        ensures { result ≡ index_of self }
+    {
+        match self {
+            CallRefusal::MalformedStep(index) => index,
+            _ => 0,
+        }
+    }
+}

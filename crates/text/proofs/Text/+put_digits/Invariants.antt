@@ -1,0 +1,5 @@
+-- One digit fewer is left for the digits of the quotient by ten.
+use Rattle.text.proofs.Text.+put_digits.Given as goal
+
+abbrev pub decreases-put_digits : goal.decreases-put_digits
+decreases-put_digits l = l.most
