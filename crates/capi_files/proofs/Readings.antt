@@ -9,17 +9,17 @@ use lib.Dec.{ltb}
 use borrow.Author.Tests.{ltb-true}
 use Rattle.std.specs.Prelude.{Ok, Err}
 use Rattle.section.specs.declared.CallRefusal.TheVariants.{WrongLength, WrongTrailer, WrongSettings, MalformedStep}
-use Rattle.section.specs.Refusal.{call_figure, index_of}
-use Rattle.section.specs.Outcome.{refusal_number, told}
+use Rattle.section.specs.Refusal.{call_figure, index_of, refusal_by}
+use Rattle.section.specs.Outcome.{told_by}
 use Rattle.layout.specs.Layout.{step_count, steps_in, settings_in, settings_of}
 use Rattle.file_tests.specs.Tests.{length_wrong, trailer_fits, settings_well_formed, first_malformed, some_malformed}
 use Rattle.dayfile.specs.declared.ReadDay.{ReadDay}
 use Rattle.dayfile.specs.Answers.{read_of, counted}
 use Rattle.dayfile.proofs.Reader.{length_right, steps_bounded}
-use Rattle.packed.specs.Packed.{packed_reading}
+use Rattle.packed.specs.Packed.{packed_reading, packed_reading_by}
 
 pub reading_fits : (file : List ℕ) → packed_reading (counted (read_of file)) < 2 ^ 32
-unfolding packed_reading refusal_number told counted call_figure index_of read_of some_malformed
+unfolding packed_reading_by refusal_by told_by counted call_figure index_of read_of some_malformed
 reading_fits file =
     go (length_wrong (length file)) refl (not (trailer_fits file)) (not (settings_well_formed (settings_in file))) (ltb first count) refl
   where

@@ -7,19 +7,19 @@ use native.Mathlib.Omega.{arith}
 use lib.ListN.{length, get_or}
 use borrow.Author.Tests.{lt-ltb, le-ltb, le-leb, lt-leb}
 use Rattle.std.specs.List.{flat_map}
-use Rattle.section.specs.Refusal.{figure}
+use Rattle.section.specs.Refusal.{figure, refusal_by}
 use Rattle.section.specs.declared.Indications.{Indications}
 use Rattle.section.specs.Items.{items}
 use Rattle.section.specs.declared.Section.{Section}
 use Rattle.section.specs.Numbers.{most_posts}
 use Rattle.section.specs.Range.{in_range}
-use Rattle.section.specs.Words.{refusal_of, said_by, said_number}
+use Rattle.section.specs.Words.{said_by, said_number}
 use Rattle.rules.specs.Indications.{dark}
 use Rattle.rules.specs.Judge.{judge}
 use Rattle.text.specs.Text.{written}
 use Rattle.text.proofs.Laws.{first_texts_whole}
 use Rattle.image.proofs.Made.{joined}
-use Rattle.packed.specs.Packed.{packed_verdict}
+use Rattle.packed.specs.Packed.{packed_verdict, packed_verdict_by}
 use Rattle.image.specs.Image.{image_well_formed, section_of}
 use Rattle.engine.specs.Preview.{preview}
 use Rattle.engine.specs.declared.previews.Previewed.{Previewed}
@@ -40,7 +40,7 @@ track_flat shown e f = f ∙ ap (flat_map (λ x. x)) e ∙ joined _ most_posts
 
 -- judging a state out of range answers 6
 six : (s : Section) (step : List ℕ) → in_range s ≡ false → packed_verdict (preview s step).verdict ≡ 6
-unfolding preview judge packed_verdict refusal_of said_by said_number figure
+unfolding preview judge packed_verdict_by refusal_by said_by said_number figure
 six s step h = rw h
 
 module _ (image step buffer : List ℕ) where

@@ -41,7 +41,7 @@ MeansOneThing =
 abbrev pub GivesItsSteps : Type 0
 GivesItsSteps = (file : List ℕ) (day : ReadDay) → read_of file ≡ Ok day → steps_part file day.count ≡ steps_in file
 
--- "with the index of the first malformed step for 4": neither gives 4 without it. ("and zero otherwise" holds of every outcome: IndexOnlyForFour.)
+-- "with the index of the first malformed step for 4": neither gives 4 without it. ("and zero otherwise" holds of both, as of every call: IndexOnlyForFour.)
 abbrev pub IndexOfTheFirst : Type 0
 IndexOfTheFirst =
     ((file : List ℕ) → refusal_number (read_of file) ≡ 4 →

@@ -19,6 +19,9 @@ const PATH_ROOM: usize = 4096;
 
 const LONGEST_NAME: usize = 4000;
 
+// Room for what stands behind the name of a day that differs.
+const DIFFERENCE_ROOM: usize = 24;
+
 // How a stored day differs from what is made of it. One that cannot be read counts among those that differ.
 #[derive(Clone, Copy, Debug, Error)]
 enum Difference {
@@ -94,8 +97,10 @@ fn run(rt: &HostRuntime, output: &mut Program<'_>) -> Result<(), Told> {
         days += 1;
         if let Err(difference) = compare(rt, name) {
             differ += 1;
+            let mut words = ArrayString::<DIFFERENCE_ROOM>::new();
+            let _ = writeln!(words, ": {difference}");
             output.write_whole(name)?;
-            writeln!(output, ": {difference}")?;
+            output.write_whole(words.as_str().as_bytes())?;
         }
     }
     writeln!(output, "{days} days, {differ} differ")

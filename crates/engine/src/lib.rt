@@ -17,15 +17,14 @@ use section::{Answer, Refusal, Section};
 pub fn judge(s: Section, bytes: &[u8]) -> Answer
     ensures { result ≡ judge s bytes.now }
 {
-    if !ranges::in_range(s) {
-        return Answer {
-            verdict: Err(Refusal::OutOfRange),
-            section: s,
-        };
-    }
     let c = s.settings;
+    // Before the ranges are tested: filled after a test, the array would first be cleared, with memset, where a loop calls this.
     let mut tracks = [s.a, s.b];
-    let verdict = judge_in_place(c, false, bytes, &mut tracks);
+    let verdict = if !ranges::in_range(s) {
+        Err(Refusal::OutOfRange)
+    } else {
+        judge_in_place(c, false, bytes, &mut tracks)
+    };
     Answer {
         verdict,
         section: Section {

@@ -1,7 +1,6 @@
 -- The marked instances, by computation.
 use mathlib.Core.Path.{refl}
-use Rattle.section.specs.Refusal.{call_figure}
-use Rattle.section.specs.Outcome.{refusal_number}
+use Rattle.section.specs.Refusal.{call_figure, refusal_by}
 use Rattle.section.specs.Step.{well_formed}
 use Rattle.layout.specs.Layout.{le32, le32_at, step_count, from_end, trailer_in, has_mark, mark_of}
 use Rattle.layout.specs.Layout.{tail_in, tail_of, settings_in, steps_in, settings_of, step_at}
@@ -15,7 +14,7 @@ use Rattle.examples.specs.Marked.{reading, answer, instances}
 
 pub marked_instances : Holds instances
 unfolding instances reading answer sealed_at offered_as refusals fresh
-    refusal_number call_figure read_of length_wrong length_suits trailer_fits trailer_well_formed has_mark mark_of tail_in tail_of
+    refusal_by call_figure read_of length_wrong length_suits trailer_fits trailer_well_formed has_mark mark_of tail_in tail_of
     settings_well_formed zeros_well_formed
     some_malformed first_malformed leading well_at well_formed step_count steps_in trailer_in settings_in from_end settings_of step_at le32_at le32
 marked_instances = refl

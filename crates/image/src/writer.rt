@@ -1,12 +1,13 @@
 // A section into its image.
 ghost use Rattle.std.specs.Prelude.{◌≡◌, ◌+◌, ◌≤◌, length};
+ghost use Rattle.section.specs.Numbers.{most_posts, most_blocks};
 ghost use Rattle.text.specs.Put.{HasRoom, put};
 ghost use Rattle.text.specs.Text.{written};
 ghost use Rattle.image.specs.Image.{image_length, track_length, posts_length, numbers_length, faults_byte, post_image, posts_image};
 ghost use Rattle.image.specs.Image.{numbers_image, act_number, walk_image, track_head, track_image, image_of};
 
-use crate::{LAYOUT_NUMBER, POST_LENGTH};
-use section::{Act, Post, Section, Track, Walk};
+use crate::{LAYOUT_NUMBER, POST_LENGTH, POSTS_HELD};
+use section::{Act, MOST_BLOCKS, Post, Posts, Section, Track, Trains, Walk};
 use text::Text;
 
 #[tactic(auto, using(crate::proofs::Laws::flag_number, crate::proofs::Laws::flag_small), unfolding(crate::specs::Image::faults_byte))]
@@ -62,25 +63,42 @@ fn walk_bytes(walk: Walk) -> [u8; 2]
 
 // What stands before a track's posts.
 #[tactic(auto, using(crate::proofs::writer::Laws::two_and_zero), unfolding(crate::specs::Image::track_head))]
-fn track_head(t: Track) -> [u8; 4]
-    ensures { result ≡ track_head t }
+fn track_head(t: &Track) -> [u8; 4]
+    ensures { result ≡ track_head t.now }
 {
     let [act, post] = walk_bytes(t.walk);
     [u8::from(t.cvt), act, post, 0]
 }
 
-#[tactic(auto, using(text::proofs::Put::texts, crate::proofs::Laws::posts_length_lem, crate::proofs::Laws::numbers_length_lem, crate::proofs::Laws::head_length_lem))]
-fn put_track(text: &mut Text, t: Track)
-    requires { HasRoom text.old track_length }
-    ensures { text.new ≡ put text.old (track_image t) }
+#[tactic(auto, using(text::proofs::Put::first_none), unfolding(crate::specs::Image::posts_image))]
+fn put_posts(text: &mut Text, posts: &Posts)
+    requires { HasRoom text.old posts_length }
+    ensures { text.new ≡ put text.old (posts_image most_posts posts.now) }
 {
-    let posts = t.posts.map(post_bytes);
-    let trains = t.trains.map(u16::to_le_bytes);
-    let last = t.last.map(u16::to_le_bytes);
+    for i in 0..POSTS_HELD {
+        text.put_text(&post_bytes(posts[i]));
+    }
+}
+
+#[tactic(auto, using(text::proofs::Put::first_none), unfolding(crate::specs::Image::numbers_image))]
+fn put_numbers(text: &mut Text, numbers: &Trains)
+    requires { HasRoom text.old numbers_length }
+    ensures { text.new ≡ put text.old (numbers_image most_blocks numbers.now) }
+{
+    for i in 0..MOST_BLOCKS {
+        text.put_text(&numbers[i].to_le_bytes());
+    }
+}
+
+#[tactic(auto, using(text::proofs::Put::texts, crate::proofs::Laws::posts_length_lem, crate::proofs::Laws::numbers_length_lem, crate::proofs::Laws::head_length_lem), unfolding(crate::specs::Image::track_image))]
+fn put_track(text: &mut Text, t: &Track)
+    requires { HasRoom text.old track_length }
+    ensures { text.new ≡ put text.old (track_image t.now) }
+{
     text.put_text(&track_head(t));
-    text.put_text(posts.as_flattened());
-    text.put_text(trains.as_flattened());
-    text.put_text(last.as_flattened());
+    put_posts(text, &t.posts);
+    put_numbers(text, &t.trains);
+    put_numbers(text, &t.last);
 }
 
 // Writes a section's image to the front of the buffer.
@@ -92,6 +110,6 @@ pub fn put_image(buffer: &mut [u8], s: Section)
     let mut text = Text::new(buffer);
     text.put_text(&LAYOUT_NUMBER.to_le_bytes());
     text.put_text(&layout::writer::settings_bytes(s.settings));
-    put_track(&mut text, s.a);
-    put_track(&mut text, s.b);
+    put_track(&mut text, &s.a);
+    put_track(&mut text, &s.b);
 }

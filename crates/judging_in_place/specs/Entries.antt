@@ -5,7 +5,7 @@ use Rattle.section.specs.declared.Section.{Section}
 use Rattle.section.specs.Refusal.{Verdict}
 use Rattle.section.specs.Words.{track_letter}
 use Rattle.text.specs.Text.{first_texts}
-use Rattle.notes.specs.Note.{answer_length, answer_bytes, note_length, note_with}
+use Rattle.notes.specs.Note.{answer_length, answer_by, answer_bytes, note_length, note_by, note_with}
 use Rattle.judging_in_place.specs.Offered.{answer_to}
 
 -- an entry: how long it is, and its bytes, from the verdict and the letters of tracks A and B after the step
@@ -24,11 +24,11 @@ abbrev pub notes : Entry
 notes = record { long = note_length; bytes = note_with }
 
 pub answers_as_long : AsLong answers
-unfolding answer_bytes
+unfolding answer_by
 answers_as_long verdict a b = refl
 
 pub notes_as_long : AsLong notes
-unfolding note_with answer_bytes
+unfolding note_by answer_by
 notes_as_long verdict a b = refl
 
 unfoldable pub entry_of : Entry → Answer → List ℕ

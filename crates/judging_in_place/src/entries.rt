@@ -21,6 +21,7 @@ pub trait Entries {
     ghost as_long: { AsLong entry };
 }
 
+#[derive(Clone, Copy)]
 pub struct Answers;
 
 impl Entries for Answers {
@@ -33,6 +34,7 @@ impl Entries for Answers {
     }
 }
 
+#[derive(Clone, Copy)]
 pub struct Notes;
 
 impl Entries for Notes {

@@ -16,8 +16,10 @@ ghost use Rattle.judging_in_place.specs.Entries.{entries_of};
 
 pub use crate::entries::{Answers, Entries, Notes, put_note_of};
 pub use crate::tracks::judge_in_place;
+use crate::tracks::judge_on_line;
 use layout::step_at;
 use section::Section;
+use site::line::line_of;
 
 // Judges the first so many steps, each on the section that the one before left, writes what is kept of each from the buffer's front on, and
 // hands the section back. Judging keeps the ranges, so they are not tested again.
@@ -36,9 +38,10 @@ pub fn judge_steps<E: Entries>(
     ensures buffer_after { buffer.new ≡ written buffer.old 0 (entries_of E.entry s steps.now count) }
 {
     let c = s.settings;
+    let line = line_of(c);
     let mut tracks = [s.a, s.b];
     for i in 0..count {
-        let verdict = judge_in_place(c, known, step_at(steps, i), &mut tracks);
+        let verdict = judge_on_line(c, line, known, step_at(steps, i), &mut tracks);
         E::put(buffer, i, verdict, &tracks);
     }
     Section {

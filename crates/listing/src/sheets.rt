@@ -1,9 +1,6 @@
 // What is printed of a file, a line a step: the listing or the panel.
-ghost use Rattle.std.specs.Prelude.{true, ◌≡◌, ◌*◌, ◌≤◌, length, replicate};
+ghost use Rattle.std.specs.Prelude.{◌≡◌, ◌*◌, ◌≤◌, length, replicate};
 ghost use Rattle.section.specs.Fresh.{fresh_section};
-ghost use Rattle.section.specs.Numbers.{step_length};
-ghost use Rattle.section.specs.Range.{in_range};
-ghost use Rattle.rules.specs.Judge.{judge};
 ghost use Rattle.layout.specs.Layout.{most_steps};
 ghost use Rattle.text.specs.Put.{HasRoom, put};
 ghost use Rattle.text.specs.Text.{written};
@@ -23,7 +20,7 @@ use lines::listing::put_noted_lines;
 use lines::panel::put_panel;
 use lines::{put_header, put_refused};
 use notes::{ANSWER_LENGTH, NOTE_LENGTH};
-use section::{Outcome, Section};
+use section::Outcome;
 use text::{Text, copy_out};
 
 // What is printed of each step: what it did, or what the posts show after it. A trait in its place would hold the same two ways to put the
@@ -92,18 +89,8 @@ fn put_listing_lines(text: &mut Text, day: &Day)
     put_noted_lines(text, &notes, day.count);
 }
 
-// The section after a step. Its answer is not shown.
-#[tactic(auto, using(crate::proofs::sheets::Laws::walk_of_one))]
-fn section_after(s: Section, bytes: &[u8]) -> Section
-    requires { (in_range s ≡ true) × (length bytes.now ≡ step_length) }
-    ensures { result ≡ (judge s bytes.now).section }
-{
-    let mut answer: [u8; ANSWER_LENGTH] = [0; ANSWER_LENGTH];
-    judge_steps::<Answers>(s, bytes, 1, false, &mut answer)
-}
-
 // Puts the panel's lines of all steps, each judged on the section that the one before left. A line shows the posts after its step, so the walk
-// is taken a step at a time.
+// is taken a step at a time; the answers are not shown.
 #[tactic(auto, using(text::proofs::Put::first_none, crate::proofs::sheets::Laws::step_length_lem), unfolding(judging_in_place::specs::Offered::section_before, crate::specs::Printed::lines, crate::specs::Sheet::line_on))]
 fn put_panel_lines(text: &mut Text, day: &Day)
     requires { HasRoom text.old (panel_line_room * day.now.count) }
@@ -115,9 +102,10 @@ fn put_panel_lines(text: &mut Text, day: &Day)
         count,
     } = *day;
     let mut state = section::fresh(settings);
+    let mut answer: [u8; ANSWER_LENGTH] = [0; ANSWER_LENGTH];
     for i in 0..count {
         let bytes = step_at(steps, i);
-        state = section_after(state, bytes);
+        state = judge_steps::<Answers>(state, bytes, 1, false, &mut answer);
         put_panel(text, i, bytes[1], state);
     }
 }

@@ -4,10 +4,10 @@ use mathlib.Core.List.{[], ◌∷◌}
 use Rattle.std.specs.Prelude.{Ok, Err}
 use Rattle.section.specs.declared.Refusal.TheVariants.{CautionFormNeeded, Malformed, Occupied}
 use Rattle.section.specs.declared.Said.TheVariants.{Nothing, Cvt, Cvtz, Vns, Vnsz}
-use Rattle.section.specs.Refusal.{figure}
-use Rattle.section.specs.Words.{refusal_of, said_by, said_number}
+use Rattle.section.specs.Refusal.{figure, refusal_by}
+use Rattle.section.specs.Words.{said_by, said_number}
 use Rattle.section.proofs.Rows.{◌gives◌, Holds}
-use Rattle.notes.specs.Note.{answer_bytes, note_with}
+use Rattle.notes.specs.Note.{answer_by, answer_bytes, note_by, note_with}
 
 -- "0 or the refusal, then what is said (0 nothing, 1 CVT, 2 CVTz, 3 VNS, 4 VNSz)"; then the letters of tracks A and B
 pub answers_in_bytes :
@@ -19,8 +19,9 @@ pub answers_in_bytes :
     ∷ (answer_bytes (Ok Vnsz) gives 0 ∷ 4 ∷ [])
     ∷ (answer_bytes (Err Malformed) gives 4 ∷ 0 ∷ [])
     ∷ (answer_bytes (Err CautionFormNeeded) gives 22 ∷ 0 ∷ [])
+    ∷ (answer_by (λ number. number) (Err 99) gives 99 ∷ 0 ∷ [])
     ∷ (note_with (Ok Vnsz) 86 99 gives 0 ∷ 4 ∷ 86 ∷ 99 ∷ [])
     ∷ (note_with (Err Occupied) 118 67 gives 13 ∷ 0 ∷ 118 ∷ 67 ∷ [])
     ∷ [])
-unfolding answer_bytes note_with refusal_of said_by said_number figure
+unfolding answer_by note_by refusal_by said_by said_number figure
 answers_in_bytes = refl

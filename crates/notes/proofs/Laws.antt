@@ -6,18 +6,20 @@ use native.Mathlib.Omega.{arith}
 use native.Mathlib.Numerals.{add-one}
 use lib.ListN.{length, set, take, drop}
 use lib.Seq.{sets-eq}
+use Rattle.std.specs.Prelude.{Result}
 use Rattle.section.specs.declared.Answer.{Answer}
+use Rattle.section.specs.declared.Said.{Said}
 use Rattle.section.specs.Refusal.{Verdict}
 use Rattle.text.specs.Text.{written}
 use Rattle.text.proofs.Laws.{written_twice}
-use Rattle.notes.specs.Note.{answer_length, answer_bytes, note_length, note_with, note}
+use Rattle.notes.specs.Note.{answer_length, answer_by, answer_bytes, note_length, note_by, note}
 
 pub answer_length_lem : (verdict : Verdict) → length (answer_bytes verdict) ≡ answer_length
-unfolding answer_bytes
+unfolding answer_by
 answer_length_lem verdict = refl
 
 pub note_length_lem : (answer : Answer) → length (note answer) ≡ note_length
-unfolding note note_with answer_bytes
+unfolding note note_by answer_by
 note_length_lem answer = refl
 
 pub two_stored :
@@ -29,10 +31,10 @@ two_stored l at x y room =
 
 -- the letters stored after an answer make it a note
 pub letters_stored :
-    (l : List ℕ) (at : ℕ) (verdict : Verdict) (a b : ℕ) {answered : List ℕ} → at + note_length ≤ length l
-    → answered ≡ written l at (answer_bytes verdict) → length answered ≡ length l
-    → set (set answered (at + 2) a) (at + 3) b ≡ written l at (note_with verdict a b)
-unfolding note_with answer_bytes
-letters_stored l at verdict a b {answered} room put kept =
+    {R : Type 0} (figure_of : R → ℕ) (l : List ℕ) (at : ℕ) (verdict : Result Said R) (a b : ℕ) {answered : List ℕ} → at + note_length ≤ length l
+    → answered ≡ written l at (answer_by figure_of verdict) → length answered ≡ length l
+    → set (set answered (at + 2) a) (at + 3) b ≡ written l at (note_by figure_of verdict a b)
+unfolding note_by answer_by
+letters_stored figure_of l at verdict a b {answered} room put kept =
     let next : at + 3 ≡ at + 2 + 1 = omega arith in
-    rw (next, two_stored answered (at + 2) a b (omega arith), put) (written_twice l at (answer_bytes verdict) (a ∷ (b ∷ [])) (omega arith))
+    rw (next, two_stored answered (at + 2) a b (omega arith), put) (written_twice l at (answer_by figure_of verdict) (a ∷ (b ∷ [])) (omega arith))

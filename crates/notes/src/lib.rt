@@ -4,10 +4,10 @@
 
 ghost use Rattle.std.specs.Prelude.{◌≡◌, ◌+◌, ◌≤◌, length};
 ghost use Rattle.text.specs.Text.{written};
-ghost use Rattle.notes.specs.Note.{answer_length, answer_bytes, note_length, note_with};
+ghost use Rattle.notes.specs.Note.{answer_length, answer_by, note_length, note_by};
 
-use section::Verdict;
 use section::words::{refusal_of, said_by};
+use section::{HasFigure, Said};
 
 pub const ANSWER_LENGTH: usize = 2;
 
@@ -15,10 +15,10 @@ pub const NOTE_LENGTH: usize = 4;
 
 // Writes the answer to a step: 0 or the refusal, then the number of what is said. It stands at its step's place, not behind what was put before, so
 // that the buffer is no `Text`.
-#[tactic(auto, using(crate::proofs::Laws::two_stored), unfolding(crate::specs::Note::answer_bytes))]
-pub fn put_answer(answers: &mut [u8], at: usize, verdict: Verdict)
+#[tactic(auto, using(crate::proofs::Laws::two_stored), unfolding(crate::specs::Note::answer_by))]
+pub fn put_answer<R: HasFigure>(answers: &mut [u8], at: usize, verdict: Result<Said, R>)
     requires { at + answer_length ≤ length answers.old }
-    ensures { answers.new ≡ written answers.old at (answer_bytes verdict) }
+    ensures { answers.new ≡ written answers.old at (answer_by R.figure verdict) }
 {
     answers[at] = refusal_of(verdict);
     answers[at + 1] = u8::from(said_by(verdict));
@@ -26,9 +26,9 @@ pub fn put_answer(answers: &mut [u8], at: usize, verdict: Verdict)
 
 // Writes the note of a step.
 #[tactic(auto, using(crate::proofs::Laws::letters_stored))]
-pub fn put_note(notes: &mut [u8], at: usize, verdict: Verdict, a: u8, b: u8)
+pub fn put_note<R: HasFigure>(notes: &mut [u8], at: usize, verdict: Result<Said, R>, a: u8, b: u8)
     requires { at + note_length ≤ length notes.old }
-    ensures { notes.new ≡ written notes.old at (note_with verdict a b) }
+    ensures { notes.new ≡ written notes.old at (note_by R.figure verdict a b) }
 {
     put_answer(notes, at, verdict);
     notes[at + 2] = a;

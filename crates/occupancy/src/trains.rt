@@ -7,7 +7,7 @@ ghost use Rattle.rules.specs.Site.{any_of, is_train, is_number, at_sending_end, 
 use section::{Trains, positions};
 use site::place::Place;
 
-// The train, or the last train, of block section i: the only place where judging reads a cell.
+// The train, or the last train, of block section i.
 fn train_in(cells: &Trains, i: usize) -> u16
     requires { i < most_blocks }
     ensures { result ≡ get_or cells.now i 0 }

@@ -16,6 +16,7 @@ use Rattle.file_tests.specs.Tests.{leading}
 use Rattle.file_tests.proofs.Laws.{all_pass}
 use Rattle.registers.specs.declared.Entry.{Entry}
 use Rattle.registers.specs.declared.TravelRange.{TravelRange}
+use Rattle.registers.specs.declared.Book.{Book}
 use Rattle.registers.specs.declared.Book.TheVariants.{First, Second}
 use Rattle.registers.specs.declared.Mismatch.{Mismatch}
 use Rattle.registers.specs.declared.Mismatch.TheVariants.{Differs, Malformed}
@@ -79,7 +80,7 @@ going_received book = let z : length book / 8 - 0 ≡ length book / 8 = omega ar
 -- ## Both walks
 
 -- the answer of two walks: over what the first book sent, and over what the second sent
-abbrev pub answer_of : Result TravelRange Mismatch → Result TravelRange Mismatch → Result (Option ℕ) Mismatch
+abbrev pub answer_of : Result TravelRange (Mismatch Book) → Result TravelRange (Mismatch Book) → Result (Option ℕ) (Mismatch Book)
 answer_of (Err m) other = Err m
 answer_of (Ok one) (Err m) = Err m
 answer_of (Ok one) (Ok other) = Ok (offset_within one other)
@@ -161,7 +162,7 @@ module _ (first second : List ℕ) where
 
   module _ (a : some_malformed first ≡ false) (b : some_malformed second ≡ false) where
     compared :
-        (w v : Result TravelRange Mismatch) →
+        (w v : Result TravelRange (Mismatch Book)) →
         w ≡ with_sender First (walked 0 no_travel (going_from sent_mark first 0) (going_from received_mark second 0)) →
         v ≡ with_sender Second (walked 0 no_travel (going_from sent_mark second 0) (going_from received_mark first 0)) →
         answer_of w v ≡ comparison first second
@@ -171,13 +172,13 @@ module _ (first second : List ℕ) where
         (answer_is (sent first) (received second) (sent second) (received first) (sent_early first a) (sent_early second b) _ _ refl refl)
 
     pub differs_first :
-        (m : Mismatch) →
+        (m : Mismatch Book) →
         Err m ≡ with_sender First (walked 0 no_travel (going_from sent_mark first 0) (going_from received_mark second 0)) →
         Err m ≡ comparison first second
     differs_first m e = compared (Err m) _ e refl
 
     pub differs_second :
-        (one : TravelRange) (m : Mismatch) →
+        (one : TravelRange) (m : Mismatch Book) →
         Ok one ≡ with_sender First (walked 0 no_travel (going_from sent_mark first 0) (going_from received_mark second 0)) →
         Err m ≡ with_sender Second (walked 0 no_travel (going_from sent_mark second 0) (going_from received_mark first 0)) →
         Err m ≡ comparison first second

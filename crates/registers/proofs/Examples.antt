@@ -8,14 +8,15 @@ use Rattle.section.specs.Bytes.{within}
 use Rattle.layout.specs.Layout.{le32, le32_at, le32_bytes, step_count}
 use Rattle.text.specs.Text.{ascii, decimal, decimal_digits}
 use Rattle.file_tests.specs.Tests.{leading}
+use Rattle.registers.specs.declared.Book.{Book}
 use Rattle.registers.specs.declared.Book.TheVariants.{First, Second}
 use Rattle.registers.specs.declared.Mismatch.{Mismatch}
 use Rattle.registers.specs.declared.Mismatch.TheVariants.{Differs, Malformed}
 use Rattle.registers.specs.Books.{entry_at, entry_well_formed, earlier_at, well_at, first_malformed, some_malformed, entries_from, going, entries}
 use Rattle.registers.specs.Books.{sent, received, same_message, same_list, first_difference, first_clock, second_clock, arrives, all_arrive, fits}
 use Rattle.registers.specs.Books.{smallest_offset, offset_answer, match_answer, comparison}
-use Rattle.registers.specs.Answers.{refusal_number}
-use Rattle.registers.specs.Words.{line, offset_line, difference_line, malformed_line, answer_line}
+use Rattle.registers.specs.Answers.{refusal_number, which_by}
+use Rattle.registers.specs.Words.{line, offset_line, difference_line, malformed_line, answer_line_by, answer_line}
 use Rattle.registers.specs.Promises.{EmptyBooks}
 use Rattle.registers.specs.Examples.{record_of, sends, receives, announcing, acknowledging, two, gets}
 
@@ -32,7 +33,7 @@ unfoldable written : ℕ → ℕ → ℕ → List ℕ
 unfolding le32_bytes record_of sends receives announcing acknowledging two gets
 written announcement track second = sends announcement track second
 
-unfoldable computed : List ℕ → List ℕ → Result (Option ℕ) Mismatch
+unfoldable computed : List ℕ → List ℕ → Result (Option ℕ) (Mismatch Book)
 unfolding written tested listed comparison match_answer offset_answer smallest_offset fits all_arrive arrives first_clock second_clock
 computed first second = comparison first second
 
@@ -166,11 +167,23 @@ number_24 : refusal_number (Err (Malformed Second 2)) ≡ 24
 unfolding refusal_number
 number_24 = refl
 
+-- a number that is no book's is told as it is
+number_7 : (which_by (λ number. number) (Err (Differs 7 31)) ≡ 7) × (which_by (λ number. number) (Err (Malformed 7 2)) ≡ 7)
+unfolding which_by
+number_7 = (refl, refl)
+
 in_words :
     (answer_line (Ok (Some 90)) ≡ ascii "the books match, offset -30\n")
     × ((answer_line (Ok (Some 120)) ≡ ascii "the books match, offset 0\n")
     × ((answer_line (Ok None) ≡ ascii "the books match, no offset\n")
     × ((answer_line (Err (Differs Second 31)) ≡ ascii "the lists differ, sent by the second book, index 31\n")
     × (answer_line (Err (Malformed First 65535)) ≡ ascii "refused 24, first book, index 65535\n"))))
-unfolding answer_line offset_line difference_line malformed_line line decimal decimal_digits
+unfolding answer_line_by offset_line difference_line malformed_line line decimal decimal_digits
 in_words = (refl, (refl, (refl, (refl, refl))))
+
+-- in words it stands for the second book
+seven_in_words :
+    (answer_line_by (λ number. number) (Err (Differs 7 31)) ≡ ascii "the lists differ, sent by the second book, index 31\n")
+    × (answer_line_by (λ number. number) (Err (Malformed 7 2)) ≡ ascii "refused 24, second book, index 2\n")
+unfolding answer_line_by difference_line malformed_line line decimal decimal_digits
+seven_in_words = (refl, refl)

@@ -16,27 +16,30 @@ book_number First = the_first
 book_number Second = the_second
 
 -- the refusal, 0 for none
-unfoldable pub refusal_number : Result (Option ℕ) Mismatch → ℕ
+unfoldable pub refusal_number : {B : Type 0} → Result (Option ℕ) (Mismatch B) → ℕ
 refusal_number (Ok offset) = 0
 refusal_number (Err (Differs pair index)) = 0
 refusal_number (Err (Malformed book index)) = malformed_record
 
 -- what is found where nothing is refused: 0 an offset, 1 no offset, 2 a difference
-unfoldable pub finding : Result (Option ℕ) Mismatch → ℕ
+unfoldable pub finding : {B : Type 0} → Result (Option ℕ) (Mismatch B) → ℕ
 finding (Ok (Some k)) = 0
 finding (Ok None) = 1
 finding (Err (Differs pair index)) = 2
 finding (Err (Malformed book index)) = 0
 
 -- the offset, with 120 added; "which pair"; "book"
-unfoldable pub which : Result (Option ℕ) Mismatch → ℕ
-which (Ok (Some k)) = k
-which (Ok None) = 0
-which (Err (Differs pair index)) = book_number pair
-which (Err (Malformed book index)) = book_number book
+unfoldable pub which_by : {B : Type 0} → (B → ℕ) → Result (Option ℕ) (Mismatch B) → ℕ
+which_by number (Ok (Some k)) = k
+which_by number (Ok None) = 0
+which_by number (Err (Differs pair index)) = number pair
+which_by number (Err (Malformed book index)) = number book
+
+abbrev pub which : Result (Option ℕ) (Mismatch Book) → ℕ
+which answer = which_by book_number answer
 
 -- "and the index"
-unfoldable pub place : Result (Option ℕ) Mismatch → ℕ
+unfoldable pub place : {B : Type 0} → Result (Option ℕ) (Mismatch B) → ℕ
 place (Ok offset) = 0
 place (Err (Differs pair index)) = index
 place (Err (Malformed book index)) = index

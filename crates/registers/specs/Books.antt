@@ -6,6 +6,7 @@ use Rattle.section.specs.Bytes.{byte, within}
 use Rattle.layout.specs.Layout.{le32_at, step_count}
 use Rattle.file_tests.specs.Tests.{leading}
 use Rattle.registers.specs.declared.Entry.{Entry}
+use Rattle.registers.specs.declared.Book.{Book}
 use Rattle.registers.specs.declared.Book.TheVariants.{First, Second}
 use Rattle.registers.specs.declared.Mismatch.{Mismatch}
 use Rattle.registers.specs.declared.Mismatch.TheVariants.{Differs, Malformed}
@@ -181,14 +182,14 @@ offset_answer first second =
 -- Books that match have an offset or none; those that do not are mismatched by a malformed record or by a difference.
 
 -- of books without a malformed record: the first place where the lists differ, "those sent by the first book examined first"; else the offset
-unfoldable pub match_answer : List ℕ → List ℕ → Result (Option ℕ) Mismatch
+unfoldable pub match_answer : List ℕ → List ℕ → Result (Option ℕ) (Mismatch Book)
 match_answer first second =
     cond (not (same_list (sent first) (received second))) (Err (Differs First (first_difference (sent first) (received second))))
     (cond (not (same_list (sent second) (received first))) (Err (Differs Second (first_difference (sent second) (received first))))
     (Ok (offset_answer first second)))
 
 -- "a malformed record .. with book and index of the first such, first book first"
-unfoldable pub comparison : List ℕ → List ℕ → Result (Option ℕ) Mismatch
+unfoldable pub comparison : List ℕ → List ℕ → Result (Option ℕ) (Mismatch Book)
 comparison first second =
     cond (some_malformed first) (Err (Malformed First (first_malformed first)))
     (cond (some_malformed second) (Err (Malformed Second (first_malformed second))) (match_answer first second))

@@ -36,7 +36,7 @@ walked index t (a ∷ l) [] = Err index
 walked index t (a ∷ l) (b ∷ m) = cond (same_message a b) (walked (suc index) (with_message t (travel a b)) l m) (Err index)
 
 -- what a walk says, a difference with the book that sent
-unfoldable pub with_sender : Book → Result TravelRange ℕ → Result TravelRange Mismatch
+unfoldable pub with_sender : Book → Result TravelRange ℕ → Result TravelRange (Mismatch Book)
 with_sender sender (Ok t) = Ok t
 with_sender sender (Err index) = Err (Differs sender index)
 

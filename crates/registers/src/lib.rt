@@ -5,9 +5,10 @@
 pub mod numbers;
 pub mod words;
 
-ghost use Rattle.std.specs.Prelude.{◌≡◌, true, false, ◌+◌, ◌*◌, ◌/◌, ◌≤◌, ◌<◌, ◌∷◌, [], length, MatchOption};
+ghost use Rattle.std.specs.Prelude.{◌≡◌, ℕ, true, false, ◌+◌, ◌*◌, ◌/◌, ◌≤◌, ◌<◌, ◌∷◌, [], length, MatchOption};
 ghost use Rattle.registers.specs.Books.{record_length, sent_mark, received_mark, entry_at, entry_well_formed, well_at};
 ghost use Rattle.registers.specs.Books.{first_malformed, some_malformed, same_message, comparison};
+ghost use Rattle.registers.specs.Answers.{book_number};
 ghost use Rattle.registers.specs.Walk.{travel, no_travel, with_message, going_from, walked, with_sender, lower_end, offset_within};
 
 pub const RECORD_LENGTH: usize = 8;
@@ -28,6 +29,30 @@ pub enum Book {
     Second,
 }
 
+// What an answer tells a book by: its name, or a number alone, of which any is taken. The first book's is 0 and the second's 1.
+pub trait HasNumber: Copy {
+    ghost number: { Self → ℕ };
+
+    fn number(self) -> u8
+        ensures { result ≡ number self };
+}
+
+impl HasNumber for Book {
+    ghost number = { book_number };
+
+    fn number(self) -> u8 {
+        self as u8
+    }
+}
+
+impl HasNumber for u8 {
+    ghost number = { λ number. number };
+
+    fn number(self) -> u8 {
+        self // whatever it is
+    }
+}
+
 // What a record says of its message, as the byte holds it.
 #[derive(Clone, Copy, Debug, PartialEq, Eq)]
 pub enum Direction {
@@ -35,15 +60,15 @@ pub enum Direction {
     Received = 1,
 }
 
-// Why two books do not match: where their lists differ, or the first malformed record.
+// Why two books do not match: where their lists differ, or the first malformed record. A book goes by its name, or by a number.
 #[derive(Clone, Copy, Debug, PartialEq, Eq)]
-pub enum Mismatch {
-    Differs { sent_by: Book, index: usize },
-    Malformed { book: Book, index: usize },
+pub enum Mismatch<B> {
+    Differs { sent_by: B, index: usize },
+    Malformed { book: B, index: usize },
 }
 
 // What two books say. Those that match have a clock offset, given with 120 added, from 0 to 240, or none.
-pub type Comparison = Result<Option<u8>, Mismatch>;
+pub type Comparison = Result<Option<u8>, Mismatch<Book>>;
 
 // A record's bytes as they are read, before they are tested: a field can hold what no well-formed record has.
 #[derive(Clone, Copy)]
@@ -165,7 +190,7 @@ fn travel_of(a: Entry, b: Entry) -> u64
 
 // What one book sent beside what the other received: the travel of the messages, or where the lists differ.
 #[tactic(auto, using(crate::proofs::Lists::going_other, crate::proofs::Walks::both_end, crate::proofs::Walks::sender_ends, crate::proofs::Walks::receiver_ends, crate::proofs::Walks::unlike, crate::proofs::Walks::alike))]
-fn walk(sent_by: Book, sender: &[u8], receiver: &[u8]) -> Result<TravelRange, Mismatch>
+fn walk(sent_by: Book, sender: &[u8], receiver: &[u8]) -> Result<TravelRange, Mismatch<Book>>
     ensures { result ≡ with_sender sent_by (walked 0 no_travel (going_from sent_mark sender.now 0) (going_from received_mark receiver.now 0)) }
 {
     let mut travel = TravelRange::new();

@@ -1,8 +1,8 @@
 // The paper's number and the values of an answer, as they are told over C.
 ghost use Rattle.std.specs.Prelude.{◌≡◌};
-ghost use Rattle.registers.specs.Answers.{refusal_number, finding, which, place};
+ghost use Rattle.registers.specs.Answers.{refusal_number, finding, which_by, place};
 
-use crate::{Comparison, Mismatch};
+use crate::{HasNumber, Mismatch};
 
 pub const MALFORMED_RECORD: u8 = 24;
 
@@ -16,11 +16,12 @@ pub struct Numbers {
     pub place: usize,
 }
 
-impl From<Comparison> for Numbers {
-    ghost from_gives = { λ answer n. (n.refusal ≡ refusal_number answer) × (n.finding ≡ finding answer) × (n.which ≡ which answer) × (n.place ≡ place answer) };
+impl<B: HasNumber> From<Result<Option<u8>, Mismatch<B>>> for Numbers {
+    ghost from_gives = { λ answer n. (n.refusal ≡ refusal_number answer) × (n.finding ≡ finding answer) × (n.which ≡ which_by B.number answer)
+        × (n.place ≡ place answer) };
 
-    #[tactic(auto, unfolding(crate::specs::Answers::refusal_number, crate::specs::Answers::finding, crate::specs::Answers::which, crate::specs::Answers::place))]
-    fn from(answer: Comparison) -> Numbers {
+    #[tactic(auto, unfolding(crate::specs::Answers::refusal_number, crate::specs::Answers::finding, crate::specs::Answers::which_by, crate::specs::Answers::place))]
+    fn from(answer: Result<Option<u8>, Mismatch<B>>) -> Numbers {
         match answer {
             Ok(Some(offset)) => Numbers {
                 refusal: 0,
@@ -37,13 +38,13 @@ impl From<Comparison> for Numbers {
             Err(Mismatch::Differs { sent_by, index }) => Numbers {
                 refusal: 0,
                 finding: 2,
-                which: sent_by as u8,
+                which: sent_by.number(),
                 place: index,
             },
             Err(Mismatch::Malformed { book, index }) => Numbers {
                 refusal: MALFORMED_RECORD,
                 finding: 0,
-                which: book as u8,
+                which: book.number(),
                 place: index,
             },
         }

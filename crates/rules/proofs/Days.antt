@@ -26,7 +26,7 @@ use Rattle.section.specs.Settings.{is_signalled, none_from, settings_in_range}
 use Rattle.section.specs.Step.{fault_well_formed, number_well_formed, track_well_formed, place_well_formed, fields_well_formed, well_formed, fault_of, step_of}
 use Rattle.section.specs.Step.{step_said, decoded, kind_of, post_of, fault_number, number_of, bytes_of, encoded}
 use Rattle.section.specs.Store.{track_of, with_track, post_on, with_post}
-use Rattle.section.specs.Refusal.{figure}
+use Rattle.section.specs.Refusal.{figure, refusal_by}
 use Rattle.section.specs.Words.{refusal_of}
 use Rattle.rules.specs.Line.{is_materialised, is_open}
 use Rattle.rules.specs.Site.{reach, first_from, any_of, open_at, next_post, stretch_ends, lies_ahead, crossing_ahead, zones_lack_ahead, part_ends, commands}
@@ -136,7 +136,7 @@ offered_as steps = map encoded steps
 
 -- the answers to a day, 0 or the refusal; unfolded, judging computes
 unfoldable pub refusals : Section → List (List ℕ) → List ℕ
-unfolding judge judge_in_range judge_decoded judge_step section_after track_after_on verdict_on answer_of verdict_of refusal_of figure
+unfolding judge judge_in_range judge_decoded judge_step section_after track_after_on verdict_on answer_of verdict_of refusal_by figure
     checks effect cells_after track_after reach first_from any_of is_open open_at next_post stretch_ends lies_ahead crossing_ahead zones_lack_ahead
     part_ends commands watched_occupied train_before last_entered occupancy_at
     in_range track_in_range walk_in_range act_in_range numbers_in_range posts_in_range post_in_range settings_in_range crossings_in_range none_from is_signalled

@@ -17,7 +17,7 @@ use Rattle.section.specs.declared.Step.{Step}
 use Rattle.section.specs.declared.Step.TheVariants.{Order, Set, Announce, Acknowledge, Start, Pass, Leave, MeasuresOn, MeasuresOff, FaultOn}
 use Rattle.section.specs.declared.Step.TheVariants.{FaultOff, Release, Key, Caution}
 use Rattle.section.specs.declared.TrackStep.{TrackStep}
-use Rattle.section.specs.Refusal.{Verdict, figure}
+use Rattle.section.specs.Refusal.{Verdict, figure, refusal_by}
 use Rattle.section.specs.Range.{in_range}
 use Rattle.section.specs.Step.{decoded}
 use Rattle.section.specs.Words.{refusal_of}
@@ -101,7 +101,7 @@ numbered_6 AlreadySo e = absurd (omega arith)
 numbered_6 CautionFormNeeded e = absurd (omega arith)
 
 is_refused : (v : Verdict) → refusal_of v ≡ 6 → v ≡ Err OutOfRange
-unfolding refusal_of
+unfolding refusal_by
 is_refused (Ok said) e = absurd (omega arith)
 is_refused (Err r) e = ap Err (numbered_6 r e)
 
@@ -124,5 +124,5 @@ only_out_of_range s bytes e = go (in_range s) refl
 
 -- and to every such section
 pub out_of_range_gives_6 : (s : Section) (bytes : List ℕ) → in_range s ≡ false → refusal_of (judge s bytes).verdict ≡ 6
-unfolding judge refusal_of figure
+unfolding judge refusal_by figure
 out_of_range_gives_6 s bytes h = rw h refl

@@ -13,7 +13,7 @@ use Rattle.section.specs.declared.Step.TheVariants.{Order}
 use Rattle.section.specs.declared.TrackStep.{TrackStep}
 use Rattle.section.specs.declared.Said.{Said}
 use Rattle.section.specs.declared.Said.TheVariants.{Nothing}
-use Rattle.section.specs.Refusal.{figure}
+use Rattle.section.specs.Refusal.{figure, refusal_by}
 use Rattle.section.specs.Words.{refusal_of, said_by}
 use Rattle.section.specs.Step.{encoded}
 use Rattle.rules.specs.Line.{line_in}
@@ -49,7 +49,7 @@ failing_of [] = []
 failing_of (k ∷ ks) = cond k.holds (failing_of ks) (figure k.refusal ∷ failing_of ks)
 
 unfoldable pub judged_step : TrackStep → Section → Decided
-unfolding refusals offered_as failing_of refusal_of said_by
+unfolding refusals offered_as failing_of refusal_by said_by
 judged_step x s = record {
   refusal = refusal_of (judge s (encoded x)).verdict;
   said = said_by (judge s (encoded x)).verdict;

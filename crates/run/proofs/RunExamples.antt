@@ -12,16 +12,16 @@ use Rattle.rules.proofs.Rows.{◌gives◌, Holds}
 use Rattle.layout.specs.Layout.{step_at, step_count}
 use Rattle.file_tests.specs.Tests.{well_at, leading, first_malformed, some_malformed}
 use Rattle.text.specs.Text.{written, first_texts}
-use Rattle.notes.specs.Note.{answer_bytes}
+use Rattle.notes.specs.Note.{answer_by}
 use Rattle.judging_in_place.specs.Offered.{section_before, answer_to}
 use Rattle.judging_in_place.specs.Entries.{entry_of, entry_on, entries_of}
-use Rattle.section.specs.Refusal.{call_figure, index_of}
+use Rattle.section.specs.Refusal.{call_figure, index_of, refusal_by}
 use Rattle.run.specs.Run.{too_much, outcome_of, answers_after}
 
 -- the refusal of the call, its index, and the buffer afterwards, every byte of which was 255
 unfoldable pub ran : Section → List ℕ → ℕ → List ℕ
-unfolding refusals too_much outcome_of refusal_number call_figure refusal_index index_of if_done answers_after section_before answer_to entry_of
-    entry_on entries_of answer_bytes
+unfolding refusals too_much outcome_of refusal_by call_figure refusal_index index_of if_done answers_after section_before answer_to entry_of
+    entry_on entries_of answer_by
     said_by said_number track_letter letter step_at step_count well_at leading first_malformed some_malformed written first_texts
 ran s steps room =
     refusal_number (outcome_of s steps room) ∷ (refusal_index (outcome_of s steps room) ∷ answers_after s steps (replicate room 255))

@@ -8,6 +8,7 @@ use Rattle.std.specs.Prelude.{Ok, Err, Some, Option}
 use Rattle.section.specs.declared.Refusal.TheVariants.{CautionFormNeeded, Malformed}
 use Rattle.section.specs.declared.Act.TheVariants as act
 use Rattle.section.specs.declared.Fault.TheVariants.{One, Two, Three, Four}
+use Rattle.section.specs.declared.Said.{Said}
 use Rattle.section.specs.declared.Said.TheVariants.{Nothing, Cvt, Cvtz, Vns, Vnsz}
 use Rattle.section.specs.declared.Step.{Step}
 use Rattle.section.specs.declared.Step.TheVariants.{Order, Set, Announce, Acknowledge, Start, Pass, Leave}
@@ -18,7 +19,8 @@ use Rattle.section.specs.Bytes.{le16, within}
 use Rattle.section.specs.Crossings.{no_crossings, is_used, crossing_block, lacks_zones, lies_in, has_crossings}
 use Rattle.section.specs.Step.{fault_well_formed, number_well_formed, track_well_formed, place_well_formed, fields_well_formed, well_formed}
 use Rattle.section.specs.Step.{fault_of, step_of, step_said, decoded, fault_number, bytes_of, encoded, is_train_kind}
-use Rattle.section.specs.Refusal.{figure}
+use Rattle.section.specs.declared.Refusal.{Refusal}
+use Rattle.section.specs.Refusal.{figure, refusal_by}
 use Rattle.section.specs.Words.{refusal_of, said_by, said_number, said_numbered, letter}
 use Rattle.section.proofs.Rows.{◌gives◌, Holds}
 
@@ -203,12 +205,13 @@ pub answers :
     ∷ (refusal_of (Ok Vnsz) gives 0)
     ∷ (refusal_of (Err Malformed) gives 4)
     ∷ (refusal_of (Err CautionFormNeeded) gives 22)
-    ∷ (said_number (said_by (Ok Nothing)) gives 0)
-    ∷ (said_number (said_by (Ok Cvt)) gives 1)
-    ∷ (said_number (said_by (Ok Vnsz)) gives 4)
+    ∷ (refusal_by {A = Said} (λ number. number) (Err 99) gives 99)
+    ∷ (said_number (said_by {R = Refusal} (Ok Nothing)) gives 0)
+    ∷ (said_number (said_by {R = Refusal} (Ok Cvt)) gives 1)
+    ∷ (said_number (said_by {R = Refusal} (Ok Vnsz)) gives 4)
     ∷ (said_number (said_by (Err CautionFormNeeded)) gives 0)
     ∷ [])
-unfolding refusal_of said_by said_number figure
+unfolding refusal_by said_by said_number figure
 answers = refl
 
 -- "V or C settled; c or v, reversing to CVT or VNS": the codes of V, C, c, v

@@ -6,7 +6,7 @@ use native.Mathlib.Omega.{arith}
 use Rattle.std.specs.Prelude.{Result, Ok, Err}
 use Rattle.section.specs.declared.CallRefusal.{CallRefusal}
 use Rattle.section.specs.declared.CallRefusal.TheVariants.{WrongLength, WrongTrailer, WrongSettings, MalformedStep, NoRoom, StateOutOfRange}
-use Rattle.section.specs.Refusal.{call_figure, index_of}
+use Rattle.section.specs.Refusal.{call_figure, index_of, refusal_by}
 use Rattle.section.specs.Outcome.{refusal_number, refusal_index, IndexOnlyForFour}
 
 no_other_index : (refusal : CallRefusal) → (call_figure refusal ≡ 4 → ⊥) → index_of refusal ≡ 0
@@ -18,9 +18,9 @@ no_other_index (MalformedStep index) e = absurd (e refl)
 no_other_index NoRoom e = refl
 no_other_index StateOutOfRange e = refl
 
-pub index_only_for_four : IndexOnlyForFour
-unfolding refusal_number refusal_index
-index_only_for_four (Ok figure) e = refl
+pub index_only_for_four : {A : Type 0} → IndexOnlyForFour A
+unfolding refusal_by refusal_index
+index_only_for_four (Ok done) e = refl
 index_only_for_four (Err refusal) e = no_other_index refusal e
 
 -- ## 4 comes with its index, along an order of tests
@@ -32,7 +32,7 @@ module _ {A : Type 0} (index : ℕ) where
   -- a test that refuses by another number
   pub other_refusal :
       (b : Bool) (refusal : CallRefusal) (rest : Result A CallRefusal) → (call_figure refusal ≡ 4 → ⊥) → FourHasIt rest → FourHasIt (cond b (Err refusal) rest)
-  unfolding refusal_number
+  unfolding refusal_by
   other_refusal true refusal rest other later e = absurd (other e)
   other_refusal false refusal rest other later e = later e
 
@@ -43,7 +43,7 @@ module _ {A : Type 0} (index : ℕ) where
   step_refusal false rest later e = later e
 
   pub no_refusal : (done : A) → FourHasIt (Ok done)
-  unfolding refusal_number
+  unfolding refusal_by
   no_refusal done e = absurd (omega arith)
 
 -- ## A call that is done, with whatever value, has passed its tests

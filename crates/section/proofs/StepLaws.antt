@@ -21,7 +21,7 @@ use Rattle.section.specs.Step.{Fields, fields, fields_in, fault_well_formed, num
 use Rattle.section.specs.Step.{fault_of, step_of, step_said, decoded, fault_number, fields_of}
 use Rattle.section.proofs.Laws.{and_left, and_right}
 
--- ## Some-formed bytes
+-- ## Well-formed bytes
 
 pub malformed : (n : ℕ) (s : List ℕ) → well_formed n s ≡ false → decoded n s ≡ None
 unfolding decoded
@@ -162,7 +162,7 @@ pub truth_same : (b : Bool) → eqb (truth_number b) 1 ≡ b
 truth_same true = refl
 truth_same false = refl
 
--- ## Some-formed fields are small
+-- ## Well-formed fields are small
 
 -- a well-formed number is none or a train's
 pub number_small : (kind number : ℕ) → number_well_formed kind number ≡ true → number ≤ largest_train

@@ -1,5 +1,5 @@
 -- The refusals by name, and their figures (document 01, "Refusals from the input", "Refusals from the state"; document 02, request 3).
-use Rattle.std.specs.Prelude.{ℕ, Result}
+use Rattle.std.specs.Prelude.{ℕ, Result, Ok, Err}
 use Rattle.section.specs.declared.Said.{Said}
 use Rattle.section.specs.declared.Refusal.{Refusal}
 use Rattle.section.specs.declared.Refusal.TheVariants.{Malformed, OutOfRange, ReversalUnderWay, NoSuchPart, Occupied, OtherNotOnVns, NotItsTurn}
@@ -42,6 +42,11 @@ figure SealsUsedUp = 20
 figure AlreadySo = 21
 -- "needs an E.S. 379 form for that train"
 figure CautionFormNeeded = 22
+
+-- 0, or the refusal: the figure of its name, or the figure that stands for it
+unfoldable pub refusal_by : {A R : Type 0} → (R → ℕ) → Result A R → ℕ
+refusal_by figure_of (Ok done) = 0
+refusal_by figure_of (Err refusal) = figure_of refusal
 
 -- how much is done, or why the call is refused; every call that reads, writes, copies or runs is answered so
 abbrev pub Outcome : Type 0

@@ -1,20 +1,19 @@
 -- A number for each case of an answer: the paper's refusal, and for what is said the number that notes and C functions give. A letter for
 -- what a track does.
-use Rattle.std.specs.Prelude.{ℕ, Bool, cond, eqb, Ok, Err}
+use Rattle.std.specs.Prelude.{ℕ, Bool, cond, eqb, Result, Ok, Err}
 use Prim.Native.Char.{code}
 use Rattle.section.specs.declared.Said.{Said}
 use Rattle.section.specs.declared.Said.TheVariants.{Nothing, Cvt, Cvtz, Vns, Vnsz}
 use Rattle.section.specs.declared.Track.{Track}
 use Rattle.section.specs.declared.Walk.{Walk}
 use Rattle.section.specs.declared.Walk.TheVariants.{Settled, Turn}
-use Rattle.section.specs.Refusal.{Verdict, figure}
+use Rattle.section.specs.Refusal.{Verdict, figure, refusal_by}
 
 -- 0, or the refusal
-unfoldable pub refusal_of : Verdict → ℕ
-refusal_of (Ok w) = 0
-refusal_of (Err refusal) = figure refusal
+abbrev pub refusal_of : Verdict → ℕ
+refusal_of verdict = refusal_by figure verdict
 
-unfoldable pub said_by : Verdict → Said
+unfoldable pub said_by : {R : Type 0} → Result Said R → Said
 said_by (Ok w) = w
 said_by (Err refusal) = Nothing
 

@@ -13,7 +13,7 @@ pub mod words;
 pub use fresh_section::fresh;
 pub use little_endian::{le16_of, truth_number};
 pub use post_record::blank;
-pub use refusals::check;
+pub use refusals::{HasFigure, check};
 
 pub const LEAST_POSTS: u8 = 2;
 

@@ -1,5 +1,5 @@
 // A check with its refusal, and the paper's figures of refusals.
-ghost use Rattle.std.specs.Prelude.{true, false, ◌≡◌, MatchResult};
+ghost use Rattle.std.specs.Prelude.{true, false, ◌≡◌, ℕ, MatchResult};
 ghost use Rattle.section.specs.Refusal.{figure, call_figure, index_of};
 
 use crate::{CallRefusal, Refusal};
@@ -9,6 +9,19 @@ pub fn check<E: Drop>(holds: bool, refusal: E) -> Result<(), E>
     ensures { MatchResult result (λ _. holds ≡ true) (λ e. (e ≡ refusal) × (holds ≡ false)) }
 {
     if holds { Ok(()) } else { Err(refusal) }
+}
+
+// What tells a refusal: its name, or its figure alone, of which any number is taken. The index is the one beside the figure, 0 where it has none.
+pub trait HasFigure: Copy {
+    ghost figure: { Self → ℕ };
+
+    ghost index: { Self → ℕ };
+
+    fn figure(self) -> u8
+        ensures { result ≡ figure self };
+
+    fn index(self) -> usize
+        ensures { result ≡ index self };
 }
 
 impl From<Refusal> for u8 {
@@ -61,5 +74,47 @@ impl CallRefusal {
             CallRefusal::MalformedStep(index) => index,
             _ => 0,
         }
+    }
+}
+
+impl HasFigure for Refusal {
+    ghost figure = { figure };
+
+    ghost index = { λ _. 0 };
+
+    fn figure(self) -> u8 {
+        u8::from(self)
+    }
+
+    fn index(self) -> usize {
+        0
+    }
+}
+
+impl HasFigure for CallRefusal {
+    ghost figure = { call_figure };
+
+    ghost index = { index_of };
+
+    fn figure(self) -> u8 {
+        u8::from(self)
+    }
+
+    fn index(self) -> usize {
+        CallRefusal::index(self)
+    }
+}
+
+impl HasFigure for u8 {
+    ghost figure = { λ figure. figure };
+
+    ghost index = { λ _. 0 };
+
+    fn figure(self) -> u8 {
+        self
+    }
+
+    fn index(self) -> usize {
+        0
     }
 }

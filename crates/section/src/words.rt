@@ -1,9 +1,10 @@
 // The numbers and letters of an answer, as notes, lines and C functions give them, and the fault of a step's byte.
 ghost use Rattle.std.specs.Prelude.{◌≡◌};
 ghost use Rattle.section.specs.Step.{fault_of};
-ghost use Rattle.section.specs.Words.{refusal_of, said_by, said_number, said_numbered, letter};
+ghost use Rattle.section.specs.Refusal.{refusal_by};
+ghost use Rattle.section.specs.Words.{said_by, said_number, said_numbered, letter};
 
-use crate::{Fault, Said, Verdict, Walk};
+use crate::{Fault, HasFigure, Said, Walk};
 
 // The fault that a step's byte names: 1 to 4.
 impl From<u8> for Fault {
@@ -21,18 +22,18 @@ impl From<u8> for Fault {
 }
 
 // 0, or the refusal.
-#[tactic(auto, unfolding(crate::specs::Words::refusal_of))]
-pub fn refusal_of(verdict: Verdict) -> u8
-    ensures { result ≡ refusal_of verdict }
+#[tactic(auto, unfolding(crate::specs::Refusal::refusal_by))]
+pub fn refusal_of<R: HasFigure>(verdict: Result<Said, R>) -> u8
+    ensures { result ≡ refusal_by R.figure verdict }
 {
     match verdict {
         Ok(_) => 0,
-        Err(refusal) => u8::from(refusal),
+        Err(refusal) => refusal.figure(),
     }
 }
 
 #[tactic(auto, unfolding(crate::specs::Words::said_by))]
-pub fn said_by(verdict: Verdict) -> Said
+pub fn said_by<R: HasFigure>(verdict: Result<Said, R>) -> Said
     ensures { result ≡ said_by verdict }
 {
     match verdict {

@@ -1,69 +1,14 @@
--- Parts of an image put one after another are the image: each call begins where the one before it ended, and the lengths of the parts are known.
-use Prim.Native.Nat.{ℕ, ◌+◌, ◌≤◌}
-use mathlib.Core.List.{List, [], ◌∷◌, ◌++◌, append_assoc}
-use mathlib.Core.Path.{◌≡◌, refl, sym, ap, ◌∙◌}
-use native.Mathlib.Omega.{arith}
-use lib.ListN.{length, get_or, length-append}
-use Rattle.std.specs.List.{flat_map}
-use Rattle.section.specs.declared.Post.{Post}
-use Rattle.section.specs.declared.Track.{Track}
+-- The two bytes of a walk in a track's head.
+use Prim.Native.Nat.{ℕ}
+use mathlib.Core.List.{[], ◌∷◌, ◌++◌}
+use mathlib.Core.Path.{◌≡◌, refl}
 use Rattle.section.specs.declared.Walk.{Walk}
 use Rattle.section.specs.declared.Walk.TheVariants.{Settled, Turn}
 use Rattle.section.specs.Bytes.{byte}
-use Rattle.section.specs.Items.{items}
-use Rattle.section.specs.Post.{blank}
-use Rattle.section.specs.Numbers.{most_posts, most_blocks}
-use Rattle.layout.specs.Layout.{le16_bytes}
-use Rattle.text.specs.declared.Text.{Text}
-use Rattle.text.specs.Put.{HasRoom, put}
-use Rattle.text.proofs.Put.{put_twice}
-use Rattle.image.specs.Image.{track_length, post_image, posts_image, numbers_image, walk_image, track_head, track_image}
-use Rattle.image.proofs.Made.{joined}
-use Rattle.image.proofs.Laws.{posts_length_lem, numbers_length_lem, head_length_lem}
-
--- ## Parts of what is written
+use Rattle.image.specs.Image.{walk_image}
 
 -- the two bytes of a walk, and a zero
 pub two_and_zero : (w : Walk) (d : ℕ) → d ∷ byte (walk_image w) 0 ∷ byte (walk_image w) 1 ∷ 0 ∷ [] ≡ d ∷ (walk_image w ++ (0 ∷ []))
 unfolding walk_image
 two_and_zero Settled d = refl
 two_and_zero (Turn p act) d = refl
-
--- ## Parts put one after another
-
--- arrays of bytes, one for each post or number, are the bytes of all
-pub posts_flat : (l : List Post) {parts : List (List ℕ)} {flat : List ℕ} →
-    parts ≡ items (λ (p : ℕ). post_image (get_or l p blank)) most_posts → flat ≡ flat_map (λ x. x) parts → flat ≡ posts_image most_posts l
-unfolding posts_image
-posts_flat l e f = f ∙ ap (flat_map (λ x. x)) e ∙ joined _ most_posts
-
-pub numbers_flat : (l : List ℕ) {parts : List (List ℕ)} {flat : List ℕ} →
-    parts ≡ items (λ (i : ℕ). le16_bytes (get_or l i 0)) most_blocks → flat ≡ flat_map (λ x. x) parts → flat ≡ numbers_image most_blocks l
-unfolding numbers_image
-numbers_flat l e f = f ∙ ap (flat_map (λ x. x)) e ∙ joined _ most_blocks
-
-module _ (u : Text) (t : Track) (room : HasRoom u track_length) where
-  abbrev posts_of : List ℕ
-  posts_of = posts_image most_posts t.posts
-
-  abbrev trains_of : List ℕ
-  trains_of = numbers_image most_blocks t.trains
-
-  track_parts : put (put (put (put u (track_head t)) posts_of) trains_of) (numbers_image most_blocks t.last) ≡ put u (track_image t)
-  unfolding track_image
-  track_parts =
-      let n = head_length_lem t in
-      let m = posts_length_lem most_posts t.posts in
-      let k = numbers_length_lem most_blocks t.trains in
-      rw (
-        put_twice u (track_head t) posts_of (omega arith),
-        put_twice u (track_head t ++ posts_of) trains_of (simp length-append (omega arith)),
-        put_twice u ((track_head t ++ posts_of) ++ trains_of) (numbers_image most_blocks t.last) (simp length-append (omega arith)),
-      )
-      (simp append_assoc)
-
-  pub track_put :
-      {head posts trains last : List ℕ} {u₁ u₂ u₃ u₄ : Text} → head ≡ track_head t → posts ≡ posts_of → trains ≡ trains_of →
-      last ≡ numbers_image most_blocks t.last → u₁ ≡ put u head → u₂ ≡ put u₁ posts → u₃ ≡ put u₂ trains → u₄ ≡ put u₃ last →
-      u₄ ≡ put u (track_image t)
-  track_put eh ep et el h₁ h₂ h₃ h₄ = rw (h₄, h₃, h₂, h₁, eh, ep, et, el) track_parts

@@ -9,7 +9,7 @@ loop-i-init g c =
 
 pub loop-i-preserved : goal.loop-i-preserved
 loop-i-preserved g c =
-    goes_on c.loop-i.invariant g.met.E.Entries.as_long c.loop-i-test.true c.step_at.ensures c.judge_in_place-verdict.ensures c.put.ensures c.put.auto.buffer
+    goes_on c.loop-i.invariant g.met.E.Entries.as_long c.loop-i-test.true c.step_at.ensures c.judge_on_line-verdict.ensures c.put.ensures c.put.auto.buffer
 
 pub returns-clause-buffer_after : goal.returns-clause-buffer_after
 returns-clause-buffer_after g c = (ends c.loop-i.invariant c.loop-i-test.false refl).1

@@ -11,7 +11,7 @@ use Rattle.section.specs.Words.{said_by}
 use Rattle.section.proofs.words.Laws.{said_back}
 use Rattle.lines.specs.Lines.{step_line, step_line_room}
 use Rattle.lines.proofs.Puts.{fields_length}
-use Rattle.notes.specs.Note.{answer_bytes, note_length, note_with, note}
+use Rattle.notes.specs.Note.{answer_by, note_length, note_by, note}
 use Rattle.lines.specs.Noted.{noted_line, note_at}
 
 abbrev pub line_of : List ℕ → ℕ → List ℕ
@@ -31,5 +31,5 @@ note_length_lem notes i count h l = length-take-le note_length (drop (i * note_l
 
 -- what is noted of an answer gives its line
 pub line_noted : (index : ℕ) (answer : Answer) → noted_line index (note answer) ≡ step_line index answer
-unfolding noted_line note note_with answer_bytes step_line
+unfolding noted_line note note_by answer_by step_line
 line_noted index answer = rw (said_back (said_by answer.verdict)) refl
