@@ -90,7 +90,7 @@ fn put_numbers(text: &mut Text, numbers: &Trains)
     }
 }
 
-#[tactic(auto, using(text::proofs::Put::texts, crate::proofs::Laws::posts_length_lem, crate::proofs::Laws::numbers_length_lem, crate::proofs::Laws::head_length_lem), unfolding(crate::specs::Image::track_image))]
+#[tactic(auto, using(text::proofs::Put::texts, crate::proofs::Laws::posts_length_lem, crate::proofs::Laws::numbers_length_lem, crate::proofs::Laws::head_length_lem, crate::proofs::writer::Laws::track_put))]
 fn put_track(text: &mut Text, t: &Track)
     requires { HasRoom text.old track_length }
     ensures { text.new ≡ put text.old (track_image t.now) }
